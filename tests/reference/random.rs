@@ -36,10 +36,15 @@ impl Random {
         self.below(times) == 0
     }
 
+    /// One of the given things, of which there is at least one.
+    pub fn one_of<T: Copy>(&mut self, from: &[T]) -> T {
+        from[self.below(from.len())]
+    }
+
     pub fn pick<T: Copy>(&mut self, from: &[T]) -> Option<T> {
         if from.is_empty() {
             return None;
         }
-        Some(from[self.below(from.len())])
+        Some(self.one_of(from))
     }
 }

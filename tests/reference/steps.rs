@@ -24,11 +24,12 @@ type Outcome = (u8, u8, u8);
 
 impl Supervisor {
     /// One step: the answer, with the ended waits in `room`. A refused step changes nothing.
+    /// Compiled `blind` it does not look whether the state is sound, so that a mistake shows in what the steps do.
     pub fn step(&mut self, call: &Call, room: &mut [u8]) -> Answer {
         if room.len() < ROOM {
             return Answer::refused(refusal::SHORT_ROOM, 0);
         }
-        if !self.sound() {
+        if cfg!(not(blind)) && !self.sound() {
             return Answer::refused(refusal::BAD_STATE, 0);
         }
         let running = self.running();
