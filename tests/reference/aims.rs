@@ -111,10 +111,12 @@ fn none(random: &mut Random) -> i32 {
 }
 
 fn long(random: &mut Random) -> i32 {
-    match random.below(4) {
+    match random.below(6) {
         0 => i32::MAX,
         1 => i32::MAX - 1,
         2 => random.between(200, 70_000) as i32,
+        // short if a part of the number is lost
+        3 | 4 => (1 << random.between(8, 30)) + random.between(1, 6) as i32,
         _ => random.between(1, i32::MAX as i64) as i32,
     }
 }
@@ -245,7 +247,8 @@ fn select(aim: Aim, random: &mut Random, state: &Supervisor, running: u8) -> Opt
         Aim::SelectEmpty => 0,
         _ => {
             let others: Vec<u8> = (entries(state, running)..8).collect();
-            1 << random.pick(&others)? | random.byte()
+            let own_ones = if random.once_in(2) { random.byte() & own(state, running) } else { 0 };
+            1 << others.get(random.below(2)).or(others.first())? | own_ones
         }
     };
     let mode = match aim {

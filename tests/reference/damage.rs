@@ -150,8 +150,12 @@ fn another_line(random: &mut Random, bytes: &mut [u8], from: Line) {
 }
 
 /// Damage that leaves every task in one place, but not what tasks ask of each other: a caller's target completes or
-/// waits for the very entry that has the caller, or has the entry no more; or an acceptor's open set is another.
+/// waits for the very entry that has the caller, or has the entry no more; or an acceptor's open set is another; or a
+/// wait's time does not suit its place.
 fn one_relation(random: &mut Random, bytes: &mut [u8]) {
+    if random.once_in(4) {
+        return another_time(random, bytes);
+    }
     let line = random.one_of(&[Line::Callers, Line::Held]);
     let Some(caller) = random.pick(Flat(bytes).members(line)).filter(|&task| task as usize <= TASKS) else {
         return acceptor_field(random, bytes);
@@ -185,4 +189,27 @@ fn acceptor_field(random: &mut Random, bytes: &mut [u8]) {
         let open = &mut bytes[FIRST_TASK + (task as usize - 1) * TASK + 3];
         *open = random.one_of(&[0, *open << 1, *open | 128, *open | 1, *open >> 1]);
     }
+}
+
+/// A wait loses its time, or some task gets one, with the delay queue as it should then be.
+fn another_time(random: &mut Random, bytes: &mut [u8]) {
+    let created = Flat(bytes).created();
+    if created == 0 {
+        return;
+    }
+    let task = 1 + random.below(created as usize) as u8;
+    let mut delays: Vec<u8> = Flat(bytes).members(Line::Delays).iter().copied().filter(|&other| other != task).collect();
+    let due = match Flat(bytes).timed(task) {
+        true => None,
+        false => Some(Flat(bytes).clock().wrapping_add(1 + random.below(5) as u32)),
+    };
+    let at = FIRST_TASK + (task as usize - 1) * TASK;
+    bytes[at + 5] = u8::from(due.is_some());
+    bytes[at + 6..at + TASK].copy_from_slice(&due.unwrap_or(0).to_be_bytes());
+    if due.is_some() {
+        delays.push(task);
+        delays.sort_by_key(|&task| Flat(bytes).left(task));
+    }
+    delays.resize(TASKS, 0);
+    bytes[LINES + 3 * TASKS..].copy_from_slice(&delays);
 }

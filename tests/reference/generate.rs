@@ -17,9 +17,15 @@ struct Theme {
     entries: (i64, i64),
     /// Task 1 has the lowest priority, so that the others can queue on it before it runs.
     low_first: bool,
+    /// A few calls, then a bad record.
+    short: bool,
 }
 
-const THEMES: [Theme; 8] = [MIXED, MEETINGS, NESTED, TIMES, CROWD, ENDINGS, MISTAKES, LEVELS];
+const PLAIN: Theme =
+    Theme { weights: &[], tasks: (3, 10), priorities: (1, 15), entries: (1, 3), low_first: false, short: false };
+
+const THEMES: [Theme; 10] =
+    [MIXED, MEETINGS, SPOILT, NESTED, TIMES, CROWD, SPOILT, ENDINGS, MISTAKES, LEVELS];
 
 const MIXED: Theme = Theme {
     weights: &[
@@ -30,9 +36,8 @@ const MIXED: Theme = Theme {
         (Aim::FinishBad, 1), (Aim::Tick, 12),
     ],
     tasks: (2, 12),
-    priorities: (1, 15),
     entries: (0, 8),
-    low_first: false,
+    ..PLAIN
 };
 
 const MEETINGS: Theme = Theme {
@@ -44,7 +49,7 @@ const MEETINGS: Theme = Theme {
     tasks: (3, 10),
     priorities: (3, 6),
     entries: (1, 3),
-    low_first: false,
+    ..PLAIN
 };
 
 const NESTED: Theme = Theme {
@@ -57,6 +62,7 @@ const NESTED: Theme = Theme {
     priorities: (2, 5),
     entries: (1, 4),
     low_first: true,
+    ..PLAIN
 };
 
 const TIMES: Theme = Theme {
@@ -66,9 +72,8 @@ const TIMES: Theme = Theme {
         (Aim::SelectEmpty, 2), (Aim::SelectCaller, 4), (Aim::End, 6), (Aim::Finish, 1), (Aim::Tick, 26),
     ],
     tasks: (4, 16),
-    priorities: (1, 15),
     entries: (1, 4),
-    low_first: false,
+    ..PLAIN
 };
 
 const CROWD: Theme = Theme {
@@ -80,6 +85,7 @@ const CROWD: Theme = Theme {
     priorities: (8, 12),
     entries: (1, 2),
     low_first: true,
+    ..PLAIN
 };
 
 const ENDINGS: Theme = Theme {
@@ -92,6 +98,7 @@ const ENDINGS: Theme = Theme {
     priorities: (4, 8),
     entries: (1, 8),
     low_first: true,
+    ..PLAIN
 };
 
 const MISTAKES: Theme = Theme {
@@ -102,9 +109,8 @@ const MISTAKES: Theme = Theme {
         (Aim::FinishBad, 5), (Aim::Anything, 6), (Aim::Tick, 6),
     ],
     tasks: (0, 31),
-    priorities: (1, 15),
     entries: (0, 8),
-    low_first: false,
+    ..PLAIN
 };
 
 const LEVELS: Theme = Theme {
@@ -116,7 +122,15 @@ const LEVELS: Theme = Theme {
     tasks: (3, 24),
     priorities: (14, 15),
     entries: (0, 2),
-    low_first: false,
+    ..PLAIN
+};
+
+/// Short logs that end in a bad record.
+const SPOILT: Theme = Theme {
+    weights: &[(Aim::Create, 1), (Aim::Delay, 1), (Aim::Tick, 1)],
+    tasks: (0, 2),
+    short: true,
+    ..PLAIN
 };
 
 /// Where logs start: at 0, close before a wrap, close before the middle of the clock, or anywhere.
@@ -166,7 +180,8 @@ fn idle(state: &Supervisor) -> bool {
     state.running() == 0 && state.delays.first().is_none_or(|timer| state.left(timer.due) > 30)
 }
 
-fn log(random: &mut Random, theme: &Theme, calls: usize) -> Log {
+fn log(random: &mut Random, theme: &Theme, most: usize) -> Log {
+    let calls = if theme.short { most.min(random.below(4)) } else { most };
     let clock = start_clock(random);
     let mut state = Supervisor::empty(clock);
     let mut room = [0; ROOM];
@@ -185,7 +200,7 @@ fn log(random: &mut Random, theme: &Theme, calls: usize) -> Log {
         bytes.extend(calls::record(&call));
         state.step(&call, &mut room);
     }
-    if random.once_in(2) {
+    if theme.short || random.once_in(2) {
         spoil::tail(random, &mut bytes);
     }
     Log { clock, bytes }

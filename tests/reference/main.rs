@@ -33,7 +33,7 @@ const USAGE: &str = "the reference of the supervisor; it reads standard input wh
   edges                      checks the lines that a file of logs in words says are printed
   assemble                   writes a file of logs in words as a sequence of logs
   damage SEED N              writes N states of 439 bytes, sound ones and damaged ones
-  verdicts                   prints for each state whether it is sound, or the rule it breaks
+  verdicts                   prints for each state whether it is sound
   tally-states               prints how many states break each rule; fails if a rule is never broken
 ";
 

@@ -38,21 +38,26 @@ fn with_length(random: &mut Random) -> Vec<u8> {
     record
 }
 
+/// A tag next to the known ones, with the fields of one that is known.
+fn with_tag(random: &mut Random) -> Vec<u8> {
+    let tag = random.one_of(&[0, 0, 8, 8, 255]);
+    let call = random.one_of(&[Call::Create { priority: 5, entries: 2 }, Call::Tick]);
+    [&[tag][..], &calls::record(&call)[1..]].concat()
+}
+
 /// Puts bytes behind a log's records that are a bad record, good records behind it or not.
 pub fn tail(random: &mut Random, bytes: &mut Vec<u8>) {
     let d = 1 << random.below(32);
+    let mode = 3 + random.below(253) as u8;
     let bad = match random.below(8) {
         0 => some_record(random)[..1 + random.below(2)].to_vec(),
-        1 => [&[random.one_of(&[0, 8, 9, 16, 128, 255])][..], &some_record(random)[1..]].concat(),
+        1 => with_tag(random),
         2 => with_length(random),
         3 => {
             let whole = with_mode(random, 1, d);
             whole[..3 + random.below(whole.len() - 3)].to_vec()
         }
-        4 => {
-            let mode = 3 + random.below(253) as u8;
-            with_mode(random, mode, 0)
-        }
+        4 => with_mode(random, mode, 0),
         5 => with_mode(random, 0, d),
         6 => with_mode(random, 2, d),
         _ => {

@@ -17,9 +17,10 @@ fn name(verdict: Option<Rule>) -> String {
     verdict.map_or("sound".to_string(), |rule| format!("breaks {rule:?}"))
 }
 
-/// A line for each state: sound, or the rule it breaks.
+/// A line for each state.
 pub fn verdicts(input: &[u8]) -> String {
-    unpack(input).iter().map(|state| name(flat::broken(Flat(state))) + "\n").collect()
+    let sound = |state: &&[u8]| flat::broken(Flat(state)).is_none();
+    unpack(input).iter().map(|state| if sound(state) { "sound\n" } else { "not sound\n" }).collect()
 }
 
 /// How many states are sound, and how many break each rule first.
