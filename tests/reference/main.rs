@@ -3,6 +3,7 @@
 mod aims;
 mod calls;
 mod damage;
+mod explore;
 mod flat;
 mod forge;
 mod generate;
@@ -36,6 +37,7 @@ const USAGE: &str = "the reference of the supervisor; it reads standard input wh
   damage SEED N              writes N states of 439 bytes, sound ones and damaged ones
   verdicts                   prints for each state whether it is sound
   cases SEED N               writes N cases of a state, a call, a length of room and a question
+  explore N                  writes the cases of the first N states of a small world, each with every call of it
   judge CASES WRITTEN        fails, with the first difference, if the answers in WRITTEN are not the reference's
   tally-states               prints how many states break each rule; fails if a rule is never broken
 ";
@@ -119,6 +121,12 @@ fn tally_states() -> Result<(), String> {
     }
 }
 
+fn explore(states: usize) -> Result<(), String> {
+    let (cases, depth) = explore::cases(states);
+    eprintln!("{states} states; every log of {depth} calls of the small world is among the cases");
+    output(&cases)
+}
+
 /// Holds the answers of a library against the reference's.
 fn judge(cases: &str, written: &str) -> Result<(), String> {
     let read = |file: &str| std::fs::read(file).map_err(|e| format!("{file}: {e}"));
@@ -146,6 +154,7 @@ fn run(words: &[&str]) -> Result<(), String> {
         ["verdicts"] => output(states::verdicts(&input()?).as_bytes()),
         ["tally-states"] => tally_states(),
         ["cases", seed, count] => output(&judge::cases(number(seed)?, number(count)? as usize)),
+        ["explore", states] => explore(number(states)? as usize),
         ["judge", cases, written] => judge(cases, written),
         _ => Err(USAGE.to_string()),
     }
