@@ -1,0 +1,4 @@
+pub mod Tests
+pub mod ListLaws
+pub mod LineLaws
+pub mod Turns

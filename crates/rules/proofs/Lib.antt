@@ -1,0 +1,12 @@
+pub mod Invariant
+pub mod MoveLaws
+pub mod Members
+pub mod StepSound
+pub mod SoundTest
+pub mod Fate
+pub mod OverRuns
+pub mod TimedWait
+pub mod WholeLaws
+pub mod Bounds
+pub mod WholeRuns
+pub mod Unique

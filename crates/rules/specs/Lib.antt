@@ -1,0 +1,7 @@
+-- The supervisor, as document 01 has it. Read in this order.
+pub mod State
+pub mod Sound
+pub mod Step
+pub mod Whole
+pub mod Cases
+pub mod Runs

@@ -1,0 +1,250 @@
+-- The state as the rules speak of it: the created tasks, and four lines of task numbers with no unused places.
+-- Assumes nothing.
+use Prim.Native.Nat.{ℕ, zero, suc, _+_, _-_, _/_, _%_, _^_}
+use mathlib.Core.Bool.{Bool, true, false, not, _&&_}
+use mathlib.Core.List.{List, [], _∷_, _++_}
+use lib.ListN.{length, getD, set}
+use lib.Dec.{eqb, ltb, leb}
+use Rattle.lists.specs.Lists.{if_then_else_, filter, remove, rejoin, insert, first, last}
+use Rattle.rules.specs.declared.Task.{Task}
+use Rattle.rules.specs.declared.Timer.{Timer}
+use Rattle.rules.specs.declared.Timer.the-variants.{Off, Due}
+use Rattle.rules.specs.declared.Waiting.{Waiting}
+use Rattle.rules.specs.declared.Meeting.{Meeting}
+use Rattle.rules.specs.declared.Offer.{Offer}
+use Rattle.rules.specs.declared.Place.{Place}
+use Rattle.rules.specs.declared.Place.the-variants.{Blank, Ready, Delayed, Queued, Held, Accepting, Completed}
+
+pub record State : Type 0 where
+  pub clock : ℕ
+  -- task t is the t-th of them
+  pub tasks : List Task
+  -- the ready tasks, in the order in which they became ready; the callers in entry queues, in the order of their calls;
+  -- the callers in a rendezvous, in the order in which it began; those who wait with a time, in order of ticks left
+  pub ready : List ℕ
+  pub callers : List ℕ
+  pub held : List ℕ
+  pub delays : List ℕ
+
+-- ── a task ──
+
+abbrev pub blank : Task
+blank = record { priority = 0; entries = 0; place = Blank; timer = Off }
+
+-- task t; a blank one for 0 and for a number that was never given
+abbrev pub nth : List Task → ℕ → Task
+nth l zero = blank
+nth l (suc k) = getD l k blank
+
+abbrev pub setNth : List Task → ℕ → Task → List Task
+setNth l zero x = l
+setNth l (suc k) x = set l k x
+
+abbrev pub taskOf : State → ℕ → Task
+taskOf s t = nth (s .tasks) t
+
+abbrev pub placeOf : State → ℕ → Place
+placeOf s t = taskOf s t .place
+
+abbrev pub timerOf : State → ℕ → Timer
+timerOf s t = taskOf s t .timer
+
+abbrev pub priorityOf : State → ℕ → ℕ
+priorityOf s t = taskOf s t .priority
+
+abbrev pub created : State → ℕ
+created s = length (s .tasks)
+
+-- t is the number of a created task
+abbrev pub isTask : State → ℕ → Bool
+isTask s t = ltb 0 t && leb t (created s)
+
+-- ── places ──
+
+abbrev pub isReady : Place → Bool
+isReady Blank = false
+isReady Ready = true
+isReady Delayed = false
+isReady (Queued q) = false
+isReady (Held m) = false
+isReady (Accepting o) = false
+isReady Completed = false
+
+abbrev pub isQueued : Place → Bool
+isQueued Blank = false
+isQueued Ready = false
+isQueued Delayed = false
+isQueued (Queued q) = true
+isQueued (Held m) = false
+isQueued (Accepting o) = false
+isQueued Completed = false
+
+abbrev pub isHeld : Place → Bool
+isHeld Blank = false
+isHeld Ready = false
+isHeld Delayed = false
+isHeld (Queued q) = false
+isHeld (Held m) = true
+isHeld (Accepting o) = false
+isHeld Completed = false
+
+abbrev pub isCompleted : Place → Bool
+isCompleted Blank = false
+isCompleted Ready = false
+isCompleted Delayed = false
+isCompleted (Queued q) = false
+isCompleted (Held m) = false
+isCompleted (Accepting o) = false
+isCompleted Completed = true
+
+-- the task and the entry that a queued or held caller has called; 0 of all others
+abbrev pub partnerOf : Place → ℕ
+partnerOf Blank = 0
+partnerOf Ready = 0
+partnerOf Delayed = 0
+partnerOf (Queued q) = q .target
+partnerOf (Held m) = m .holder
+partnerOf (Accepting o) = 0
+partnerOf Completed = 0
+
+abbrev pub entryOf : Place → ℕ
+entryOf Blank = 0
+entryOf Ready = 0
+entryOf Delayed = 0
+entryOf (Queued q) = q .entry
+entryOf (Held m) = m .entry
+entryOf (Accepting o) = 0
+entryOf Completed = 0
+
+-- bit e - 1 of the open set
+abbrev pub opens : ℕ → ℕ → Bool
+opens o e = eqb (o / 2 ^ (e - 1) % 2) 1
+
+-- a task in this place waits to accept entry e
+abbrev pub accepts : Place → ℕ → Bool
+accepts Blank e = false
+accepts Ready e = false
+accepts Delayed e = false
+accepts (Queued q) e = false
+accepts (Held m) e = false
+accepts (Accepting o) e = opens (o .opens) e
+accepts Completed e = false
+
+abbrev pub hasTime : Timer → Bool
+hasTime Off = false
+hasTime (Due d) = true
+
+-- ── queues ──
+
+-- caller c waits on entry e of task t; task g holds caller c; task t is of priority p
+abbrev pub waitsOn : State → ℕ → ℕ → ℕ → Bool
+waitsOn s t e c = isQueued (placeOf s c) && eqb (partnerOf (placeOf s c)) t && eqb (entryOf (placeOf s c)) e
+
+abbrev pub holds : State → ℕ → ℕ → Bool
+holds s g c = isHeld (placeOf s c) && eqb (partnerOf (placeOf s c)) g
+
+abbrev pub atLevel : State → ℕ → ℕ → Bool
+atLevel s p t = eqb (priorityOf s t) p
+
+-- the queue of entry e of task t
+abbrev pub queue : State → ℕ → ℕ → List ℕ
+queue s t e = filter (waitsOn s t e) (s .callers)
+
+-- the callers that task t holds, the longest held first
+abbrev pub heldBy : State → ℕ → List ℕ
+heldBy s t = filter (holds s t) (s .held)
+
+-- the ready queue of priority p
+abbrev pub level : State → ℕ → List ℕ
+level s p = filter (atLevel s p) (s .ready)
+
+-- the head of the highest ready queue up to p that is not empty
+abbrev pub headUpTo : State → ℕ → ℕ
+headUpTo s zero = 0
+headUpTo s (suc p) = elim (level s (suc p)) [ [] ↦ headUpTo s p | t ∷ ts ↦ t ]
+
+unfoldable pub running : State → ℕ
+running s = headUpTo s 15
+
+-- ── the clock ──
+
+abbrev pub round : ℕ → ℕ
+round n = n % 4294967296
+
+-- the reading d ticks from now, and the ticks from now to a reading, counted round the clock
+abbrev pub after : ℕ → ℕ → ℕ
+after now d = round (now + d)
+
+abbrev pub left : ℕ → ℕ → ℕ
+left now due = round (due + 4294967296 - now)
+
+abbrev pub ticksLeft : ℕ → Timer → ℕ
+ticksLeft now Off = 0
+ticksLeft now (Due d) = left now d
+
+-- ── the one way in which a task changes its place ──
+
+-- the delay queue without t, and with t behind all those that have no more ticks left than it, if it has a time now
+abbrev pub retime : ℕ → List Task → Timer → ℕ → List ℕ → List ℕ
+retime now tasks Off t l = remove t l
+retime now tasks (Due d) t l = insert (λ x. ltb (left now d) (ticksLeft now (nth tasks x .timer))) t (remove t l)
+
+-- a task in another place, with another time; a new one
+abbrev pub placed : Task → Place → Timer → Task
+placed x p w = record { priority = x .priority; entries = x .entries; place = p; timer = w }
+
+abbrev pub fresh : ℕ → ℕ → Task
+fresh p n = record { priority = p; entries = n; place = Ready; timer = Off }
+
+-- task t goes to place p with the time w: it leaves the lines in which it stands, and joins the end of the line of its new place
+abbrev pub move : State → ℕ → Place → Timer → State
+move s t p w = record {
+  clock = s .clock;
+  tasks = setNth (s .tasks) t (placed (taskOf s t) p w);
+  ready = rejoin (isReady p) t (s .ready);
+  callers = rejoin (isQueued p) t (s .callers);
+  held = rejoin (isHeld p) t (s .held);
+  delays = retime (s .clock) (s .tasks) w t (s .delays);
+}
+
+-- t becomes ready; all those of a list, one after the other
+abbrev pub wake : State → ℕ → State
+wake s t = move s t Ready Off
+
+abbrev pub wakeAll : State → List ℕ → State
+wakeAll s [] = s
+wakeAll s (t ∷ ts) = wakeAll (wake s t) ts
+
+-- what a caller of entry e of task g waits for; what a task with the open set o waits for
+abbrev pub waiting : State → ℕ → ℕ → Waiting
+waiting s g e = record { target = g; entry = e }
+
+abbrev pub offer : ℕ → Offer
+offer o = record { opens = o }
+
+-- a rendezvous of g with its caller c at entry e begins, and ends
+abbrev pub meeting : State → ℕ → ℕ → Meeting
+meeting s g e = record { holder = g; entry = e }
+
+abbrev pub meet : State → ℕ → ℕ → ℕ → State
+meet s g c e = move s c (Held (meeting s g e)) Off
+
+abbrev pub part : State → ℕ → ℕ → State
+part s g c = wake s c
+
+-- a new ready task
+abbrev pub add : State → ℕ → ℕ → State
+add s p n = record {
+  clock = s .clock;
+  tasks = s .tasks ++ (fresh p n ∷ []);
+  ready = s .ready ++ (suc (created s) ∷ []);
+  callers = s .callers;
+  held = s .held;
+  delays = s .delays;
+}
+
+abbrev pub setClock : State → ℕ → State
+setClock s n = record { clock = n; tasks = s .tasks; ready = s .ready; callers = s .callers; held = s .held; delays = s .delays }
+
+abbrev pub empty : ℕ → State
+empty n = record { clock = n; tasks = []; ready = []; callers = []; held = []; delays = [] }

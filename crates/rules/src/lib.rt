@@ -1,0 +1,85 @@
+ghost use mathlib.Core.Path.{_≡_};
+ghost use Rattle.rules.specs.State.{empty};
+ghost use Rattle.rules.specs.Whole.{pack};
+
+// The state of the supervisor, the calls and the answers: types only. All else stands in specs/.
+
+pub enum Timer {
+    Off,
+    Due(u32),
+}
+
+// A caller in a queue: whom it has called, and at which entry.
+pub struct Waiting {
+    pub target: u8,
+    pub entry: u8,
+}
+
+// A caller in a rendezvous: who holds it, and at which entry.
+pub struct Meeting {
+    pub holder: u8,
+    pub entry: u8,
+}
+
+// A task that waits to accept: the set of its open entries.
+pub struct Offer {
+    pub opens: u8,
+}
+
+pub enum Place {
+    Blank,
+    Ready,
+    Delayed,
+    Queued(Waiting),
+    Held(Meeting),
+    Accepting(Offer),
+    Completed,
+}
+
+pub struct Task {
+    pub priority: u8,
+    pub entries: u8,
+    pub place: Place,
+    pub timer: Timer,
+}
+
+pub struct Supervisor {
+    pub clock: u32,
+    pub created: u8,
+    pub tasks: [Task; 31],
+    pub ready: [u8; 31],
+    pub callers: [u8; 31],
+    pub held: [u8; 31],
+    pub delays: [u8; 31],
+}
+
+// Task, result, entry, partner: an ended wait, and the same four numbers of an answer.
+pub struct Item {
+    pub task: u8,
+    pub result: u8,
+    pub entry: u8,
+    pub partner: u8,
+}
+
+// A supervisor with no tasks.
+pub fn made(clock: u32) -> Supervisor
+    ensures { λ r. ⌜ r ≡ pack (empty clock) ⌝ }
+{
+    let blank = Task {
+        priority: 0,
+        entries: 0,
+        place: Place::Blank,
+        timer: Timer::Off,
+    };
+    let tasks = [blank; 31];
+    let line = [0u8; 31];
+    Supervisor {
+        clock,
+        created: 0,
+        tasks,
+        ready: line,
+        callers: line,
+        held: line,
+        delays: line,
+    }
+}

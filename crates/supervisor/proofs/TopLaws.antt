@@ -1,0 +1,130 @@
+-- The whole step.
+-- Assumes nothing.
+use Prim.Native.Nat.{ℕ, zero, suc, _≤_, _<_, _^_}
+use mathlib.Core.Path.{_≡_, refl, sym, ap, _∙_}
+use mathlib.Core.Bool.{Bool, true, false, not, _&&_}
+use mathlib.Core.List.{List, []}
+use lib.Dec.{eqb, ltb, leb}
+use lib.ListN.{length}
+use lib.IntN.{ℤ}
+use borrow.Author.Tests.{lt-ltb, le-ltb}
+use Rattle.rules.specs.State.{State, created, taskOf, running}
+use Rattle.rules.specs.Sound.{inRange, sound}
+use Rattle.rules.specs.Step.{Outcome, refused, took, SHORT-ROOM, BAD-STATE, ticks, delayFor, ofRunning, openEntry, selectDelay, selectNone, selectAt, select, takeCall, roomAfter}
+use Rattle.rules.specs.Whole.{Whole, view, pack, packed, soundWhole, decline, done, stepWhole}
+use Rattle.rules.specs.declared.Supervisor.{Supervisor}
+use Rattle.calls.specs.declared.Call as C
+use Rattle.calls.specs.declared.Call.the-variants.{Create, Delay, Select}
+use Rattle.calls.specs.declared.SelectMode.{SelectMode}
+use Rattle.calls.specs.declared.SelectMode.the-variants.{Plain, Else}
+use Rattle.calls.specs.declared.SelectMode.the-variants as S
+use Rattle.lists.proofs.ListLaws.{by-test}
+use Rattle.rules.proofs.StepSound.{Kept, call-sound}
+use Rattle.rules.proofs.WholeLaws.{view-pack, whole-packed}
+use Rattle.rules.proofs.SoundTest.{sound-props}
+use Rattle.rules.proofs.Members.{and-first, and-true}
+use Rattle.supervisor.specs.Check.{steppedOf}
+use Rattle.supervisor.specs.declared.Stepped.{Stepped}
+use Rattle.supervisor.specs.Taken.{Stands, takenOf, endedBy}
+use Rattle.supervisor.specs.declared.Taken.{Taken}
+use Rattle.supervisor.specs.declared.Known.{Known}
+use Rattle.supervisor.specs.Ask.{callableWhole}
+use Rattle.rules.specs.declared.Task.{Task}
+use Rattle.lists.specs.Lists.{every}
+use Rattle.rules.specs.State.{isCompleted}
+use Rattle.rules.specs.Whole.{unused}
+use Rattle.lists.specs.Line.{tidy}
+use lib.ListN.{drop}
+use lib.Seq.{length-take-le}
+use borrow.Author.Tests.{leb-true}
+use native.Mathlib.Omega.{arith}
+
+-- ---- calls that end no wait
+
+abbrev Quiet : Outcome → Type 0
+Quiet o = endedBy o ≡ []
+
+quiet-runner : (t : ℕ) (f : ℕ → Outcome) → ((t : ℕ) → Quiet (f t)) → Quiet (ofRunning t f)
+quiet-runner zero f h = refl
+quiet-runner (suc t) f h = h (suc t)
+
+pub quiet-create : (v : State) (p n : ℕ) → Quiet (takeCall v (Create p n))
+quiet-create v p n = by-test Quiet (not (inRange p n)) (λ _. refl) λ _. by-test Quiet (leb 31 (created v)) (λ _. refl) (λ _. refl)
+
+pub quiet-delay : (v : State) (d : ℤ) → Quiet (takeCall v (Delay d))
+quiet-delay v d = quiet-runner (running v) (λ t. delayFor v t (ticks d)) (λ t. go t (ticks d))
+  where
+    go : (t n : ℕ) → Quiet (delayFor v t n)
+    go t zero = refl
+    go t (suc n) = refl
+
+pub quiet-select : (v : State) (o : ℕ) (m : SelectMode) → Quiet (takeCall v (Select o m))
+quiet-select v o m = quiet-runner (running v) (λ t. select v t o m) (λ t. by-test Quiet (leb (2 ^ (taskOf v t .entries)) o) (λ _. refl) (λ _. at t m (openEntry v t o)))
+  where
+    late : (t n : ℕ) → Quiet (selectDelay v t o n)
+    late t zero = refl
+    late t (suc n) = refl
+
+    none : (t : ℕ) (m : SelectMode) → Quiet (selectNone v t o m)
+    none t Plain = by-test Quiet (eqb o 0) (λ _. refl) (λ _. refl)
+    none t (S.Delay d) = late t (ticks d)
+    none t Else = refl
+
+    at : (t : ℕ) (m : SelectMode) (e : ℕ) → Quiet (selectAt v t o m e)
+    at t m zero = none t m
+    at t m (suc e) = refl
+
+-- ---- the step
+
+pub stands-of : (s : Supervisor) → s .clock < 4294967296 → length (s .tasks) ≡ 31 → length (s .ready) ≡ 31 → length (s .callers) ≡ 31 → length (s .held) ≡ 31 → length (s .delays) ≡ 31 → soundWhole s ≡ true → Stands s
+stands-of s k l1 l2 l3 l4 l5 h = record {
+  packs = whole-packed s l1 l2 l3 l4 l5 (and-first (packed s) (sound (view s)) h);
+  sound = sound-props (view s) k (and-true (packed s) (sound (view s)) h);
+}
+
+module _ (s : Supervisor) (c : C.Call) (n : ℕ) where
+  pub step-short : n < 124 → stepWhole s c n ≡ decline s SHORT-ROOM 0
+  unfolding stepWhole
+  step-short h = rw (lt-ltb n 124 h)
+
+  pub step-unsound : 124 ≤ n → soundWhole s ≡ false → stepWhole s c n ≡ decline s BAD-STATE 0
+  unfolding stepWhole
+  step-unsound h q = rw (le-ltb n 124 h, q)
+
+  pub step-sound : 124 ≤ n → soundWhole s ≡ true → stepWhole s c n ≡ done s (takeCall (view s) c)
+  unfolding stepWhole
+  step-sound h q = rw (le-ltb n 124 h, q)
+
+pub by-whole : {w q : Whole} {r : Stepped} (x y : List ℕ) → w ≡ q → r ≡ steppedOf q → x ≡ roomAfter y (q .ended) → (r ≡ steppedOf w) × (x ≡ roomAfter y (w .ended))
+by-whole x y e h k = (h ∙ sym (ap steppedOf e), k ∙ sym (ap (λ (w : Whole). roomAfter y (w .ended)) e))
+
+-- the dispatched task is worked out on the struct of the next state
+pub next-is : (s : Supervisor) (o : Outcome) (k : Taken) (n : ℕ) → Kept o → k ≡ takenOf s o → n ≡ running (view (k .state))
+    → _≡_ {A = Stepped} (record { state = k .state; refusal = k .refusal; answer = k .answer; ended = k .ended; next = n }) (steppedOf (done s o))
+next-is s (refused r) k n h ek en = rw (en, ek)
+next-is s (took st a l) k n h ek en = rw (en, ek) (ap (λ (m : ℕ). record { state = pack st; refusal = 0; answer = a; ended = length l; next = m }) (ap running (view-pack st h)))
+
+pub ended-is : (s : Supervisor) (o : Outcome) → endedBy o ≡ done s o .ended
+ended-is s (refused r) = refl
+ended-is s (took st a l) = refl
+
+pub kept : (s : Supervisor) (c : C.Call) → Stands s → Kept (takeCall (view s) c)
+kept s c h = call-sound (view s) c (h .sound)
+
+-- ---- questions
+
+created-sound : (s : Supervisor) → soundWhole s ≡ true → length (s .tasks) ≡ 31 → created (view s) ≡ s .created
+created-sound s h k =
+    let f : Bool = leb (s .created) 31 in
+    let e : Bool = every unused (drop (s .created) (s .tasks)) in
+    let x1 : Bool = tidy (s .ready) in let x2 : Bool = tidy (s .callers) in let x3 : Bool = tidy (s .held) in let x4 : Bool = tidy (s .delays) in
+    let t4 = and-first (packed s) (sound (view s)) h in
+    let t3 = and-first (f && e && x1 && x2 && x3) x4 t4 in
+    let t0 = and-first (f && e) x1 (and-first (f && e && x1) x2 (and-first (f && e && x1 && x2) x3 t3)) in
+    let n = leb-true (s .created) 31 (and-first f e t0) in
+    length-take-le (s .created) (s .tasks) (omega arith)
+
+pub callable-is : (s : Supervisor) (t : ℕ) (b d : Bool) (x : Task) → soundWhole s ≡ true → length (s .tasks) ≡ 31 → b ≡ (ltb 0 t && leb t (s .created)) → x ≡ taskOf (view s) t → d ≡ isCompleted (x .place)
+    → _≡_ {A = Known} (record { refusal = 0; yes = b && not d }) (callableWhole s t)
+unfolding callableWhole
+callable-is s t b d x h k eb ex ed = rw (h, eb, ed, ex, created-sound s h k)
