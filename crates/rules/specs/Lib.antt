@@ -3,5 +3,6 @@ pub mod State
 pub mod Sound
 pub mod Step
 pub mod Whole
+pub mod Questions
 pub mod Cases
 pub mod Runs

@@ -202,10 +202,16 @@ isDue now (Due d) = eqb d now
 abbrev pub dueAt : State → ℕ → List ℕ
 dueAt s now = filter (λ t. isDue now (timerOf s t)) (s .delays)
 
+-- the clock goes to a reading: those due then become ready
+abbrev pub tickTo : State → ℕ → State
+tickTo s now = setClock (wakeAll s (dueAt s now)) now
+
+-- and their waits have ended, in delay-queue order
+abbrev pub endsAt : State → ℕ → List Item
+endsAt s now = map (expired s) (dueAt s now)
+
 abbrev pub tick : State → Outcome
-tick s =
-    let now = after (s .clock) 1 in
-    took (setClock (wakeAll s (dueAt s now)) now) (item 0 DONE 0 0) (map (expired s) (dueAt s now))
+tick s = let now = after (s .clock) 1 in took (tickTo s now) (item 0 DONE 0 0) (endsAt s now)
 
 -- ── a call ──
 

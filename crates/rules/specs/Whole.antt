@@ -19,6 +19,8 @@ use Rattle.rules.specs.declared.Timer.{Timer}
 use Rattle.rules.specs.declared.Place.{Place}
 use Rattle.rules.specs.declared.Place.the-variants.{Blank, Ready, Delayed, Queued, Held, Accepting, Completed}
 use Rattle.rules.specs.declared.Supervisor.{Supervisor}
+use Rattle.rules.specs.declared.Answer.{Answer}
+use Rattle.rules.specs.declared.Stepped.{Stepped}
 
 abbrev pub view : Supervisor → State
 view s = record {
@@ -87,3 +89,18 @@ stepWhole s c room =
     if ltb room 124 then decline s SHORT-ROOM 0
     else if not (soundWhole s) then decline s BAD-STATE 0
     else done s (takeCall (view s) c)
+
+-- what the code's step gives: the state, and the answer with the number of ended waits
+abbrev pub answerOf : Whole → Answer
+answerOf w = record {
+  refusal = w .refusal;
+  result = w .answer .result;
+  task = w .answer .task;
+  entry = w .answer .entry;
+  partner = w .answer .partner;
+  ended = length (w .ended);
+  next = w .next;
+}
+
+abbrev pub steppedOf : Whole → Stepped
+steppedOf w = record { state = w .state; answer = answerOf w }

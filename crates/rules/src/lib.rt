@@ -61,6 +61,36 @@ pub struct Item {
     pub partner: u8,
 }
 
+// What a step answers: a refusal (0 if none), the result with its task, entry and partner, the number of ended waits, and
+// the dispatched task afterwards (0 if none).
+pub struct Answer {
+    pub refusal: u8,
+    pub result: u8,
+    pub task: u8,
+    pub entry: u8,
+    pub partner: u8,
+    pub ended: u8,
+    pub next: u8,
+}
+
+// What a step gives: the state afterwards, and the answer.
+pub struct Stepped {
+    pub state: Supervisor,
+    pub answer: Answer,
+}
+
+// What COUNT answers: a refusal (0 if none), and how many are queued.
+pub struct Count {
+    pub refusal: u8,
+    pub count: usize,
+}
+
+// What CALLABLE answers: a refusal (0 if none), and yes or no.
+pub struct Known {
+    pub refusal: u8,
+    pub yes: bool,
+}
+
 // A supervisor with no tasks.
 pub fn made(clock: u32) -> Supervisor
     ensures { λ r. ⌜ r ≡ pack (empty clock) ⌝ }

@@ -25,7 +25,7 @@ use Rattle.rules.proofs.Members.{in-filter, queued-there, timed-there}
 use Rattle.rules.proofs.StepSound.{of-queuedFrom, due-is, wakeAll-sound, wakeAll-length}
 use Rattle.rules.proofs.Fate.{queued-once}
 use Rattle.rules.proofs.WholeLaws.{at-most, no-zero}
-use Rattle.supervisor.specs.Leaf.{movedOf}
+use Rattle.table.specs.Moved.{movedOf}
 use Rattle.supervisor.specs.Taken.{takenOf, AllThere}
 use Rattle.supervisor.specs.declared.Taken.{Taken}
 use Rattle.supervisor.proofs.StepLaws.{no-runner, of-runner, moved-state}

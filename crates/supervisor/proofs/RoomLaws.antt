@@ -18,7 +18,7 @@ use Rattle.rules.specs.declared.Place.the-variants.{Ready}
 use Rattle.rules.specs.declared.Timer.the-variants.{Off}
 use Rattle.rules.proofs.MoveLaws.{wake-sound, length-move}
 use Rattle.rules.proofs.WholeLaws.{view-pack}
-use Rattle.supervisor.specs.Leaf.{movedOf}
+use Rattle.table.specs.Moved.{movedOf}
 use Rattle.supervisor.specs.Taken.{Stands, itemOf, AllThere, WokenAs}
 use Rattle.supervisor.proofs.StepLaws.{stands-pack, moved-packed}
 

@@ -37,8 +37,8 @@ use Rattle.lists.proofs.ListLaws.{by-test}
 use Rattle.rules.proofs.StepSound.{one-open, between}
 use Rattle.rules.proofs.MoveLaws.{length-setNth, moved, wake-sound, length-move}
 use Rattle.rules.proofs.WholeLaws.{view-pack}
-use Rattle.supervisor.specs.Leaf.{movedOf, metOf, partedOf, withTask, passesOf}
-use Rattle.supervisor.specs.declared.Test.{Test}
+use Rattle.table.specs.Moved.{movedOf, metOf, partedOf, withTask, passesOf}
+use Rattle.table.specs.declared.queues.Test.{Test}
 use Rattle.lists.proofs.LineLaws.{line-picked}
 use Rattle.supervisor.specs.Taken.{Stands, takenOf, endedBy}
 use Rattle.supervisor.specs.declared.Taken.{Taken}

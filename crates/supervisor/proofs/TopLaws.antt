@@ -23,12 +23,12 @@ use Rattle.rules.proofs.StepSound.{Kept, call-sound}
 use Rattle.rules.proofs.WholeLaws.{view-pack, whole-packed}
 use Rattle.rules.proofs.SoundTest.{sound-props}
 use Rattle.rules.proofs.Members.{and-first, and-true}
-use Rattle.supervisor.specs.Check.{steppedOf}
-use Rattle.supervisor.specs.declared.Stepped.{Stepped}
+use Rattle.rules.specs.Whole.{steppedOf}
+use Rattle.rules.specs.declared.Stepped.{Stepped}
 use Rattle.supervisor.specs.Taken.{Stands, takenOf, endedBy}
 use Rattle.supervisor.specs.declared.Taken.{Taken}
-use Rattle.supervisor.specs.declared.Known.{Known}
-use Rattle.supervisor.specs.Ask.{callableWhole}
+use Rattle.rules.specs.declared.Known.{Known}
+use Rattle.rules.specs.Questions.{callableWhole}
 use Rattle.rules.specs.declared.Task.{Task}
 use Rattle.lists.specs.Lists.{every}
 use Rattle.rules.specs.State.{isCompleted}
@@ -100,9 +100,9 @@ by-whole x y e h k = (h ∙ sym (ap steppedOf e), k ∙ sym (ap (λ (w : Whole).
 
 -- the dispatched task is worked out on the struct of the next state
 pub next-is : (s : Supervisor) (o : Outcome) (k : Taken) (n : ℕ) → Kept o → k ≡ takenOf s o → n ≡ running (view (k .state))
-    → _≡_ {A = Stepped} (record { state = k .state; refusal = k .refusal; answer = k .answer; ended = k .ended; next = n }) (steppedOf (done s o))
+    → _≡_ {A = Stepped} (record { state = k .state; answer = record { refusal = k .refusal; result = k .answer .result; task = k .answer .task; entry = k .answer .entry; partner = k .answer .partner; ended = k .ended; next = n } }) (steppedOf (done s o))
 next-is s (refused r) k n h ek en = rw (en, ek)
-next-is s (took st a l) k n h ek en = rw (en, ek) (ap (λ (m : ℕ). record { state = pack st; refusal = 0; answer = a; ended = length l; next = m }) (ap running (view-pack st h)))
+next-is s (took st a l) k n h ek en = rw (en, ek) (ap (λ (m : ℕ). record { state = pack st; answer = record { refusal = 0; result = a .result; task = a .task; entry = a .entry; partner = a .partner; ended = length l; next = m } }) (ap running (view-pack st h)))
 
 pub ended-is : (s : Supervisor) (o : Outcome) → endedBy o ≡ done s o .ended
 ended-is s (refused r) = refl

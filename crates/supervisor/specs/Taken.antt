@@ -15,7 +15,6 @@ use Rattle.rules.specs.declared.Place.{Place}
 use Rattle.rules.specs.declared.Supervisor.{Supervisor}
 use Rattle.rules.proofs.Invariant.{Sound}
 use Rattle.supervisor.specs.declared.Taken.{Taken}
-use Rattle.supervisor.specs.declared.Best.{Best}
 
 -- the struct is that of a sound state
 pub record Stands (s : Supervisor) : Type 0 where
@@ -29,14 +28,6 @@ takenOf s (took st a l) = record { state = pack st; refusal = 0; answer = a; end
 abbrev pub endedBy : Outcome → List Item
 endedBy (refused r) = []
 endedBy (took st a l) = l
-
--- one pass for the running task: the first of the highest priority seen
-abbrev pub betterOf : Best → ℕ → ℕ → Best
-betterOf b t p = if ltb (b .priority) p && leb p 15 then record { task = t; priority = p } else b
-
-abbrev pub bestOf : (ℕ → ℕ) → Best → List ℕ → Best
-bestOf f b [] = b
-bestOf f b (t ∷ l) = bestOf f (betterOf b t (f t)) l
 
 -- the item of caller c, woken by FINISH or by TICK
 abbrev pub reasonOf : Bool → Place → ℕ

@@ -5,7 +5,7 @@ use Rattle.lists.specs.Lists.{last}
 use Rattle.rules.specs.State.{entryOf, placeOf}
 use Rattle.rules.specs.Step.{item}
 use Rattle.rules.specs.Whole.{view}
-use Rattle.supervisor.specs.declared.Test.the-variants.{HeldBy}
+use Rattle.table.specs.declared.queues.Test.the-variants.{HeldBy}
 use Rattle.supervisor.proofs.StepLaws as L
 use Rattle.supervisor.proofs.end_last.Statement.{statement}
 use Rattle.supervisor.proofs.end_last.Tie as tie

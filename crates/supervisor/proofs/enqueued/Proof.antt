@@ -3,7 +3,7 @@ use mathlib.Core.Path.{_∙_, ap}
 use mathlib.Core.List.{[]}
 use lib.ListN.{length}
 use Rattle.rules.specs.Whole.{view}
-use Rattle.supervisor.specs.declared.Test.the-variants.{QueuedOn}
+use Rattle.table.specs.declared.queues.Test.the-variants.{QueuedOn}
 use Rattle.supervisor.proofs.StepLaws.{by-outcome, move-answers, long-callers, picked-line, queue-full, queue-free}
 use Rattle.supervisor.proofs.enqueued.Statement.{statement}
 use Rattle.supervisor.proofs.enqueued.Tie as tie

@@ -8,7 +8,7 @@ use Rattle.rules.specs.Whole.{view}
 use Rattle.rules.specs.declared.Place.the-variants.{Completed}
 use Rattle.rules.specs.declared.Timer.the-variants.{Off}
 use Rattle.supervisor.specs.Taken.{AllThere}
-use Rattle.supervisor.specs.declared.Test.the-variants.{HeldBy}
+use Rattle.table.specs.declared.queues.Test.the-variants.{HeldBy}
 use Rattle.supervisor.proofs.StepLaws.{picked-line, long-held, by-both, runner}
 use Rattle.supervisor.proofs.ManyLaws.{finish-idle, finish-runs, finish-holds, finish-goes, queued-all, queued-line, woken-completed, many-answers, room-of}
 use Rattle.supervisor.proofs.finish_task.Statement.{statement}

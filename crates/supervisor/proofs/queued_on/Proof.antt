@@ -7,8 +7,8 @@ use lib.ListN.{length}
 use Rattle.lists.specs.Line.{line, pad, padTo}
 use Rattle.rules.specs.Step.{queuedFrom, queuedOn}
 use Rattle.rules.specs.Whole.{view}
-use Rattle.supervisor.specs.declared.Test.the-variants.{QueuedOn}
-use Rattle.supervisor.proofs.LeafLaws.{mapped-long}
+use Rattle.table.specs.declared.queues.Test.the-variants.{QueuedOn}
+use Rattle.table.proofs.LeafLaws.{mapped-long}
 use Rattle.supervisor.proofs.StepLaws.{picked-line}
 use Rattle.supervisor.proofs.ManyLaws.{queued-laid, queued-turn, queued-end}
 use Rattle.supervisor.proofs.queued_on.Statement.{statement}

@@ -5,7 +5,7 @@ use mathlib.Core.List.{[]}
 use lib.Dec.{leb}
 use Rattle.lists.specs.Lists.{first}
 use Rattle.rules.specs.Whole.{view}
-use Rattle.supervisor.specs.declared.Test.the-variants.{QueuedOn}
+use Rattle.table.specs.declared.queues.Test.the-variants.{QueuedOn}
 use Rattle.supervisor.proofs.StepLaws as L
 use Rattle.supervisor.proofs.select_from.Statement.{statement}
 use Rattle.supervisor.proofs.select_from.Tie as tie

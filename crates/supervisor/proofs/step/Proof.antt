@@ -5,7 +5,7 @@ use lib.ListN.{length}
 use borrow.Author.Tests.{not-true, not-false}
 use Rattle.rules.specs.Step.{takeCall, roomAfter}
 use Rattle.rules.specs.Whole.{view}
-use Rattle.supervisor.proofs.LeafLaws.{mapped-long}
+use Rattle.table.proofs.LeafLaws.{mapped-long}
 use Rattle.supervisor.specs.Taken.{Stands}
 use Rattle.supervisor.proofs.TopLaws as T
 use Rattle.supervisor.proofs.step.Statement.{statement}

@@ -7,7 +7,7 @@ use Rattle.rules.specs.State.{wakeAll, setClock}
 use Rattle.rules.specs.Step.{dueAt, expired}
 use Rattle.rules.specs.Whole.{view, pack}
 use Rattle.supervisor.specs.Taken.{AllThere}
-use Rattle.supervisor.specs.declared.Test.the-variants.{DueAt}
+use Rattle.table.specs.declared.queues.Test.the-variants.{DueAt}
 use Rattle.supervisor.proofs.StepLaws.{picked-line, long-delays, by-both}
 use Rattle.supervisor.proofs.ManyLaws.{due-all, clock-packed, many-answers, tick-is, room-of}
 use Rattle.supervisor.proofs.tick.Statement.{statement}
