@@ -5,3 +5,4 @@ pub mod Step
 pub mod Whole
 pub mod Questions
 pub mod Runs
+pub mod OverRuns
