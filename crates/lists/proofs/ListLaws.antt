@@ -5,6 +5,7 @@ use mathlib.Core.Path.{_≡_, refl, sym, _∙_, ap, subst}
 use mathlib.Core.Bool.{Bool, true, false, not, _&&_, true≢false}
 use mathlib.Core.List.{List, [], _∷_, _++_}
 use native.Mathlib.Omega.{arith}
+use lib.ListN.{length}
 use lib.Dec.{T, eqb, ltb, leb, leb→le, le→leb, eqb→eq}
 use borrow.Author.Tests.{eqb-true, eqb-false, eq-eqb, ne-eqb, ltb-true, ltb-false, leb-true, leb-false, le-leb}
 use Rattle.lists.specs.Lists.{if_then_else_, bit, filter, remove, insert, count, every, inOrder, downFrom}
@@ -146,3 +147,30 @@ ordered-insert k g t (x ∷ xs) h o =
     by-test (Ordered k) (g x)
     (λ e. (λ y j. by-eq x y (λ q. omega (arith, ltb-true (k t) (k x) (sym gx ∙ e), ap k q)) (λ n. omega (arith, o .0 y (omega (arith, rw (ne-eqb x y n) at j)), ltb-true (k t) (k x) (sym gx ∙ e))), o))
     (λ e. (λ y j. by-eq t y (λ q. omega (arith, ltb-false (k t) (k x) (sym gx ∙ e), ap k q)) (λ n. o .0 y (omega (arith, rw (ne-eqb t y n) at (count-insert g t y xs)))), ih))
+
+-- ── how long ──
+
+-- a list is as long as what is left without t, and t as often as it stands there
+pub length-remove : (t : ℕ) (l : List ℕ) → length l ≡ length (remove t l) + count t l
+length-remove t [] = refl
+length-remove t (x ∷ xs) = go (eqb x t) refl (length-remove t xs)
+  where
+    go : (b : Bool) → eqb x t ≡ b → length xs ≡ length (remove t xs) + count t xs → suc (length xs) ≡ length (if not b then x ∷ remove t xs else remove t xs) + (bit (eqb x t) + count t xs)
+    go true e ih = rw e (omega (arith, ih))
+    go false e ih = rw e (omega (arith, ih))
+
+-- distinct numbers of 1..n are at most n
+pub at-most : (n : ℕ) (l : List ℕ) → ((u : ℕ) → count u l ≤ 1) → ((u : ℕ) → 0 < count u l → (0 < u) × (u ≤ n)) → length l ≤ n
+at-most zero [] h k = omega arith
+at-most zero (x ∷ xs) h k = let i = k x (rw (eq-eqb x x refl) (omega arith)) in omega (arith, i .0, i .1)
+at-most (suc n) l h k =
+    omega (
+      arith,
+      length-remove (suc n) l,
+      h (suc n),
+      at-most n (remove (suc n) l)
+          (λ u. by-eq u (suc n) (λ e. rw e (omega (arith, count-remove-same (suc n) l))) (λ m. omega (arith, count-remove-other (suc n) u l m, h u)))
+          (λ u j. by-eq u (suc n)
+          (λ e. absurd (omega (arith, count-remove-same (suc n) l, rw e at j)))
+          (λ m. let i = k u (omega (arith, count-remove-other (suc n) u l m)) in (i .0, omega (arith, i .1, m)))),
+    )

@@ -4,5 +4,5 @@ pub mod Sound
 pub mod Step
 pub mod Whole
 pub mod Questions
-pub mod Cases
 pub mod Runs
+pub mod OverRuns

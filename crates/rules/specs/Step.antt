@@ -7,7 +7,7 @@ use lib.ListN.{length}
 use lib.Dec.{eqb, ltb, leb}
 use Rattle.lists.specs.Lists.{if_then_else_, filter, first, last}
 use Rattle.rules.specs.State.{State, taskOf, placeOf, timerOf, created, isTask, isCompleted, partnerOf, entryOf, accepts, opens, queue, heldBy, running, after, move, wake, meet, part, wakeAll, add, setClock, waiting, offer}
-use Rattle.rules.specs.Sound.{sound, inRange}
+use Rattle.rules.specs.Sound.{inRange}
 use Rattle.rules.specs.declared.Item.{Item}
 use Rattle.rules.specs.declared.Timer.{Timer}
 use Rattle.rules.specs.declared.Timer.the-variants.{Off, Due}
@@ -23,8 +23,13 @@ use Rattle.calls.specs.declared.Call.the-variants.{Create, Delay, Call, Select,
 -- a duration's ticks
 pub use Rattle.calls.specs.Duration.{ticks}
 
+-- four numbers of an ended wait or of an answer: task, result, entry, partner
 abbrev pub item : ℕ → ℕ → ℕ → ℕ → Item
 item t r e g = record { task = t; result = r; entry = e; partner = g }
+
+-- the numbers of a refused step
+abbrev pub none : Item
+none = item 0 0 0 0
 
 -- the refusals, in order of checking, with their numbers
 pub data Refusal : Type 0 where
@@ -224,41 +229,6 @@ takeCall s (Select o m) = ofRunning (running s) (λ t. select s t o m)
 takeCall s End = ofRunning (running s) (λ t. end s t)
 takeCall s Finish = ofRunning (running s) (λ t. finish s t)
 takeCall s Tick = tick s
-
--- ── the whole step ──
-
--- a refusal (0 if none), the answer, the ended waits, the dispatched task, and the state afterwards
-pub record Stepped : Type 0 where
-  pub refusal : ℕ
-  pub answer : Item
-  pub ended : List Item
-  pub next : ℕ
-  pub state : State
-
-abbrev pub none : Item
-none = item 0 0 0 0
-
-abbrev pub refuse : State → Refusal → ℕ → Stepped
-refuse s r n = record { refusal = number r; answer = none; ended = []; next = n; state = s }
-
-abbrev pub stepped : State → Outcome → Stepped
-stepped s (refused r) = refuse s r (running s)
-stepped s (took s′ a l) = record { refusal = 0; answer = a; ended = l; next = running s′; state = s′ }
-
--- a step with a room of so many bytes
-abbrev pub step : State → C.Call → ℕ → Stepped
-step s c room =
-    if ltb room 124 then refuse s SHORT-ROOM 0
-    else if not (sound s) then refuse s BAD-STATE 0
-    else stepped s (takeCall s c)
-
--- ── questions ──
-
-abbrev pub countOf : State → ℕ → ℕ → ℕ
-countOf s t e = if sound s then length (queue s t e) else 0
-
-abbrev pub callable : State → ℕ → Bool
-callable s t = sound s && isTask s t && not (isCompleted (placeOf s t))
 
 -- ── the lent room ──
 
