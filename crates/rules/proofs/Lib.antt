@@ -9,4 +9,3 @@ pub mod TimedWait
 pub mod WholeLaws
 pub mod Bounds
 pub mod WholeRuns
-pub mod Unique
