@@ -12,4 +12,3 @@ pub mod TimedWait
 pub mod WholeLaws
 pub mod Bounds
 pub mod WholeRuns
-pub mod Unique
