@@ -17,25 +17,27 @@ use Rattle.rules.specs.declared.Supervisor.{Supervisor}
 use Rattle.calls.specs.declared.Call as C
 use Rattle.calls.proofs.read_record.Met as read-record
 use Rattle.calls.proofs.write_record.Met as write-record
+use Rattle.supervisor.proofs.empty.Met as empty
+use Rattle.supervisor.proofs.running.Met as running
 use Rattle.supervisor.proofs.step.Met as step
-use Rattle.supervisor.proofs.count_of.Met as count
-use Rattle.supervisor.proofs.is_callable.Met as callable
-use Rattle.soundness.proofs.is_sound.Met as sound
+use Rattle.supervisor.proofs.count.Met as count
+use Rattle.supervisor.proofs.callable.Met as callable
+use Rattle.supervisor.proofs.sound.Met as sound
 use Rattle.statements.specs.Refusals.{Row, rows, firstRow}
-use Rattle.statements.specs.Statement1.{Given, Typed, Unchanged, Statement1}
+use Rattle.statements.specs.Statement1.{RowGiven, Typed, Unchanged, Statement1}
 use Rattle.statements.proofs.Refusals.{by-table}
 
 -- the first row that applies, as a number and as a proposition
-to-given : (k : ℕ) (rs : List Row) → 0 < k → firstRow rs ≡ k → Given k rs
+to-given : (k : ℕ) (rs : List Row) → 0 < k → firstRow rs ≡ k → RowGiven k rs
 to-given k [] h e = absurd (omega (arith, e))
 to-given k (r ∷ rs) h e = by-bool (r .applies) (λ b. inl (b, rw b at e)) (λ b. inr (b, to-given k rs h (rw b at e)))
 
-of-given : (k : ℕ) (rs : List Row) → Given k rs → firstRow rs ≡ k
+of-given : (k : ℕ) (rs : List Row) → RowGiven k rs → firstRow rs ≡ k
 of-given k [] h = absurd h
 of-given k (r ∷ rs) (inl h) = rw (h .0) (h .1)
 of-given k (r ∷ rs) (inr h) = rw (h .0) (of-given k rs (h .1))
 
-step-refused : (s : Supervisor) (c : C.Call) (n k : ℕ) → Typed s → 0 < k → (stepWhole s c n .refusal ≡ k) ↔ Given k (rows s c n)
+step-refused : (s : Supervisor) (c : C.Call) (n k : ℕ) → Typed s → 0 < k → (stepWhole s c n .refusal ≡ k) ↔ RowGiven k (rows s c n)
 step-refused s c n k t h = (
   λ e. to-given k (rows s c n) h (sym (by-table s c n t) ∙ e),
   λ g. by-table s c n t ∙ of-given k (rows s c n) g,
@@ -87,7 +89,9 @@ pub statement1 : Statement1
 statement1 = record {
   read-record = read-record.met;
   write-record = write-record.met;
+  empty = empty.met;
   sound = sound.met;
+  running = running.met;
   step = step.met;
   count = count.met;
   callable = callable.met;
