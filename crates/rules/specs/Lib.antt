@@ -3,6 +3,9 @@ pub mod State
 pub mod Sound
 pub mod Step
 pub mod Whole
+pub mod SoundFacts
 pub mod Questions
 pub mod Runs
 pub mod OverRuns
+pub mod EachStep
+pub mod Uses
