@@ -36,6 +36,7 @@ Dispatched s n = ((n ≡ 0) × (s .ready ≡ [])) ⊎ ((0 < n) × Heads s n)
 abbrev pub waitingOn : State → ℕ → ℕ → List ℕ
 waitingOn s t e = filter (waitsOn s t e) (downFrom (created s))
 
+-- of every struct, every call and every room
 pub record EachStep : Type 0 where
   -- a refused step changes nothing, in whatever state
   pub refused : (s : Supervisor) (c : C.Call) (room : ℕ) → 0 < stepWhole s c room .refusal → Untouched s (stepWhole s c room)

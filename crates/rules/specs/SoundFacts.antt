@@ -47,6 +47,7 @@ DueLater now d = (d < 4294967296) × (1 ≤ left now d) × (left now d ≤ 21474
 abbrev pub noLater : State → ℕ → ℕ → Bool
 noLater s a b = leb (ticksLeft (s .clock) (timerOf s a)) (ticksLeft (s .clock) (timerOf s b))
 
+-- a state is sound exactly when all of this holds
 pub record SoundFacts (s : State) : Type 0 where
   -- the tasks are 1..n, n at most 31
   pub at-most-31 : created s ≤ 31
