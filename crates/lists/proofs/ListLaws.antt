@@ -174,3 +174,40 @@ at-most (suc n) l h k =
           (λ e. absurd (omega (arith, count-remove-same (suc n) l, rw e at j)))
           (λ m. let i = k u (omega (arith, count-remove-other (suc n) u l m)) in (i .0, omega (arith, i .1, m)))),
     )
+
+-- lists in which each number stands equally often are equally long
+abbrev Alike : List ℕ → List ℕ → Type 0
+Alike l m = (u : ℕ) → count u l ≡ count u m
+
+none-alike : (m : List ℕ) → Alike [] m → 0 ≡ length m
+none-alike [] h = refl
+none-alike (y ∷ ys) h = absurd (omega (arith, rw (eq-eqb y y refl) at (h y)))
+
+pub same-length : (n : ℕ) (l m : List ℕ) → length l ≤ n → Alike l m → length l ≡ length m
+same-length zero l m k h = go l k h
+  where
+    go : (l : List ℕ) → length l ≤ 0 → Alike l m → length l ≡ length m
+    go [] k h = none-alike m h
+    go (x ∷ xs) k h = absurd (omega arith)
+same-length (suc n) l m k h = go l k h (λ x. same-length n (remove x l) (remove x m))
+  where
+    go : (l : List ℕ) → length l ≤ suc n → Alike l m → ((x : ℕ) → length (remove x l) ≤ n → Alike (remove x l) (remove x m) → length (remove x l) ≡ length (remove x m)) → length l ≡ length m
+    go [] k h f = none-alike m h
+    go (x ∷ xs) k h f =
+        let one : 0 < count x (x ∷ xs) = rw (eq-eqb x x refl) (omega arith) in
+        let less = f x (omega (arith, one, k, length-remove x (x ∷ xs)))
+        (λ u. by-eq u x
+        (λ e. rw e (omega (arith, count-remove-same x (x ∷ xs), count-remove-same x m)))
+        (λ e. omega (arith, count-remove-other x u (x ∷ xs) e, count-remove-other x u m e, h u))) in
+        omega (arith, less, length-remove x (x ∷ xs), length-remove x m, h x)
+
+-- ── n, n - 1, .., 1 ──
+
+-- each of 1..n stands there once
+pub down-once : (u n : ℕ) → 0 < u → u ≤ n → count u (downFrom n) ≡ 1
+down-once u zero a b = absurd (omega arith)
+down-once u (suc n) a b = by-eq (suc n) u (λ e. rw (eq-eqb (suc n) u e) (omega (arith, down-none u n (omega (arith, e))))) (λ k. rw (ne-eqb (suc n) u k) (omega (arith, down-once u n a (omega (arith, b, k)))))
+  where
+    down-none : (u n : ℕ) → n < u → count u (downFrom n) ≡ 0
+    down-none u zero k = refl
+    down-none u (suc n) k = rw (ne-eqb (suc n) u (λ e. omega (arith, e, k))) (omega (arith, down-none u n (omega arith)))

@@ -108,7 +108,7 @@ busy-fate s u t g e (Timed d) r = go (ticks d) refl
     go (suc n) z = enqueue-fate s u t g e (Timed d) (Due (after (s .clock) (suc n))) r (rw z)
 busy-fate s u t g e Conditional r = untouched (alike refl) refl refl
 
-accepts-is : (p : Place) (e : ℕ) → accepts p e ≡ true → (o : Offer) × (p ≡ Accepting o)
+pub accepts-is : (p : Place) (e : ℕ) → accepts p e ≡ true → (o : Offer) × (p ≡ Accepting o)
 accepts-is (Accepting o) e h = (o, refl)
 accepts-is Blank e h = absurd (let z : _≡_ {A = ℕ} 0 1 = cc in omega arith)
 accepts-is Ready e h = absurd (let z : _≡_ {A = ℕ} 0 1 = cc in omega arith)

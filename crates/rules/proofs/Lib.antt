@@ -10,5 +10,8 @@ pub mod OverRuns
 pub mod Ends
 pub mod TimedWait
 pub mod WholeLaws
+pub mod SoundSaid
 pub mod Bounds
+pub mod Dispatch
 pub mod WholeRuns
+pub mod Uses

@@ -93,7 +93,7 @@ packed-pack s h =
 
 -- ── a packed struct is the pack of what it stands for ──
 
-blank-is : (x : Task) → unused x ≡ true → x ≡ blank
+pub blank-is : (x : Task) → unused x ≡ true → x ≡ blank
 blank-is x e =
     let a = eqb (x .priority) 0 in let b = eqb (x .entries) 0 in let c = isBlank (x .place) in
     let t = true-T e in
