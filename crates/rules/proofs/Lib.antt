@@ -15,4 +15,3 @@ pub mod Bounds
 pub mod Dispatch
 pub mod WholeRuns
 pub mod Uses
-pub mod Unique

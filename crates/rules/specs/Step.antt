@@ -3,7 +3,6 @@
 use Prim.Native.Nat.{ℕ, zero, suc, _+_, _^_}
 use mathlib.Core.Bool.{Bool, true, false, not, _&&_}
 use mathlib.Core.List.{List, [], _∷_, _++_, map}
-use lib.IntN.{ℤ, pos, negsuc}
 use lib.ListN.{length}
 use lib.Dec.{eqb, ltb, leb}
 use Rattle.lists.specs.Lists.{if_then_else_, filter, first, last}
@@ -21,6 +20,8 @@ use Rattle.calls.specs.declared.SelectMode.the-variants.{Plain, Else}
 use Rattle.calls.specs.declared.SelectMode.the-variants as S
 use Rattle.calls.specs.declared.Call as C
 use Rattle.calls.specs.declared.Call.the-variants.{Create, Delay, Call, Select, End, Finish, Tick}
+-- a duration's ticks
+pub use Rattle.calls.specs.Duration.{ticks}
 
 -- four numbers of an ended wait or of an answer: task, result, entry, partner
 abbrev pub item : ℕ → ℕ → ℕ → ℕ → Item
@@ -95,11 +96,6 @@ PROGRAM-ERROR = 9
 -- CREATE, END, FINISH and TICK
 abbrev pub DONE : ℕ
 DONE = 10
-
--- a duration is a signed 32-bit number; zero and negative ones mean the same
-abbrev pub ticks : ℤ → ℕ
-ticks (pos n) = if leb n 2147483647 then n else 0
-ticks (negsuc n) = 0
 
 -- ── CREATE ──
 

@@ -1,0 +1,60 @@
+-- Statement 1. Each public operation ends and does nothing undefined on every input, a damaged supervisor state or a garbled
+-- call record included. Bad input gets its refusal number. A refused step returns the state it was given, an empty list of
+-- ended waits, and lent room untouched.
+-- Assumes nothing.
+use Prim.Native.Nat.{ℕ, zero, suc, _<_}
+use mathlib.Core.Path.{_≡_}
+use mathlib.Core.Logic.{_↔_, _⊎_}
+use mathlib.Core.Bool.{Bool, true, false}
+use mathlib.Core.List.{List, [], _∷_}
+use lib.ListN.{length}
+use Rattle.rules.specs.Step.{roomAfter}
+use Rattle.rules.specs.Whole.{soundWhole, stepWhole}
+use Rattle.rules.specs.Questions.{countWhole, callableWhole}
+use Rattle.rules.specs.declared.Supervisor.{Supervisor}
+use Rattle.calls.specs.declared.Call as C
+use Rattle.calls.proofs.read_record.Statement as read-record
+use Rattle.calls.proofs.write_record.Statement as write-record
+use Rattle.supervisor.proofs.empty.Statement as empty
+use Rattle.supervisor.proofs.running.Statement as running
+use Rattle.supervisor.proofs.step.Statement as step
+use Rattle.supervisor.proofs.count.Statement as count
+use Rattle.supervisor.proofs.callable.Statement as callable
+use Rattle.supervisor.proofs.sound.Statement as sound
+use Rattle.statements.specs.Refusals.{Row, rows}
+
+-- row k is the first of the rows that applies
+abbrev pub RowGiven : ℕ → List Row → Type 0
+RowGiven k [] = ⊥
+RowGiven k (r ∷ rs) = ((r .applies ≡ true) × (r .number ≡ k)) ⊎ ((r .applies ≡ false) × RowGiven k rs)
+
+-- a struct whose clock is a 32-bit number, as its type says
+abbrev pub Typed : Supervisor → Type 0
+Typed s = s .clock < 4294967296
+
+-- a step leaves the state as it was, lists no ended wait, and leaves every byte of a lent room as it was
+pub record Unchanged (s : Supervisor) (c : C.Call) (room : List ℕ) : Type 0 where
+  pub state : stepWhole s c (length room) .state ≡ s
+  pub ended : stepWhole s c (length room) .ended ≡ []
+  pub lent : roomAfter room (stepWhole s c (length room) .ended) ≡ room
+
+pub record Statement1 : Type 2 where
+  -- "ends and does nothing undefined on every input": what the gate proves of each public operation, under its name
+  pub read-record : {M : Type 1} → read-record.statement M
+  pub write-record : {M : Type 1} → write-record.statement M
+  pub empty : {M : Type 1} → empty.statement M
+  pub sound : {M : Type 1} → sound.statement M
+  pub running : {M : Type 1} → running.statement M
+  pub step : {M : Type 1} → step.statement M
+  pub count : {M : Type 1} → count.statement M
+  pub callable : {M : Type 1} → callable.statement M
+  -- "bad input gets the refusal number": number k is given exactly when row k of the table is the first that applies
+  pub step-refused : (s : Supervisor) (c : C.Call) (n k : ℕ) → Typed s → 0 < k → (stepWhole s c n .refusal ≡ k) ↔ RowGiven k (rows s c n)
+  -- a question is refused, with 2, exactly when the state is not sound
+  pub count-refused : (s : Supervisor) (t e : ℕ) → (countWhole s t e .refusal ≡ 2) ↔ (soundWhole s ≡ false)
+  pub callable-refused : (s : Supervisor) (t : ℕ) → (callableWhole s t .refusal ≡ 2) ↔ (soundWhole s ≡ false)
+  -- a refused question answers 0 or no
+  pub count-zero : (s : Supervisor) (t e : ℕ) → soundWhole s ≡ false → countWhole s t e .count ≡ 0
+  pub callable-no : (s : Supervisor) (t : ℕ) → soundWhole s ≡ false → callableWhole s t .yes ≡ false
+  -- "a refused step returns the state it was given, an empty list of ended waits, and lent room untouched"
+  pub refused-unchanged : (s : Supervisor) (c : C.Call) (room : List ℕ) → 0 < stepWhole s c (length room) .refusal → Unchanged s c room
