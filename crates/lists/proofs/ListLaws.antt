@@ -12,25 +12,31 @@ use Rattle.lists.specs.Lists.{if_then_else_, bit, filter, remove, insert
 
 -- ── tests ──
 
+-- a test that passes is true
 pub is-true : (b : Bool) → T b → b ≡ true
 is-true true h = refl
 is-true false h = absurd h
 
+-- a test that is true passes
 pub true-T : {b : Bool} → b ≡ true → T b
 true-T e = subst T (sym e) tt
 
+-- the first part of an `and`
 pub and-l : (a b : Bool) → T (a && b) → T a
 and-l true b h = tt
 and-l false b h = h
 
+-- the second part of an `and`
 pub and-r : (a b : Bool) → T (a && b) → T b
 and-r true b h = h
 and-r false b h = absurd h
 
+-- both parts make an `and`
 pub both : (a b : Bool) → T a → T b → T (a && b)
 both true b h k = k
 both false b h k = h
 
+-- a test that is false fails
 pub not-T : {b : Bool} → b ≡ false → T (not b)
 not-T e = subst (λ (b : Bool). T (not b)) (sym e) tt
 
@@ -54,10 +60,12 @@ by-eq u t f g = by-bool (eqb u t) (λ e. f (eqb-true u t e)) (λ e. g (eqb-false
 
 -- ── count ──
 
+-- how often in two lists joined
 pub count-append : (u : ℕ) (l m : List ℕ) → count u (l ++ m) ≡ count u l + count u m
 count-append u [] m = omega arith
 count-append u (x ∷ xs) m = omega (arith, count-append u xs m)
 
+-- who passes the test stays as often
 pub count-filter-yes : (f : ℕ → Bool) (u : ℕ) (l : List ℕ) → f u ≡ true → count u (filter f l) ≡ count u l
 count-filter-yes f u [] h = refl
 count-filter-yes f u (x ∷ xs) h = go (f x) refl (count-filter-yes f u xs h)
@@ -66,6 +74,7 @@ count-filter-yes f u (x ∷ xs) h = go (f x) refl (count-filter-yes f u xs h)
     go true e ih = omega (arith, ih)
     go false e ih = rw (ne-eqb x u (λ q. let z : false ≡ true = sym e ∙ ap f q ∙ h in subst T (sym z) tt)) (omega (arith, ih))
 
+-- who fails it is gone
 pub count-filter-no : (f : ℕ → Bool) (u : ℕ) (l : List ℕ) → f u ≡ false → count u (filter f l) ≡ 0
 count-filter-no f u [] h = refl
 count-filter-no f u (x ∷ xs) h = go (f x) refl (count-filter-no f u xs h)
@@ -74,12 +83,15 @@ count-filter-no f u (x ∷ xs) h = go (f x) refl (count-filter-no f u xs h)
     go true e ih = rw (ne-eqb x u (λ q. let z : false ≡ true = sym h ∙ ap f (sym q) ∙ e in subst T (sym z) tt)) (omega (arith, ih))
     go false e ih = ih
 
+-- t is gone from the list without t
 pub count-remove-same : (t : ℕ) (l : List ℕ) → count t (remove t l) ≡ 0
 count-remove-same t l = count-filter-no (λ x. not (eqb x t)) t l (ap not (eq-eqb t t refl))
 
+-- the others stay
 pub count-remove-other : (t u : ℕ) (l : List ℕ) → (u ≡ t → ⊥) → count u (remove t l) ≡ count u l
 count-remove-other t u l h = count-filter-yes (λ x. not (eqb x t)) u l (ap not (ne-eqb u t h))
 
+-- an inserted number stands once more
 pub count-insert : (f : ℕ → Bool) (t u : ℕ) (l : List ℕ) → count u (insert f t l) ≡ bit (eqb t u) + count u l
 count-insert f t u [] = refl
 count-insert f t u (x ∷ xs) = go (f x) (count-insert f t u xs)
@@ -90,10 +102,12 @@ count-insert f t u (x ∷ xs) = go (f x) (count-insert f t u xs)
 
 -- ── every, by the members ──
 
+-- what holds of all holds of each member
 pub every-at : (g : ℕ → Bool) (l : List ℕ) → T (every g l) → (x : ℕ) → 0 < count x l → T (g x)
 every-at g [] h x k = absurd (omega arith)
 every-at g (y ∷ ys) h x k = by-eq y x (λ e. subst (λ (z : ℕ). T (g z)) e (and-l (g y) (every g ys) h)) (λ n. every-at g ys (and-r (g y) (every g ys) h) x (omega (arith, rw (ne-eqb y x n) at k)))
 
+-- what holds of each member holds of all
 pub every-of : (g : ℕ → Bool) (l : List ℕ) → ((x : ℕ) → 0 < count x l → T (g x)) → T (every g l)
 every-of g [] h = tt
 every-of g (y ∷ ys) h = both (g y) (every g ys) (h y (rw (eq-eqb y y refl) (omega arith))) (every-of g ys (λ x k. h x (omega arith)))
@@ -105,6 +119,7 @@ abbrev pub Ordered : (ℕ → ℕ) → List ℕ → Type 0
 Ordered k [] = Unit {0}
 Ordered k (x ∷ xs) = ((y : ℕ) → 0 < count y xs → k x ≤ k y) × Ordered k xs
 
+-- a list that passes the test of order is in order
 pub ordered-of : (k : ℕ → ℕ) (l : List ℕ) → T (inOrder (λ a b. leb (k a) (k b)) l) → Ordered k l
 ordered-of k [] o = tt
 ordered-of k (x ∷ xs) o =
@@ -112,6 +127,7 @@ ordered-of k (x ∷ xs) o =
     let r = inOrder (λ a b. leb (k a) (k b)) xs in
     (λ y j. leb→le (k x) (k y) (every-at (λ b. leb (k x) (k b)) xs (and-l e r o) y j), ordered-of k xs (and-r e r o))
 
+-- a list in order passes the test
 pub in-order : (k : ℕ → ℕ) (l : List ℕ) → Ordered k l → T (inOrder (λ a b. leb (k a) (k b)) l)
 in-order k [] o = tt
 in-order k (x ∷ xs) o =
@@ -119,6 +135,7 @@ in-order k (x ∷ xs) o =
     (every-of (λ b. leb (k x) (k b)) xs (λ y j. le→leb (k x) (k y) (o .0 y j)))
     (in-order k xs (o .1))
 
+-- a filtered list has nobody more often
 pub count-filter-le : (f : ℕ → Bool) (u : ℕ) (l : List ℕ) → count u (filter f l) ≤ count u l
 count-filter-le f u l = go (f u) refl
   where
@@ -126,6 +143,7 @@ count-filter-le f u l = go (f u) refl
     go true e = omega (arith, count-filter-yes f u l e)
     go false e = omega (arith, count-filter-no f u l e)
 
+-- a filtered list stays in order
 pub ordered-filter : (k : ℕ → ℕ) (g : ℕ → Bool) (l : List ℕ) → Ordered k l → Ordered k (filter g l)
 ordered-filter k g [] o = tt
 ordered-filter k g (x ∷ xs) o =
@@ -175,7 +193,7 @@ at-most (suc n) l h k =
           (λ m. let i = k u (omega (arith, count-remove-other (suc n) u l m)) in (i .0, omega (arith, i .1, m)))),
     )
 
--- lists in which each number stands equally often are equally long
+-- each number stands equally often in both
 abbrev Alike : List ℕ → List ℕ → Type 0
 Alike l m = (u : ℕ) → count u l ≡ count u m
 
@@ -183,6 +201,7 @@ none-alike : (m : List ℕ) → Alike [] m → 0 ≡ length m
 none-alike [] h = refl
 none-alike (y ∷ ys) h = absurd (omega (arith, rw (eq-eqb y y refl) at (h y)))
 
+-- such lists are equally long; n bounds the first one's length
 pub same-length : (n : ℕ) (l m : List ℕ) → length l ≤ n → Alike l m → length l ≡ length m
 same-length zero l m k h = go l k h
   where

@@ -32,7 +32,7 @@ use Rattle.calls.specs.declared.Call as C
 use Rattle.calls.specs.declared.Call.the-variants.{Create, Delay, Call, Select, End, Finish, Tick}
 use Rattle.lists.proofs.ListLaws.{by-eq, by-bool, by-test, and-l, and-r, both, is-true, true-T, count-append, count-filter-yes, count-filter-no, count-filter-le, Ordered, ordered-cong}
 use Rattle.rules.proofs.Invariant.{Lined, Calls, Fits, InTime, Good, GoodAt, Sound}
-use Rattle.rules.proofs.Members.{in-filter, first-in, first-member, some-length, and-true, and-false, in-queue, of-queue, queued-good, queued-there, of-held, in-held, held-there, last-in, there, timed-there, bit-true, nth-beyond, Runs, runs}
+use Rattle.rules.proofs.Members.{in-filter, first-member, some-length, and-true, and-false, in-queue, of-queue, queued-good, queued-there, of-held, in-held, held-there, last-in, there, timed-there, bit-true, nth-beyond, Runs, runs}
 use Rattle.rules.proofs.MoveLaws.{Alike, alike, alike-trans, place-same, place-other, meet-same, meet-other, part-same, part-other, moved, task-same, task-other, length-move}
 use Rattle.rules.specs.Step.{failed, expired, expiry, WAITS, ELAPSED, SERVED, CALL-EXPIRED, TASKING-ERROR, ACCEPTED, DELAY-TAKEN, DONE}
 use Rattle.rules.specs.Runs.{isWaiting, reasons, duration, ticksOf}
