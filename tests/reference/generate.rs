@@ -206,6 +206,12 @@ fn log(random: &mut Random, theme: &Theme, most: usize) -> Log {
     Log { clock, bytes }
 }
 
+/// A call that suits a state.
+pub fn some_call(random: &mut Random, state: &Supervisor) -> Call {
+    let theme = random.below(THEMES.len());
+    next_call(random, &THEMES[theme], state)
+}
+
 /// `logs` logs of at most `calls` calls each.
 pub fn generate(seed: u64, logs: usize, calls: usize) -> Vec<Log> {
     let mut random = Random::new(seed);

@@ -6,6 +6,7 @@ mod damage;
 mod flat;
 mod forge;
 mod generate;
+mod judge;
 mod logs;
 mod numbers;
 mod promises;
@@ -34,6 +35,8 @@ const USAGE: &str = "the reference of the supervisor; it reads standard input wh
   assemble                   writes a file of logs in words as a sequence of logs
   damage SEED N              writes N states of 439 bytes, sound ones and damaged ones
   verdicts                   prints for each state whether it is sound
+  cases SEED N               writes N cases of a state, a call, a length of room and a question
+  judge CASES WRITTEN        fails, with the first difference, if the answers in WRITTEN are not the reference's
   tally-states               prints how many states break each rule; fails if a rule is never broken
 ";
 
@@ -116,6 +119,16 @@ fn tally_states() -> Result<(), String> {
     }
 }
 
+/// Holds the answers of a library against the reference's.
+fn judge(cases: &str, written: &str) -> Result<(), String> {
+    let read = |file: &str| std::fs::read(file).map_err(|e| format!("{file}: {e}"));
+    let cases = read(cases)?;
+    match judge::first_difference(&cases, &read(written)?) {
+        None => output(format!("{} cases are answered alike\n", cases.len() / judge::CASE).as_bytes()),
+        Some(text) => Err(text),
+    }
+}
+
 fn run(words: &[&str]) -> Result<(), String> {
     match words {
         ["stepper"] => output(Log { clock: 0, bytes: input()? }.printed().as_bytes()),
@@ -132,6 +145,8 @@ fn run(words: &[&str]) -> Result<(), String> {
         ["damage", seed, count] => output(&damage::states(number(seed)?, number(count)? as usize).concat()),
         ["verdicts"] => output(states::verdicts(&input()?).as_bytes()),
         ["tally-states"] => tally_states(),
+        ["cases", seed, count] => output(&judge::cases(number(seed)?, number(count)? as usize)),
+        ["judge", cases, written] => judge(cases, written),
         _ => Err(USAGE.to_string()),
     }
 }
