@@ -1,0 +1,62 @@
+use Prim.Native.Nat.{_+_, _-_, _≤_}
+use native.Mathlib.Omega.{arith}
+use borrow.Author.Needs.{needs}
+use mathlib.Core.Path.{_≡_, ap}
+use lib.ListN.{length, drop}
+use Rattle.lists.specs.Line.{line}
+use Rattle.lists.proofs.Turns.{rest-blank, rest-entry, rest-end}
+use Rattle.lines.proofs.len.Statement.{statement}
+use Rattle.lines.proofs.len.Tie as tie
+
+abbrev Inv-loop : tie.InvT-loop
+Inv-loop a i₀ i = (i ≤ 31) × (length (line a) ≡ i + length (line (drop i a)))
+
+abbrev μ-loop : tie.MeasureT-loop
+μ-loop a i₀ i = 31 - i
+
+loop-holds : tie.Need-loop-holds Inv-loop μ-loop
+loop-holds c = omega arith
+
+array-read-if1 : tie.Need-array-read-if1 Inv-loop μ-loop
+array-read-if1 c = search needs
+
+returns : tie.Need-returns Inv-loop μ-loop
+returns c =
+    let a = c .before .before .before .args .t1 in
+    let i = c .before .before .loop .i in
+    let l : length a ≡ 31 = search needs in
+    omega (arith, ap length (rest-blank a i (omega arith) (c .if1 .taken)))
+
+add-i : tie.Need-add-i Inv-loop μ-loop
+add-i c = search needs
+
+loop-less : tie.Need-loop-less Inv-loop μ-loop
+loop-less c = omega arith
+
+loop-again : tie.Need-loop-again Inv-loop μ-loop
+loop-again c =
+    let a = c .before .before .before .args .t1 in
+    let i = c .before .before .loop .i in
+    let l : length a ≡ 31 = search needs in
+    omega (arith, ap length (rest-entry a i (omega arith) (c .if1 .left)))
+
+returns-2 : tie.Need-returns-2 Inv-loop μ-loop
+returns-2 c =
+    let a = c .before .before .args .t1 in
+    let i = c .before .loop .i in
+    let l : length a ≡ 31 = search needs in
+    omega (arith, ap length (rest-end a i (omega arith)))
+
+pub len-spec : {M : Type 1} → statement M
+len-spec =
+    tie.close
+    (tie.spec
+    Inv-loop
+    μ-loop
+    loop-holds
+    array-read-if1
+    returns
+    add-i
+    loop-less
+    loop-again
+    returns-2)

@@ -1,0 +1,162 @@
+// Lines: task numbers in order, and blanks (0) behind them, in an array of 31.
+ghost use mathlib.Core.Path.{_≡_};
+ghost use mathlib.Core.List.{List, [], _∷_, _++_};
+ghost use Prim.Native.Nat.{ℕ};
+ghost use mathlib.Core.Bool.{_&&_};
+ghost use lib.Dec.{ltb};
+ghost use lib.ListN.{length, set};
+ghost use Rattle.lists.specs.Lists.{if_then_else_, remove, rejoin, first, last};
+ghost use Rattle.lists.specs.Line.{line, pad, insertAt, tidy};
+
+// How many stand in the line.
+pub fn len(a: [u8; 31]) -> usize
+    ensures { λ r. ⌜ r ≡ length (line a) ⌝ }
+{
+    for i in 0..31 {
+        if a[i] == 0 {
+            return i;
+        }
+    }
+    31
+}
+
+// The line with t at place `at`, those from there on one place on: at the tail where the line is shorter. Of a full line the last falls off.
+pub fn put_at(a: [u8; 31], at: usize, t: u8) -> [u8; 31]
+    ensures { λ r. ⌜ r ≡ pad (insertAt at t (line a)) ⌝ }
+{
+    let mut r = [0u8; 31];
+    let mut carry = t;
+    for i in 0..31 {
+        let x = a[i];
+        if x == 0 {
+            r[i] = carry;
+            return r;
+        }
+        if i < at {
+            r[i] = x;
+        } else {
+            r[i] = carry;
+            carry = x;
+        }
+    }
+    r
+}
+
+// The line with t at its tail. A full line stays as it is.
+pub fn joined(a: [u8; 31], t: u8) -> [u8; 31]
+    ensures { λ r. ⌜ r ≡ pad (line a ++ (t ∷ [])) ⌝ }
+{
+    put_at(a, 31, t)
+}
+
+// The line without t: those behind it move up.
+pub fn without(a: [u8; 31], t: u8) -> [u8; 31]
+    ensures { λ r. ⌜ r ≡ pad (remove t (line a)) ⌝ }
+{
+    let mut r = [0u8; 31];
+    let mut j: usize = 0;
+    for i in 0..31 {
+        let x = a[i];
+        if x == 0 {
+            return r;
+        }
+        if x != t {
+            r[j] = x;
+            j += 1;
+        }
+    }
+    r
+}
+
+// The first j of r, with t behind them if it joins and there is room.
+fn with_last(r: [u8; 31], j: usize, t: u8, joins: bool) -> [u8; 31]
+    ensures { λ n. ⌜ n ≡ (if joins && ltb j 31 then set r j t else r) ⌝ }
+{
+    let mut n = r;
+    if joins & (j < 31) {
+        n[j] = t;
+    }
+    n
+}
+
+// The line without t, and with t at its end if it belongs there now.
+pub fn rejoined(a: [u8; 31], t: u8, joins: bool) -> [u8; 31]
+    ensures { λ r. ⌜ r ≡ pad (rejoin joins t (line a)) ⌝ }
+{
+    let mut r = [0u8; 31];
+    let mut j: usize = 0;
+    for i in 0..31 {
+        let x = a[i];
+        if x == 0 {
+            return with_last(r, j, t, joins);
+        }
+        if x != t {
+            r[j] = x;
+            j += 1;
+        }
+    }
+    with_last(r, j, t, joins)
+}
+
+// The line laid out afresh: what stood behind a blank is gone.
+fn tidied(a: [u8; 31]) -> [u8; 31]
+    ensures { λ r. ⌜ r ≡ pad (line a) ⌝ }
+{
+    joined(a, 0)
+}
+
+// Line b behind line a, as far as there is room.
+pub fn joined_all(a: [u8; 31], b: [u8; 31]) -> [u8; 31]
+    ensures { λ r. ⌜ r ≡ pad (line a ++ line b) ⌝ }
+{
+    let mut r = tidied(a);
+    let mut j = len(a);
+    for i in 0..31 {
+        let x = b[i];
+        if x == 0 {
+            return r;
+        }
+        if 31 <= j {
+            return r;
+        }
+        r[j] = x;
+        j += 1;
+    }
+    r
+}
+
+// The first of the line, 0 where there is none.
+pub fn first_of(a: [u8; 31]) -> u8
+    ensures { λ r. ⌜ r ≡ first (line a) ⌝ }
+{
+    a[0]
+}
+
+// The last of the line, 0 where there is none.
+pub fn last_of(a: [u8; 31]) -> u8
+    ensures { λ r. ⌜ r ≡ last (line a) ⌝ }
+{
+    let n = len(a);
+    if n == 0 {
+        return 0;
+    }
+    if n > 31 {
+        return 0;
+    }
+    a[n - 1]
+}
+
+// Whether all that stands behind the first blank is blank.
+pub fn is_tidy(a: [u8; 31]) -> bool
+    ensures { λ r. ⌜ r ≡ tidy a ⌝ }
+{
+    let mut ended = false;
+    for i in 0..31 {
+        if a[i] == 0 {
+            ended = true;
+        } else if ended {
+            return false;
+        }
+    }
+    true
+}

@@ -1,0 +1,25 @@
+-- Tests taken apart: by cases on a test or on the way that control came, both parts of an `and`.
+-- Assumes nothing.
+use mathlib.Core.Path.{_≡_, refl}
+use mathlib.Core.Logic.{_⊎_, inl, inr}
+use mathlib.Core.Bool.{Bool, true, false, _&&_, false≢true}
+
+-- by cases on a test, with what it came to
+pub cases : {G : Type 0} (b : Bool) → (b ≡ true → G) → (b ≡ false → G) → G
+cases true f g = f refl
+cases false f g = g refl
+
+-- by cases on the way that control came: the sum first, so that antt knows each way's facts
+pub ways : {A B G : Type 0} → A ⊎ B → (A → G) → (B → G) → G
+ways (inl a) f g = f a
+ways (inr b) f g = g b
+
+-- the first part of an `and` that is true
+pub and-first : (a b : Bool) → (a && b) ≡ true → a ≡ true
+and-first true b h = refl
+and-first false b h = h
+
+-- the second part of an `and` that is true
+pub and-second : (a b : Bool) → (a && b) ≡ true → b ≡ true
+and-second true b h = h
+and-second false b h = absurd (false≢true h)

@@ -1,0 +1,136 @@
+-- What a turn of a loop over a line knows: what is left of the line from place i on, and an array that is filled from the front.
+-- Assumes nothing.
+use Prim.Native.Nat.{ℕ, zero, suc, _+_, _≤_, _<_}
+use native.Mathlib.Numerals.{add-one}
+use native.Mathlib.Nat.{le-of-suc-le-suc, not-suc-le-zero}
+use native.Mathlib.Omega.{arith}
+use mathlib.Core.Path.{_≡_, refl, sym, ap, _∙_, subst}
+use mathlib.Core.Bool.{Bool, true, false}
+use mathlib.Core.List.{List, [], _∷_, _++_, append-nil}
+use borrow.Author.Tests.{ne-eqb}
+use lib.ListN.{length, replicate, take, drop, getD, set, drop-of-length-le}
+use lib.Seq.{take-suc, drop-cons, take-suc-set, take-all, length-take-le, append-snoc}
+use Rattle.lists.specs.Lists.{if_then_else_, filter}
+use Rattle.lists.specs.Line.{line, pad, padTo, insertAt, slotOf, blanks, tidy}
+use Rattle.lists.proofs.LineLaws.{take-pad, length-padTo, padTo-full}
+
+-- ---- reading: the entries from place i on
+
+-- from a blank on there is nothing
+pub rest-blank : (a : List ℕ) (i : ℕ) → i < length a → getD a i 0 ≡ 0 → line (drop i a) ≡ []
+rest-blank a i l e = rw (drop-cons a i 0 l, e)
+
+-- from a number on there is the number and the rest
+pub rest-entry : (a : List ℕ) (i : ℕ) → i < length a → (getD a i 0 ≡ 0 → ⊥) → line (drop i a) ≡ getD a i 0 ∷ line (drop (i + 1) a)
+rest-entry a i l n = rw (drop-cons a i 0 l, add-one i) (entry (getD a i 0) n)
+  where
+    entry : (x : ℕ) → (x ≡ 0 → ⊥) → line (x ∷ drop (suc i) a) ≡ x ∷ line (drop (suc i) a)
+    entry zero n = absurd (n refl)
+    entry (suc x) n = refl
+
+-- from the end on there is nothing
+pub rest-end : (a : List ℕ) (i : ℕ) → length a ≤ i → line (drop i a) ≡ []
+rest-end a i l = ap line (drop-of-length-le a l)
+
+-- ---- writing: an array that holds its first j entries and blanks behind them, `r ≡ pad (take j r)`
+
+set-padTo : (n : ℕ) (xs : List ℕ) (x : ℕ) → length xs < n → set (padTo n xs) (length xs) x ≡ padTo n (xs ++ (x ∷ []))
+unfolding padTo
+set-padTo zero xs x l = absurd (not-suc-le-zero l)
+set-padTo (suc n) [] x l = refl
+set-padTo (suc n) (y ∷ xs) x l = ap (λ (r : List ℕ). y ∷ r) (set-padTo n xs x (le-of-suc-le-suc l))
+
+-- such an array has 31 places
+pub length-filled : (r : List ℕ) (j : ℕ) → r ≡ pad (take j r) → length r ≡ 31
+unfolding pad
+length-filled r j e = ap length e ∙ length-padTo 31 (take j r)
+
+-- an array of zeros has none yet
+pub fill-none : replicate 31 0 ≡ pad (take 0 (replicate 31 0))
+unfolding pad padTo
+fill-none = refl
+
+-- a store at place j adds an entry
+pub fill : (r : List ℕ) (j x : ℕ) → j < 31 → r ≡ pad (take j r) → set r j x ≡ pad (take (j + 1) (set r j x))
+unfolding pad
+fill r j x l e =
+    let n = length-filled r j e in
+    let k : length (take j r) ≡ j = length-take-le j r (omega arith) in
+    rw (add-one j, take-suc-set r j x (omega arith))
+    (ap (λ (s : List ℕ). set s j x) e ∙ subst (λ (m : ℕ). set (pad (take j r)) m x ≡ pad (take j r ++ (x ∷ []))) k (set-padTo 31 (take j r) x (omega arith)))
+
+-- the front after a store
+pub fill-front : (r : List ℕ) (j x : ℕ) (ys : List ℕ) → j < 31 → r ≡ pad (take j r) → take (j + 1) (set r j x) ++ ys ≡ take j r ++ (x ∷ ys)
+fill-front r j x ys l e =
+    let n = length-filled r j e in
+    rw (add-one j, take-suc-set r j x (omega arith)) (append-snoc (take j r) x ys)
+
+-- what is left is nothing
+pub filled : (r : List ℕ) (j : ℕ) → r ≡ pad (take j r) → pad (take j r ++ []) ≡ r
+filled r j e = ap pad (append-nil (take j r)) ∙ sym e
+
+-- the last store
+pub fill-last : (r : List ℕ) (j x : ℕ) → j < 31 → r ≡ pad (take j r) → set r j x ≡ pad (take j r ++ (x ∷ []))
+fill-last r j x l e = sym (filled (set r j x) (j + 1) (fill r j x l e)) ∙ ap pad (fill-front r j x [] l e)
+
+-- there is no room left
+pub filled-up : (r : List ℕ) (j : ℕ) (ys : List ℕ) → 31 ≤ j → r ≡ pad (take j r) → pad (take j r ++ ys) ≡ r
+unfolding pad
+filled-up r j ys h e =
+    let l = length-filled r j e in
+    ap (λ (s : List ℕ). pad (s ++ ys)) (take-all j r (omega arith)) ∙ padTo-full 31 r ys l
+
+-- ---- insertion at the front
+
+-- place 0 is the front
+pub insert-front : (x : ℕ) (xs : List ℕ) → insertAt 0 x xs ≡ x ∷ xs
+insert-front x [] = refl
+insert-front x (y ∷ ys) = refl
+
+-- ---- blanks behind the line
+
+-- a blank: look on
+pub blank-on : (a : List ℕ) (i : ℕ) → i < length a → getD a i 0 ≡ 0 → blanks (drop i a) ≡ blanks (drop (i + 1) a)
+blank-on a i l e = rw (drop-cons a i 0 l, add-one i, e)
+
+-- a number: not blank
+pub blank-off : (a : List ℕ) (i : ℕ) → i < length a → (getD a i 0 ≡ 0 → ⊥) → blanks (drop i a) ≡ false
+blank-off a i l n = simp (drop-cons a i 0 l, ne-eqb (getD a i 0) 0 n)
+
+-- the first blank: the rest must be blank
+pub tidy-end : (a : List ℕ) (i : ℕ) → i < length a → getD a i 0 ≡ 0 → tidy (drop i a) ≡ blanks (drop (i + 1) a)
+tidy-end a i l e = rw (drop-cons a i 0 l, add-one i, e)
+
+-- a number: look on
+pub tidy-on : (a : List ℕ) (i : ℕ) → i < length a → (getD a i 0 ≡ 0 → ⊥) → tidy (drop i a) ≡ tidy (drop (i + 1) a)
+tidy-on a i l n = rw (drop-cons a i 0 l, add-one i) (entry (getD a i 0) n)
+  where
+    entry : (x : ℕ) → (x ≡ 0 → ⊥) → tidy (x ∷ drop (suc i) a) ≡ tidy (drop (suc i) a)
+    entry zero n = absurd (n refl)
+    entry (suc x) n = refl
+
+-- ---- an array that another function laid out
+
+-- its front is what was laid out
+pub laid : (r : List ℕ) (j : ℕ) (xs : List ℕ) → length xs ≤ 31 → r ≡ pad xs → j ≡ length xs → take j r ≡ xs
+laid r j xs l e n = rw (e, n) (take-pad xs l)
+
+-- it holds its front and blanks behind it
+pub laid-out : (r : List ℕ) (j : ℕ) (xs : List ℕ) → length xs ≤ 31 → r ≡ pad xs → j ≡ length xs → r ≡ pad (take j r)
+laid-out r j xs l e n = e ∙ ap pad (sym (laid r j xs l e n))
+
+-- one turn of picking, over plain lists: what a turn's `simp` would do over the long paths of `c`, done once
+pub pick-on : (p : ℕ → Bool) (r : List ℕ) (j x : ℕ) (xs ys : List ℕ) → j < 31 → r ≡ pad (take j r) → xs ≡ x ∷ ys → p x ≡ true → pad (take j r ++ filter p xs) ≡ pad (take (j + 1) (set r j x) ++ filter p ys)
+pick-on p r j x xs ys l e q h = simp (q, h, fill-front r j x (filter p ys) l e)
+
+-- one turn of picking where the number fails the test
+pub pick-off : (p : ℕ → Bool) (x : ℕ) (xs ys zs : List ℕ) → xs ≡ x ∷ ys → p x ≡ false → pad (zs ++ filter p xs) ≡ pad (zs ++ filter p ys)
+pick-off p x xs ys zs q h = simp (q, h)
+
+-- the place of the first that passes
+pub slot-hit : (f : ℕ → Bool) (x : ℕ) (xs ys : List ℕ) → xs ≡ x ∷ ys → f x ≡ true → slotOf f xs ≡ 0
+slot-hit f x xs ys q h = simp (q, h)
+
+-- the place is further on
+pub slot-on : (f : ℕ → Bool) (x : ℕ) (xs ys : List ℕ) → xs ≡ x ∷ ys → f x ≡ false → slotOf f xs ≡ suc (slotOf f ys)
+slot-on f x xs ys q h = simp (q, h)

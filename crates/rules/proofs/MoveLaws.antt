@@ -1,0 +1,268 @@
+-- A move keeps soundness: proved once, and every step is made of moves.
+-- Assumes nothing.
+use Prim.Native.Nat.{ℕ, zero, suc, _+_, _≤_, _<_, _^_}
+use mathlib.Core.Path.{_≡_, refl, sym, _∙_, ap, subst}
+use mathlib.Core.Bool.{Bool, true, false, not, _&&_, _||_}
+use mathlib.Core.List.{List, [], _∷_, _++_}
+use native.Mathlib.Omega.{arith}
+use lib.ListN.{length, getD, set, length-set}
+use lib.Seq.{getD-set-same, getD-set-other}
+use lib.Dec.{T, eqb, ltb, leb}
+use borrow.Author.Tests.{eqb-true, eqb-false, eq-eqb, ne-eqb}
+use Rattle.lists.specs.Lists.{bit, count, every, inOrder, downFrom, remove, insert, rejoin}
+use Rattle.rules.specs.State.{State, blank, nth, setNth, taskOf, placeOf, timerOf, created, isTask, isReady, isQueued, isHeld, isCompleted, partnerOf, entryOf, accepts, hasTime, ticksLeft, left, retime, placed, move, meet, part, meeting, wake, opens}
+use Rattle.rules.specs.Sound.{inRange, calls, fits, timeInRange}
+use Rattle.rules.specs.declared.Task.{Task}
+use Rattle.rules.specs.declared.Timer.{Timer}
+use Rattle.rules.specs.declared.Timer.the-variants.{Off, Due}
+use Rattle.rules.specs.declared.Waiting.{Waiting}
+use Rattle.rules.specs.declared.Meeting.{Meeting}
+use Rattle.rules.specs.declared.Offer.{Offer}
+use Rattle.rules.specs.declared.Place.{Place}
+use Rattle.rules.specs.declared.Place.the-variants.{Blank, Ready, Delayed, Queued, Held, Accepting, Completed}
+use Rattle.lists.proofs.ListLaws.{by-eq, by-test, and-l, and-r, both, count-append, count-remove-same, count-remove-other, count-insert, Ordered, ordered-filter, ordered-cong, ordered-insert}
+use Rattle.rules.proofs.Invariant.{Lined, Timed, Calls, Fits, InTime, InRange, Good, GoodAt, Sound}
+
+-- ── the tasks after one is set ──
+
+pub nth-set-same : (l : List Task) (t : ℕ) (x : Task) → 0 < t → t ≤ length l → nth (setNth l t x) t ≡ x
+nth-set-same l zero x h k = absurd (omega arith)
+nth-set-same l (suc t) x h k = getD-set-same l t x blank (omega arith)
+
+pub nth-set-other : (l : List Task) (t : ℕ) (x : Task) (u : ℕ) → (u ≡ t → ⊥) → nth (setNth l t x) u ≡ nth l u
+nth-set-other l zero x u n = refl
+nth-set-other l (suc t) x zero n = refl
+nth-set-other l (suc t) x (suc u) n = getD-set-other l t u x blank (λ e. n (ap suc e))
+
+pub length-setNth : (l : List Task) (t : ℕ) (x : Task) → length (setNth l t x) ≡ length l
+length-setNth l zero x = refl
+length-setNth l (suc t) x = length-set l t x
+
+-- ── the lines ──
+
+module _ (ts : List Task) (t : ℕ) (x : Task) (pos : 0 < t) (fit : t ≤ length ts) where
+  rejoin-count : (b : Bool) (u : ℕ) (l : List ℕ) → (u ≡ t → ⊥) → count u (rejoin b t l) ≡ count u l
+  rejoin-count true u l n = count-append u (remove t l) (t ∷ []) ∙ rw (count-remove-other t u l n, ne-eqb t u (λ e. n (sym e))) (omega arith)
+  rejoin-count false u l n = count-remove-other t u l n
+
+  rejoin-self : (b : Bool) (l : List ℕ) → count t (rejoin b t l) ≡ bit b
+  rejoin-self true l = count-append t (remove t l) (t ∷ []) ∙ rw (count-remove-same t l, eq-eqb t t refl)
+  rejoin-self false l = count-remove-same t l
+
+  pub lined-move : (P : Place → Bool) (l : List ℕ) → Lined P ts l → Lined P (setNth ts t x) (rejoin (P (x .place)) t l)
+  lined-move P l h u =
+      by-eq u t
+      (λ e. rw (e, nth-set-same ts t x pos fit) (rejoin-self (P (x .place)) l))
+      (λ n. rw (nth-set-other ts t x u n, rejoin-count (P (x .place)) u l n) (h u))
+
+  retime-count : (now : ℕ) (w : Timer) (u : ℕ) (l : List ℕ) → (u ≡ t → ⊥) → count u (retime now ts w t l) ≡ count u l
+  retime-count now Off u l n = count-remove-other t u l n
+  retime-count now (Due d) u l n = count-insert _ t u (remove t l) ∙ rw (count-remove-other t u l n, ne-eqb t u (λ e. n (sym e))) (omega arith)
+
+  retime-self : (now : ℕ) (w : Timer) (l : List ℕ) → count t (retime now ts w t l) ≡ bit (hasTime w)
+  retime-self now Off l = count-remove-same t l
+  retime-self now (Due d) l = count-insert _ t t (remove t l) ∙ rw (count-remove-same t l, eq-eqb t t refl)
+
+  pub timed-move : (now : ℕ) (l : List ℕ) → Timed ts l → Timed (setNth ts t x) (retime now ts (x .timer) t l)
+  timed-move now l h u =
+      by-eq u t
+      (λ e. rw (e, nth-set-same ts t x pos fit) (retime-self now (x .timer) l))
+      (λ n. rw (nth-set-other ts t x u n, retime-count now (x .timer) u l n) (h u))
+
+  pub order-move : (now : ℕ) (l : List ℕ) → Ordered (λ u. ticksLeft now (nth ts u .timer)) l
+      → Ordered (λ u. ticksLeft now (nth (setNth ts t x) u .timer)) (retime now ts (x .timer) t l)
+  order-move now l o = go (x .timer) refl
+    where
+      key : ℕ → ℕ
+      key u = ticksLeft now (nth (setNth ts t x) u .timer)
+
+      other : (u : ℕ) → 0 < count u (remove t l) → u ≡ t → ⊥
+      other u j e = omega (arith, count-remove-same t l, rw e at j)
+
+      same : (u : ℕ) → 0 < count u (remove t l) → ticksLeft now (nth ts u .timer) ≡ key u
+      same u j = rw (nth-set-other ts t x u (other u j))
+
+      kept : Ordered key (remove t l)
+      kept =
+          ordered-cong (λ u. ticksLeft now (nth ts u .timer)) key (remove t l) (λ u v i j h. omega (arith, h, same u i, same v j))
+          (ordered-filter (λ u. ticksLeft now (nth ts u .timer)) (λ u. not (eqb u t)) l o)
+
+      go : (w : Timer) → x .timer ≡ w → Ordered key (retime now ts w t l)
+      go Off e = kept
+      go (Due d) e =
+          ordered-insert key (λ u. ltb (left now d) (ticksLeft now (nth ts u .timer))) t (remove t l)
+          (λ u j. rw (same u j, nth-set-same ts t x pos fit, e)) kept
+
+  -- whoever has called t is still right to
+  abbrev pub Welcome : Type 0
+  Welcome = (u : ℕ) → (u ≡ t → ⊥) → partnerOf (nth ts u .place) ≡ t
+      → Fits (nth ts u) (nth ts t) (nth ts u .place) (nth ts u .timer) → Fits (nth ts u) x (nth ts u .place) (nth ts u .timer)
+
+  pub good-move : (now u : ℕ) → Welcome → (u ≡ t → ⊥) → GoodAt now ts u → GoodAt now (setNth ts t x) u
+  good-move now u h n k =
+      rw (nth-set-other ts t x u n)
+      (by-eq (partnerOf (nth ts u .place)) t
+      (λ e. record { numbers = k .numbers; place = rw (e, nth-set-same ts t x pos fit) (h u n e (rw e at (k .place))); time = k .time })
+      (λ m. rw (nth-set-other ts t x (partnerOf (nth ts u .place)) m) k))
+
+-- in the same place, with the same time
+pub record Alike (x y : Task) : Type 0 where
+  pub place : y .place ≡ x .place
+  pub timer : y .timer ≡ x .timer
+
+pub alike : {x y : Task} → y ≡ x → Alike x y
+alike e = record { place = ap (λ (z : Task). z .place) e; timer = ap (λ (z : Task). z .timer) e }
+
+pub alike-trans : {x y z : Task} → Alike x y → Alike y z → Alike x z
+alike-trans a b = record { place = b .place ∙ a .place; timer = b .timer ∙ a .timer }
+
+-- ── the move ──
+
+-- task t as it is after its move
+abbrev pub moved : State → ℕ → Place → Timer → Task
+moved s t p w = placed (taskOf s t) p w
+
+module _ (s : State) (t : ℕ) (p : Place) (w : Timer) where
+  pub task-same : 0 < t → t ≤ length (s .tasks) → taskOf (move s t p w) t ≡ moved s t p w
+  task-same pos fit = nth-set-same (s .tasks) t (moved s t p w) pos fit
+
+  pub task-other : (u : ℕ) → (u ≡ t → ⊥) → taskOf (move s t p w) u ≡ taskOf s u
+  task-other u n = nth-set-other (s .tasks) t (moved s t p w) u n
+
+  pub place-same : 0 < t → t ≤ length (s .tasks) → placeOf (move s t p w) t ≡ p
+  place-same pos fit = ap (λ (x : Task). x .place) (task-same pos fit)
+
+  pub place-other : (u : ℕ) → (u ≡ t → ⊥) → placeOf (move s t p w) u ≡ placeOf s u
+  place-other u n = ap (λ (x : Task). x .place) (task-other u n)
+
+  pub length-move : length (move s t p w .tasks) ≡ length (s .tasks)
+  length-move = length-setNth (s .tasks) t (moved s t p w)
+
+numbers-placed : {x : Task} {p : Place} {w : Timer} → InRange x → InRange (placed x p w)
+numbers-placed n = record { low = n .low; high = n .high; few = n .few }
+
+module _ (s : State) (t : ℕ) (p : Place) (w : Timer) (pos : 0 < t) (fit : t ≤ length (s .tasks)) where
+  pub move-sound : Sound s → Fits (moved s t p w) (taskOf (move s t p w) (partnerOf p)) p w → InTime (s .clock) w
+      → Welcome (s .tasks) t (moved s t p w) pos fit → Sound (move s t p w)
+  move-sound h f i k = record {
+    clock = h .clock;
+    few = omega (arith, h .few, length-setNth (s .tasks) t (moved s t p w));
+    good = λ u a b. by-eq u t
+        (λ e. rw (e, nth-set-same (s .tasks) t (moved s t p w) pos fit) (record { numbers = numbers-placed (h .good t pos fit .numbers); place = f; time = i }))
+        (λ n. good-move (s .tasks) t (moved s t p w) pos fit (s .clock) u k n (h .good u a (omega (arith, b, length-setNth (s .tasks) t (moved s t p w)))));
+    ready = lined-move (s .tasks) t (moved s t p w) pos fit isReady (s .ready) (h .ready);
+    callers = lined-move (s .tasks) t (moved s t p w) pos fit isQueued (s .callers) (h .callers);
+    held = lined-move (s .tasks) t (moved s t p w) pos fit isHeld (s .held) (h .held);
+    delays = timed-move (s .tasks) t (moved s t p w) pos fit (s .clock) (s .delays) (h .delays);
+    order = order-move (s .tasks) t (moved s t p w) pos fit (s .clock) (s .delays) (h .order);
+  }
+
+-- a place in which a task neither has completed nor accepts: whoever has called it may stay
+pub welcome-plain : (ts : List Task) (t : ℕ) (x : Task) (pos : 0 < t) (fit : t ≤ length ts) → x .entries ≡ nth ts t .entries
+    → isCompleted (x .place) ≡ false → ((e : ℕ) → accepts (x .place) e ≡ false) → Welcome ts t x pos fit
+welcome-plain ts t x pos fit en nc na u n g h = go (nth ts u .place) h
+  where
+    kept : (e : ℕ) → Calls (nth ts t) e → Calls x e
+    kept e c = record { low = c .low; high = omega (arith, c .high, en); alive = nc }
+
+    go : (p : Place) → Fits (nth ts u) (nth ts t) p (nth ts u .timer) → Fits (nth ts u) x p (nth ts u .timer)
+    go Blank f = f
+    go Ready f = f
+    go Delayed f = f
+    go (Queued q) f = (kept (q .entry) (f .0), na (q .entry))
+    go (Held m) f = (kept (m .entry) (f .0), f .1)
+    go (Accepting o) f = f
+    go Completed f = f
+
+-- ── the moves that steps are made of ──
+
+pub wake-sound : (s : State) (t : ℕ) → 0 < t → t ≤ length (s .tasks) → Sound s → Sound (wake s t)
+wake-sound s t pos fit h = move-sound s t Ready Off pos fit h refl tt (welcome-plain (s .tasks) t (moved s t Ready Off) pos fit refl refl (λ e. refl))
+
+pub delay-sound : (s : State) (t d : ℕ) → 0 < t → t ≤ length (s .tasks) → Sound s → InTime (s .clock) (Due d) → Sound (move s t Delayed (Due d))
+delay-sound s t d pos fit h i =
+    move-sound s t Delayed (Due d) pos fit h refl i (welcome-plain (s .tasks) t (moved s t Delayed (Due d)) pos fit refl refl (λ e. refl))
+
+-- the called task, if it is t itself, has not changed in what a call asks of it
+calls-after : (s : State) (t g e : ℕ) (p : Place) (w : Timer) → 0 < t → t ≤ length (s .tasks) → isCompleted p ≡ false → Calls (taskOf s g) e → Calls (taskOf (move s t p w) g) e
+calls-after s t g e p w pos fit nc c =
+    by-eq g t
+    (λ q. rw (q, nth-set-same (s .tasks) t (moved s t p w) pos fit) (record { low = c .low; high = rw q at (c .high); alive = nc }))
+    (λ n. rw (nth-set-other (s .tasks) t (moved s t p w) g n) c)
+
+accepts-after : (s : State) (t g e : ℕ) (p : Place) (w : Timer) → 0 < t → t ≤ length (s .tasks) → accepts p e ≡ false → accepts (placeOf s g) e ≡ false → accepts (placeOf (move s t p w) g) e ≡ false
+accepts-after s t g e p w pos fit a b =
+    by-eq g t
+    (λ q. rw (q, place-same s t p w pos fit) a)
+    (λ n. rw (place-other s t p w g n) b)
+
+pub queue-sound : (s : State) (t : ℕ) (q : Waiting) (w : Timer) → 0 < t → t ≤ length (s .tasks) → Sound s
+    → Calls (taskOf s (q .target)) (q .entry) → accepts (placeOf s (q .target)) (q .entry) ≡ false → InTime (s .clock) w
+    → Sound (move s t (Queued q) w)
+queue-sound s t q w pos fit h c a i =
+    move-sound s t (Queued q) w pos fit h
+    (calls-after s t (q .target) (q .entry) (Queued q) w pos fit refl c, accepts-after s t (q .target) (q .entry) (Queued q) w pos fit refl a)
+    i (welcome-plain (s .tasks) t (moved s t (Queued q) w) pos fit refl refl (λ e. refl))
+
+-- ── a rendezvous begins and ends ──
+
+pub hold-sound : (s : State) (t : ℕ) (m : Meeting) → 0 < t → t ≤ length (s .tasks) → Sound s → Calls (taskOf s (m .holder)) (m .entry) → Sound (move s t (Held m) Off)
+hold-sound s t m pos fit h c =
+    move-sound s t (Held m) Off pos fit h
+    (calls-after s t (m .holder) (m .entry) (Held m) Off pos fit refl c, refl) tt
+    (welcome-plain (s .tasks) t (moved s t (Held m) Off) pos fit refl refl (λ e. refl))
+
+module _ (s : State) (g c : ℕ) (low : 0 < g) (high : g ≤ length (s .tasks)) (pos : 0 < c) (fit : c ≤ length (s .tasks)) where
+  module _ (e : ℕ) where
+    pub meet-sound : Sound s → Calls (taskOf s g) e → Sound (meet s g c e)
+    meet-sound h k = hold-sound s c (meeting s g e) pos fit h k
+
+    pub meet-same : placeOf (meet s g c e) c ≡ Held (meeting s g e)
+    meet-same = place-same s c (Held (meeting s g e)) Off pos fit
+
+    pub meet-other : (u : ℕ) → (u ≡ c → ⊥) → Alike (taskOf s u) (taskOf (meet s g c e) u)
+    meet-other u n = alike (task-other s c (Held (meeting s g e)) Off u n)
+
+  pub part-sound : (m : Meeting) → placeOf s c ≡ Held m → Sound s → Sound (part s g c)
+  part-sound m q h = wake-sound s c pos fit h
+
+  pub part-same : placeOf (part s g c) c ≡ Ready
+  part-same = place-same s c Ready Off pos fit
+
+  pub part-other : (u : ℕ) → (u ≡ c → ⊥) → Alike (taskOf s u) (taskOf (part s g c) u)
+  part-other u n = alike (task-other s c Ready Off u n)
+
+-- t accepts, where nobody is queued on an open entry
+pub accept-sound : (s : State) (t : ℕ) (o : Offer) (w : Timer) → 0 < t → t ≤ length (s .tasks) → Sound s → o .opens < 2 ^ (taskOf s t .entries) → (o .opens ≡ 0 → hasTime w ≡ true) → InTime (s .clock) w
+    → ((u : ℕ) (q : Waiting) → placeOf s u ≡ Queued q → q .target ≡ t → opens (o .opens) (q .entry) ≡ false) → Sound (move s t (Accepting o) w)
+accept-sound s t o w pos fit h b z i q =
+    move-sound s t (Accepting o) w pos fit h (b, z) i (λ u n g f. go u (placeOf s u) refl g f)
+  where
+    x : Task
+    x = moved s t (Accepting o) w
+
+    go : (u : ℕ) (p : Place) → placeOf s u ≡ p → partnerOf p ≡ t → Fits (taskOf s u) (taskOf s t) p (taskOf s u .timer) → Fits (taskOf s u) x p (taskOf s u .timer)
+    go u Blank e g f = f
+    go u Ready e g f = f
+    go u Delayed e g f = f
+    go u (Queued a) e g f = (record { low = f .0 .low; high = f .0 .high; alive = refl }, q u a e g)
+    go u (Held m) e g f = (record { low = f .0 .low; high = f .0 .high; alive = refl }, f .1)
+    go u (Accepting a) e g f = f
+    go u Completed e g f = f
+
+-- t completes, where nobody is queued on it or held by it
+pub complete-sound : (s : State) (t : ℕ) → 0 < t → t ≤ length (s .tasks) → Sound s
+    → ((u : ℕ) (q : Waiting) → placeOf s u ≡ Queued q → q .target ≡ t → ⊥) → ((u : ℕ) (m : Meeting) → placeOf s u ≡ Held m → m .holder ≡ t → ⊥) → Sound (move s t Completed Off)
+complete-sound s t pos fit h q r = move-sound s t Completed Off pos fit h refl tt (λ u n g f. go u (placeOf s u) refl g f)
+  where
+    x : Task
+    x = moved s t Completed Off
+
+    go : (u : ℕ) (p : Place) → placeOf s u ≡ p → partnerOf p ≡ t → Fits (taskOf s u) (taskOf s t) p (taskOf s u .timer) → Fits (taskOf s u) x p (taskOf s u .timer)
+    go u Blank e g f = f
+    go u Ready e g f = f
+    go u Delayed e g f = f
+    go u (Queued a) e g f = absurd (q u a e g)
+    go u (Held m) e g f = absurd (r u m e g)
+    go u (Accepting a) e g f = f
+    go u Completed e g f = f

@@ -1,0 +1,201 @@
+-- The struct of the code and the state of the rules: a step of the one is a step of the other.
+-- Assumes nothing.
+use Prim.Native.Nat.{ℕ, zero, suc, _+_, _-_, _≤_, _<_}
+use mathlib.Core.Path.{_≡_, refl, sym, _∙_, ap, subst}
+use mathlib.Core.Bool.{Bool, true, false, not, _&&_, _||_}
+use mathlib.Core.List.{List, [], _∷_, _++_, map}
+use native.Mathlib.Omega.{arith}
+use lib.ListN.{length, take, drop, replicate, length-drop, take-append-drop}
+use Rattle.lists.specs.Line.{line, pad, tidy}
+use Rattle.lists.proofs.LineLaws.{line-pad, tidy-pad, pad-tidy}
+use lib.Seq.{take-append-seam, drop-append-seam, length-take-le}
+use lib.Dec.{T, eqb, ltb, leb}
+use borrow.Author.Tests.{eqb-true, eqb-false, eq-eqb, ne-eqb, leb-true, leb-false, le-leb}
+use Rattle.lists.specs.Lists.{if_then_else_, bit, count, filter, remove, every}
+use Rattle.rules.specs.State.{State, blank, nth, created, isReady, isQueued, isHeld, hasTime, running}
+use Rattle.rules.specs.Sound.{sound}
+use Rattle.rules.specs.Step.{Outcome, refused, took, Refusal, SHORT-ROOM, BAD-STATE, takeCall}
+use Rattle.rules.specs.Whole.{view, pack, isBlank, isOff, unused, packed, soundWhole, Whole, decline, done, stepWhole}
+use Rattle.rules.specs.declared.Supervisor.{Supervisor}
+use Rattle.calls.specs.declared.Call as C
+use Rattle.rules.specs.declared.Task.{Task}
+use Rattle.lists.proofs.ListLaws.{by-eq, by-bool, by-test, true-T, is-true, and-l, and-r}
+pub use Rattle.lists.proofs.ListLaws.{at-most}
+use Rattle.rules.proofs.Invariant.{Sound}
+use Rattle.rules.proofs.Members.{nth-beyond}
+use Rattle.rules.specs.declared.Place.{Place}
+use Rattle.rules.specs.declared.Place.the-variants.{Blank, Ready, Delayed, Queued, Held, Accepting, Completed}
+use Rattle.rules.specs.declared.Timer.{Timer}
+use Rattle.rules.specs.declared.Timer.the-variants.{Off, Due}
+use Rattle.rules.proofs.SoundTest.{sound-test}
+use Rattle.rules.specs.State.{empty}
+use Rattle.rules.specs.Runs.{Ask, Given, Entry, viewed, entryWhole, logWhole, reachWhole}
+use Rattle.rules.proofs.StateRuns.{stepped, step, entry, logOf, reach}
+use Rattle.rules.proofs.OverRuns.{step-sound, empty-sound, reach-sound}
+
+-- ── a line has no more places than there are tasks ──
+
+bit-le : (b : Bool) → bit b ≤ 1
+bit-le true = omega arith
+bit-le false = omega arith
+
+-- a line of the tasks that pass a test, each once, is no longer than there are tasks, and has no 0
+pub lined-short : (ts : List Task) (q : Task → Bool) (l : List ℕ) → q blank ≡ false → ((u : ℕ) → count u l ≡ bit (q (nth ts u))) → length l ≤ length ts
+lined-short ts q l b h = at-most (length ts) l (λ u. omega (arith, h u, bit-le (q (nth ts u)))) inside
+  where
+    out : (u : ℕ) → nth ts u ≡ blank → count u l ≡ 0
+    out u e = h u ∙ rw (e, b)
+
+    inside : (u : ℕ) → 0 < count u l → (0 < u) × (u ≤ length ts)
+    inside zero k = absurd (omega (arith, out 0 refl, k))
+    inside (suc u) k = by-bool (leb (suc u) (length ts)) (λ e. (omega arith, leb-true (suc u) (length ts) e))
+        (λ e. absurd (omega (arith, out (suc u) (nth-beyond ts (suc u) (leb-false (suc u) (length ts) e)), k)))
+
+pub no-zero : (l : List ℕ) → count 0 l ≡ 0 → line l ≡ l
+no-zero [] h = refl
+no-zero (zero ∷ xs) h = absurd (omega arith)
+no-zero (suc x ∷ xs) h = ap (_∷_ (suc x)) (no-zero xs (omega arith))
+
+-- the four lines of a sound state can be laid out and read back
+module _ (s : State) (h : Sound s) where
+  pub ready-fits : length (s .ready) ≤ 31
+  ready-fits = omega (arith, h .few, lined-short (s .tasks) (λ x. isReady (x .place)) (s .ready) refl (h .ready))
+
+  pub callers-fit : length (s .callers) ≤ 31
+  callers-fit = omega (arith, h .few, lined-short (s .tasks) (λ x. isQueued (x .place)) (s .callers) refl (h .callers))
+
+  pub held-fit : length (s .held) ≤ 31
+  held-fit = omega (arith, h .few, lined-short (s .tasks) (λ x. isHeld (x .place)) (s .held) refl (h .held))
+
+  pub delays-fit : length (s .delays) ≤ 31
+  delays-fit = omega (arith, h .few, lined-short (s .tasks) (λ x. hasTime (x .timer)) (s .delays) refl (h .delays))
+
+pub view-pack : (s : State) → Sound s → view (pack s) ≡ s
+view-pack s h = λ i. record {
+  clock = s .clock;
+  tasks = take-append-seam (s .tasks) (replicate (31 - created s) blank) i;
+  ready = line-pad (s .ready) (no-zero (s .ready) (h .ready 0)) (ready-fits s h) i;
+  callers = line-pad (s .callers) (no-zero (s .callers) (h .callers 0)) (callers-fit s h) i;
+  held = line-pad (s .held) (no-zero (s .held) (h .held 0)) (held-fit s h) i;
+  delays = line-pad (s .delays) (no-zero (s .delays) (h .delays 0)) (delays-fit s h) i;
+}
+
+every-unused : (n : ℕ) → every unused (replicate n blank) ≡ true
+every-unused zero = refl
+every-unused (suc n) = every-unused n
+
+pub packed-pack : (s : State) → Sound s → packed (pack s) ≡ true
+packed-pack s h =
+    rw (le-leb (created s) 31 (h .few), drop-append-seam (s .tasks) (replicate (31 - created s) blank), every-unused (31 - created s), behind (s .ready) (h .ready 0), behind (s .callers) (h .callers 0), behind (s .held) (h .held 0), behind (s .delays) (h .delays 0))
+  where
+    behind : (l : List ℕ) → count 0 l ≡ 0 → tidy (pad l) ≡ true
+    behind l z = pad-tidy l (no-zero l z)
+
+-- ── a packed struct is the pack of what it stands for ──
+
+pub blank-is : (x : Task) → unused x ≡ true → x ≡ blank
+blank-is x e =
+    let a = eqb (x .priority) 0 in let b = eqb (x .entries) 0 in let c = isBlank (x .place) in
+    let t = true-T e in
+    let d = and-l (a && b && c) (isOff (x .timer)) t in
+    λ i. record {
+      priority = eqb-true (x .priority) 0 (is-true a (and-l a b (and-l (a && b) c d))) i;
+      entries = eqb-true (x .entries) 0 (is-true b (and-r a b (and-l (a && b) c d))) i;
+      place = place (x .place) (and-r (a && b) c d) i;
+      timer = timer (x .timer) (and-r (a && b && c) (isOff (x .timer)) t) i;
+    }
+  where
+    place : (p : Place) → T (isBlank p) → p ≡ Blank
+    place Blank h = refl
+    place Ready h = absurd h
+    place Delayed h = absurd h
+    place (Queued q) h = absurd h
+    place (Held m) h = absurd h
+    place (Accepting o) h = absurd h
+    place Completed h = absurd h
+
+    timer : (w : Timer) → T (isOff w) → w ≡ Off
+    timer Off h = refl
+    timer (Due d) h = absurd h
+
+all-blank : (l : List Task) → T (every unused l) → l ≡ replicate (length l) blank
+all-blank [] h = refl
+all-blank (x ∷ xs) h =
+    ap (λ (y : Task). y ∷ xs) (blank-is x (is-true (unused x) (and-l (unused x) (every unused xs) h)))
+    ∙ ap (λ (l : List Task). blank ∷ l) (all-blank xs (and-r (unused x) (every unused xs) h))
+
+pub tasks-packed : (n : ℕ) (ts : List Task) → n ≤ 31 → length ts ≡ 31 → T (every unused (drop n ts)) → ts ≡ take n ts ++ replicate (31 - length (take n ts)) blank
+tasks-packed n ts a l h =
+    let k : length (take n ts) ≡ n = length-take-le n ts (omega arith) in
+    let m : length (drop n ts) ≡ 31 - n = length-drop n ts ∙ ap (λ (x : ℕ). x - n) l in
+    sym (take-append-drop n ts) ∙ ap (λ (r : List Task). take n ts ++ r) (all-blank (drop n ts) h ∙ ap (λ (x : ℕ). replicate x blank) (m ∙ ap (λ (x : ℕ). 31 - x) (sym k)))
+
+pub whole-packed : (s : Supervisor) → length (s .tasks) ≡ 31 → length (s .ready) ≡ 31 → length (s .callers) ≡ 31 → length (s .held) ≡ 31 → length (s .delays) ≡ 31
+    → packed s ≡ true → s ≡ pack (view s)
+whole-packed s l r c h d p =
+    let f : Bool = leb (s .created) 31 in
+    let e : Bool = every unused (drop (s .created) (s .tasks)) in
+    let x1 : Bool = tidy (s .ready) in let x2 : Bool = tidy (s .callers) in let x3 : Bool = tidy (s .held) in let x4 : Bool = tidy (s .delays) in
+    let t = true-T p in
+    let t3 = and-l (f && e && x1 && x2 && x3) x4 t in
+    let t2 = and-l (f && e && x1 && x2) x3 t3 in
+    let t1 = and-l (f && e && x1) x2 t2 in
+    let t0 = and-l (f && e) x1 t1 in
+    let n = leb-true (s .created) 31 (is-true f (and-l f e t0)) in
+    λ i. record {
+      clock = s .clock;
+      created = sym (length-take-le (s .created) (s .tasks) (omega arith)) i;
+      tasks = tasks-packed (s .created) (s .tasks) n l (and-r f e t0) i;
+      ready = tidy-pad (s .ready) r (is-true x1 (and-r (f && e) x1 t1)) i;
+      callers = tidy-pad (s .callers) c (is-true x2 (and-r (f && e && x1) x2 t2)) i;
+      held = tidy-pad (s .held) h (is-true x3 (and-r (f && e && x1 && x2) x3 t3)) i;
+      delays = tidy-pad (s .delays) d (is-true x4 (and-r (f && e && x1 && x2 && x3) x4 t)) i;
+    }
+
+-- the step of the rules, with its state in the code's struct
+abbrev pub wholeOf : Given → Whole
+wholeOf r = record { refusal = r .refusal; answer = r .answer; ended = r .ended; next = r .next; state = pack (r .state) }
+
+pub step-whole : (s : State) (c : C.Call) (room : ℕ) → Sound s → stepWhole (pack s) c room ≡ wholeOf (step s c room)
+unfolding stepWhole
+step-whole s c room h =
+    by-bool (ltb room 124)
+    (λ e. rw e)
+    (λ e. rw (e, packed-pack s h, view-pack s h, sound-test s h) (go (takeCall s c)))
+  where
+    go : (o : Outcome) → done (pack s) o ≡ wholeOf (stepped s o)
+    go (refused r) = rw (view-pack s h)
+    go (took t a l) = refl
+
+-- ── runs ──
+
+pub state-whole : (s : State) (a : Ask) → Sound s → stepWhole (pack s) (a .call) (a .room) .state ≡ pack (entry s a .out .state)
+state-whole s a h = ap (λ (r : Whole). r .state) (step-whole s (a .call) (a .room) h)
+
+pub entry-whole : (s : State) (a : Ask) → Sound s → entryWhole (pack s) a ≡ entry s a
+entry-whole s a h = λ k. record {
+  before = view-pack s h k;
+  call = a .call;
+  out = (ap viewed (step-whole s (a .call) (a .room) h) ∙ λ j. record {
+    refusal = entry s a .out .refusal;
+    answer = entry s a .out .answer;
+    ended = entry s a .out .ended;
+    next = entry s a .out .next;
+    state = view-pack (entry s a .out .state) (step-sound s a h) j;
+  }) k;
+}
+
+pub log-whole : (run : List Ask) (s : State) → Sound s → logWhole (pack s) run ≡ logOf s run
+log-whole [] s h = refl
+log-whole (a ∷ rest) s h =
+    ap (λ (x : Entry). x ∷ logWhole (stepWhole (pack s) (a .call) (a .room) .state) rest) (entry-whole s a h)
+    ∙ ap (λ (t : Supervisor). entry s a ∷ logWhole t rest) (state-whole s a h)
+    ∙ ap (λ (l : List Entry). entry s a ∷ l) (log-whole rest (entry s a .out .state) (step-sound s a h))
+
+pub reach-whole : (run : List Ask) (s : State) → Sound s → reachWhole (pack s) run ≡ pack (reach s run)
+reach-whole [] s h = refl
+reach-whole (a ∷ rest) s h =
+    ap (λ (t : Supervisor). reachWhole t rest) (state-whole s a h) ∙ reach-whole rest (entry s a .out .state) (step-sound s a h)
+
+pub sound-pack : (s : State) → Sound s → soundWhole (pack s) ≡ true
+sound-pack s h = rw (packed-pack s h, view-pack s h) (sound-test s h)

@@ -1,0 +1,88 @@
+// The state of the supervisor, the calls and the answers: types only. All else stands in specs/.
+
+pub enum Timer {
+    Off,
+    Due(u32),
+}
+
+// A caller in a queue: whom it has called, and at which entry.
+pub struct Waiting {
+    pub target: u8,
+    pub entry: u8,
+}
+
+// A caller in a rendezvous: who holds it, and at which entry.
+pub struct Meeting {
+    pub holder: u8,
+    pub entry: u8,
+}
+
+// A task that waits to accept: the set of its open entries.
+pub struct Offer {
+    pub opens: u8,
+}
+
+pub enum Place {
+    Blank,
+    Ready,
+    Delayed,
+    Queued(Waiting),
+    Held(Meeting),
+    Accepting(Offer),
+    Completed,
+}
+
+pub struct Task {
+    pub priority: u8,
+    pub entries: u8,
+    pub place: Place,
+    pub timer: Timer,
+}
+
+pub struct Supervisor {
+    pub clock: u32,
+    pub created: u8,
+    pub tasks: [Task; 31],
+    pub ready: [u8; 31],
+    pub callers: [u8; 31],
+    pub held: [u8; 31],
+    pub delays: [u8; 31],
+}
+
+// Task, result, entry, partner: an ended wait, and the same four numbers of an answer.
+pub struct Item {
+    pub task: u8,
+    pub result: u8,
+    pub entry: u8,
+    pub partner: u8,
+}
+
+// What a step answers: a refusal (0 if none), the result with its task, entry and partner, the number of ended waits, and
+// the dispatched task afterwards (0 if none).
+pub struct Answer {
+    pub refusal: u8,
+    pub result: u8,
+    pub task: u8,
+    pub entry: u8,
+    pub partner: u8,
+    pub ended: u8,
+    pub next: u8,
+}
+
+// What a step gives: the state afterwards, and the answer.
+pub struct Stepped {
+    pub state: Supervisor,
+    pub answer: Answer,
+}
+
+// What COUNT answers: a refusal (0 if none), and how many are queued.
+pub struct Count {
+    pub refusal: u8,
+    pub count: usize,
+}
+
+// What CALLABLE answers: a refusal (0 if none), and yes or no.
+pub struct Known {
+    pub refusal: u8,
+    pub yes: bool,
+}

@@ -1,0 +1,5 @@
+mod MarkLaws
+mod TaskLaws
+mod Turns
+mod LineLaws
+mod WholeLaws

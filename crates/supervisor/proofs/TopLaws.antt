@@ -1,0 +1,83 @@
+-- The whole step, and the questions.
+-- Assumes nothing.
+use Prim.Native.Nat.{ℕ, _≤_, _<_}
+use mathlib.Core.Path.{_≡_, refl, sym, ap, _∙_}
+use mathlib.Core.Bool.{Bool, true, false, not, _&&_}
+use mathlib.Core.List.{List}
+use native.Mathlib.Omega.{arith}
+use lib.Dec.{ltb, leb}
+use lib.ListN.{length, drop}
+use lib.Seq.{length-take-le}
+use borrow.Author.Tests.{lt-ltb, le-ltb, leb-true}
+use Rattle.lists.specs.Line.{tidy}
+use Rattle.lists.specs.Lists.{every}
+use Rattle.rules.specs.State.{created, taskOf, running, isCompleted}
+use Rattle.rules.specs.Step.{Outcome, refused, took, takeCall, roomAfter, SHORT-ROOM, BAD-STATE}
+use Rattle.rules.specs.Sound.{sound}
+use Rattle.rules.specs.Whole.{view, pack, Whole, packed, soundWhole, decline, done, stepWhole, steppedOf, unused}
+use Rattle.rules.specs.declared.Task.{Task}
+use Rattle.rules.specs.declared.Supervisor.{Supervisor}
+use Rattle.calls.specs.declared.Call.the-variants.{Call}
+use Rattle.rules.proofs.Members.{and-true, and-first}
+use Rattle.rules.proofs.StepSound.{Kept, call-sound}
+use Rattle.rules.proofs.WholeLaws.{view-pack, whole-packed}
+use Rattle.supervisor.specs.Taken.{Stands, takenOf, endedBy}
+use Rattle.supervisor.specs.declared.answers.Taken.{Taken}
+use Rattle.rules.proofs.SoundTest.{sound-props}
+use Rattle.rules.specs.declared.Stepped.{Stepped}
+use Rattle.rules.specs.declared.Known.{Known}
+use Rattle.rules.specs.Questions.{callableWhole}
+use Rattle.calls.specs.declared.Call as C
+
+pub stands-of : (s : Supervisor) → s .clock < 4294967296 → length (s .tasks) ≡ 31 → length (s .ready) ≡ 31 → length (s .callers) ≡ 31 → length (s .held) ≡ 31 → length (s .delays) ≡ 31 → soundWhole s ≡ true → Stands s
+stands-of s k l1 l2 l3 l4 l5 h = record {
+  packs = whole-packed s l1 l2 l3 l4 l5 (and-first (packed s) (sound (view s)) h);
+  sound = sound-props (view s) k (and-true (packed s) (sound (view s)) h);
+}
+
+module _ (s : Supervisor) (c : C.Call) (n : ℕ) where
+  pub step-short : n < 124 → stepWhole s c n ≡ decline s SHORT-ROOM 0
+  unfolding stepWhole
+  step-short h = rw (lt-ltb n 124 h)
+
+  pub step-unsound : 124 ≤ n → soundWhole s ≡ false → stepWhole s c n ≡ decline s BAD-STATE 0
+  unfolding stepWhole
+  step-unsound h q = rw (le-ltb n 124 h, q)
+
+  pub step-sound : 124 ≤ n → soundWhole s ≡ true → stepWhole s c n ≡ done s (takeCall (view s) c)
+  unfolding stepWhole
+  step-sound h q = rw (le-ltb n 124 h, q)
+
+pub by-whole : {w q : Whole} {r : Stepped} (x y : List ℕ) → w ≡ q → r ≡ steppedOf q → x ≡ roomAfter y (q .ended) → (r ≡ steppedOf w) × (x ≡ roomAfter y (w .ended))
+by-whole x y e h k = (h ∙ sym (ap steppedOf e), k ∙ sym (ap (λ (w : Whole). roomAfter y (w .ended)) e))
+
+-- the dispatched task is worked out on the struct of the next state
+pub next-is : (s : Supervisor) (o : Outcome) (k : Taken) (n : ℕ) → Kept o → k ≡ takenOf s o → n ≡ running (view (k .state))
+    → _≡_ {A = Stepped} (record { state = k .state; answer = record { refusal = k .refusal; result = k .answer .result; task = k .answer .task; entry = k .answer .entry; partner = k .answer .partner; ended = k .ended; next = n } }) (steppedOf (done s o))
+next-is s (refused r) k n h ek en = rw (en, ek)
+next-is s (took st a l) k n h ek en = rw (en, ek) (ap (λ (m : ℕ). record { state = pack st; answer = record { refusal = 0; result = a .result; task = a .task; entry = a .entry; partner = a .partner; ended = length l; next = m } }) (ap running (view-pack st h)))
+
+pub ended-is : (s : Supervisor) (o : Outcome) → endedBy o ≡ done s o .ended
+ended-is s (refused r) = refl
+ended-is s (took st a l) = refl
+
+pub kept : (s : Supervisor) (c : C.Call) → Stands s → Kept (takeCall (view s) c)
+kept s c h = call-sound (view s) c (h .sound)
+
+-- ---- questions
+
+created-sound : (s : Supervisor) → soundWhole s ≡ true → length (s .tasks) ≡ 31 → created (view s) ≡ s .created
+created-sound s h k =
+    let f : Bool = leb (s .created) 31 in
+    let e : Bool = every unused (drop (s .created) (s .tasks)) in
+    let x1 : Bool = tidy (s .ready) in let x2 : Bool = tidy (s .callers) in let x3 : Bool = tidy (s .held) in let x4 : Bool = tidy (s .delays) in
+    let t4 = and-first (packed s) (sound (view s)) h in
+    let t3 = and-first (f && e && x1 && x2 && x3) x4 t4 in
+    let t0 = and-first (f && e) x1 (and-first (f && e && x1) x2 (and-first (f && e && x1 && x2) x3 t3)) in
+    let n = leb-true (s .created) 31 (and-first f e t0) in
+    length-take-le (s .created) (s .tasks) (omega arith)
+
+pub callable-is : (s : Supervisor) (t : ℕ) (b d : Bool) (x : Task) → soundWhole s ≡ true → length (s .tasks) ≡ 31 → b ≡ (ltb 0 t && leb t (s .created)) → x ≡ taskOf (view s) t → d ≡ isCompleted (x .place)
+    → _≡_ {A = Known} (record { refusal = 0; yes = b && not d }) (callableWhole s t)
+unfolding callableWhole
+callable-is s t b d x h k eb ex ed = rw (h, eb, ed, ex, created-sound s h k)

@@ -1,0 +1,174 @@
+// The supervisor: an empty one, its step, its questions.
+mod answers;
+mod call;
+mod create;
+mod delay;
+mod end;
+mod ended;
+mod finish;
+mod select;
+mod tick;
+
+ghost use Prim.Native.Nat.{_≤_};
+ghost use lib.ListN.{length};
+ghost use mathlib.Core.Path.{_≡_};
+ghost use Rattle.rules.specs.Questions.{countWhole, callableWhole};
+ghost use Rattle.rules.specs.Step.{takeCall, roomAfter};
+ghost use Rattle.rules.specs.State as state;
+ghost use Rattle.rules.specs.Whole.{steppedOf, view, pack, soundWhole, stepWhole};
+ghost use Rattle.supervisor.specs.Taken.{Stands, takenOf, endedBy};
+use answers::Taken;
+use calls::Call;
+use rules::Answer;
+use rules::Count;
+use rules::Known;
+use rules::Stepped;
+use rules::Supervisor;
+use soundness::is_sound;
+use table::place::is_between;
+use table::place::is_completed;
+use table::queues::Test;
+use table::queues::picked;
+use table::tasks::blank_task;
+use table::tasks::task_of;
+
+fn take_call(s: Supervisor, c: Call, room: &mut [u8]) -> Taken
+    requires { ⌜ Stands s × (124 ≤ length (now room)) ⌝ }
+    ensures { λ r. ⌜ r ≡ takenOf s (takeCall (view s) c) ⌝ }
+    ensures room { λ r. ⌜ now (room .exit) ≡ roomAfter (now (room .entry)) (endedBy (takeCall (view s) c)) ⌝ }
+{
+    match c {
+        Call::Create { priority, entries } => create::create(s, priority, entries),
+        Call::Delay(d) => delay::delay(s, d),
+        Call::Call {
+            target,
+            entry,
+            mode,
+        } => call::call(s, target, entry, mode, room),
+        Call::Select { open, mode } => select::select(s, open, mode),
+        Call::End => end::end(s, room),
+        Call::Finish => finish::finish(s, room),
+        Call::Tick => tick::tick(s, room),
+    }
+}
+
+fn declined(s: Supervisor, n: u8) -> Stepped
+    ensures { λ r. ⌜ r ≡ record { state = s; answer = record { refusal = n; result = 0; task = 0; entry = 0; partner = 0; ended = 0; next = 0 } } ⌝ }
+{
+    Stepped {
+        state: s,
+        answer: Answer {
+            refusal: n,
+            result: 0,
+            task: 0,
+            entry: 0,
+            partner: 0,
+            ended: 0,
+            next: 0,
+        },
+    }
+}
+
+// One call. A refused one leaves the state and the room as they are; the items of ended waits are written one behind the other.
+pub fn step(s: Supervisor, c: Call, room: &mut [u8]) -> Stepped
+    ensures { λ r. ⌜ r ≡ steppedOf (stepWhole s c (length (now (room .entry)))) ⌝ }
+    ensures room { λ r. ⌜ now (room .exit) ≡ roomAfter (now (room .entry)) (stepWhole s c (length (now (room .entry))) .ended) ⌝ }
+{
+    if room.len() < 124 {
+        return declined(s, 1);
+    }
+    if !is_sound(s) {
+        return declined(s, 2);
+    }
+    let k = take_call(s, c, room);
+    let after = k.state;
+    let answer = k.answer;
+    let next = running(after);
+    Stepped {
+        state: after,
+        answer: Answer {
+            refusal: k.refusal,
+            result: answer.result,
+            task: answer.task,
+            entry: answer.entry,
+            partner: answer.partner,
+            ended: k.ended,
+            next,
+        },
+    }
+}
+
+// A supervisor with no tasks.
+pub fn empty(clock: u32) -> Supervisor
+    ensures { λ r. ⌜ r ≡ pack (state.empty clock) ⌝ }
+{
+    let tasks = [blank_task(); 31];
+    let line = [0u8; 31];
+    Supervisor {
+        clock,
+        created: 0,
+        tasks,
+        ready: line,
+        callers: line,
+        held: line,
+        delays: line,
+    }
+}
+
+// Whether the state is sound.
+pub fn sound(s: Supervisor) -> bool
+    ensures { λ r. ⌜ r ≡ soundWhole s ⌝ }
+{
+    is_sound(s)
+}
+
+// The running task, 0 where nobody is ready.
+pub fn running(s: Supervisor) -> u8
+    ensures { λ r. ⌜ r ≡ state.running (view s) ⌝ }
+{
+    table::dispatch::running(s)
+}
+
+// COUNT: how many are queued on entry e of task t.
+pub fn count(s: Supervisor, t: u8, e: u8) -> Count
+    ensures { λ r. ⌜ r ≡ countWhole s t e ⌝ }
+{
+    if is_sound(s) {
+        let callers = s.callers;
+        let q = picked(
+            s,
+            callers,
+            Test::QueuedOn {
+                target: t,
+                entry: e,
+            },
+        );
+        let n = lines::len(q);
+        return Count {
+            refusal: 0,
+            count: n,
+        };
+    }
+    Count {
+        refusal: 2,
+        count: 0,
+    }
+}
+
+// CALLABLE: whether task t was created and has not completed.
+pub fn callable(s: Supervisor, t: u8) -> Known
+    ensures { λ r. ⌜ r ≡ callableWhole s t ⌝ }
+{
+    if is_sound(s) {
+        let x = task_of(s, t);
+        let p = x.place;
+        return Known {
+            refusal: 0,
+            yes: is_between(t, s.created) & !is_completed(p),
+        };
+    }
+    Known {
+        refusal: 2,
+        yes: false,
+    }
+}

@@ -1,0 +1,35 @@
+-- Open sets: bits of a byte.
+-- Assumes nothing.
+use Prim.Native.Nat.{ℕ, _-_, _/_, _%_, _≤_, _<_, _^_}
+use mathlib.Core.Path.{_≡_, sym}
+use mathlib.Core.Bool.{false, not}
+use native.Mathlib.Nat.{div-eq-of-lt, pow-le-pow-right, div-add-mod', div-one}
+use native.Mathlib.Omega.{arith}
+use lib.Dec.{eqb, leb}
+use borrow.Author.Tests.{ne-eqb, leb-true, leb-false, lt-leb}
+use Rattle.rules.specs.State.{opens}
+use Rattle.lists.proofs.ListLaws.{by-bool}
+
+wide : (k : ℕ) → 8 ≤ k → 256 ≤ 2 ^ k
+wide k h = pow-le-pow-right {n = 2} (omega arith) {i = 8} {j = k} h
+
+pub open-zero : (o e : ℕ) → e ≡ 0 → eqb (o % 2) 1 ≡ opens o e
+open-zero o e z = rw (z, div-one o)
+
+pub open-high : (o e : ℕ) → o < 256 → 8 < e → false ≡ opens o e
+open-high o e b h = let w : 256 ≤ 2 ^ (e - 1) = wide (e - 1) (omega arith) in rw (div-eq-of-lt {n = o} {m = 2 ^ (e - 1)} (omega arith))
+
+pub set-high : (o n : ℕ) → o < 256 → 7 < n → false ≡ leb (2 ^ n) o
+set-high o n b h = sym (lt-leb (2 ^ n) o (omega (arith, wide n (omega arith))))
+
+pub set-test : (o n : ℕ) → not (eqb (o / 2 ^ n) 0) ≡ leb (2 ^ n) o
+set-test o n =
+    by-bool (leb (2 ^ n) o)
+    (λ e. rw (e, ne-eqb (o / 2 ^ n) 0 (λ z. low (2 ^ n) (leb-true (2 ^ n) o e) (pow-pos n) z)))
+    (λ e. rw (e, div-eq-of-lt {n = o} {m = 2 ^ n} (leb-false (2 ^ n) o e)))
+  where
+    pow-pos : (n : ℕ) → 0 < 2 ^ n
+    pow-pos n = let w : 2 ^ 0 ≤ 2 ^ n = pow-le-pow-right {n = 2} (omega arith) {i = 0} {j = n} (omega arith) in omega arith
+
+    low : (m : ℕ) → m ≤ o → 0 < m → o / m ≡ 0 → ⊥
+    low m a p z = omega (arith, rw z at (div-add-mod' o m), native.Mathlib.Nat.mod-lt o {m = m} p)

@@ -1,0 +1,87 @@
+-- One pass that keeps the first task of the highest priority finds the head of the highest ready queue.
+-- Assumes nothing.
+use Prim.Native.Nat.{ℕ, zero, suc, _≤_, _<_}
+use mathlib.Core.Path.{_≡_, refl, sym, _∙_}
+use mathlib.Core.Bool.{Bool, true, false, _&&_, true≢false}
+use mathlib.Core.List.{List, [], _∷_}
+use native.Mathlib.Omega.{arith}
+use lib.Dec.{ltb, leb, eqb}
+use borrow.Author.Tests.{ne-eqb, eqb-true, eqb-false, le-leb, lt-leb, lt-ltb, leb-true, leb-false, ltb-true}
+use Rattle.lists.specs.Lists.{if_then_else_, filter}
+use Rattle.rules.specs.State.{State, taskOf, level, headUpTo, running}
+use Rattle.rules.proofs.Members.{and-true, and-first}
+use Rattle.table.specs.Best.{bestOf, betterOf}
+use Rattle.rules.specs.State.{priorityOf}
+use Rattle.table.specs.declared.dispatch.Best.{Best}
+use Rattle.rules.specs.declared.Task.{Task}
+
+abbrev headOr : List ℕ → ℕ → ℕ
+headOr [] d = d
+headOr (x ∷ xs) d = x
+
+module _ (f : ℕ → ℕ) where
+  -- the head of the highest of the levels m + 1 .. p that is not empty, d where there is none
+  abbrev headIn : List ℕ → ℕ → ℕ → ℕ → ℕ
+  headIn l m zero d = d
+  headIn l m (suc p) d = if leb (suc p) m then d else headOr (filter (λ t. eqb (f t) (suc p)) l) (headIn l m p d)
+
+  none : (m p d : ℕ) → headIn [] m p d ≡ d
+  none m zero d = refl
+  none m (suc p) d = go (leb (suc p) m) (none m p d)
+    where
+      go : (b : Bool) → headIn [] m p d ≡ d → (if b then d else headIn [] m p d) ≡ d
+      go true ih = refl
+      go false ih = ih
+
+  module _ (x : ℕ) (l : List ℕ) where
+    skip : (m p d : ℕ) → ((q : ℕ) → m < q → q ≤ p → f x ≡ q → ⊥) → headIn (x ∷ l) m p d ≡ headIn l m p d
+    skip m zero d h = refl
+    skip m (suc p) d h = go (leb (suc p) m) refl (skip m p d (λ q a b. h q a (omega arith)))
+      where
+        go : (b : Bool) → leb (suc p) m ≡ b → headIn (x ∷ l) m p d ≡ headIn l m p d
+            → (if b then d else headOr (filter (λ t. eqb (f t) (suc p)) (x ∷ l)) (headIn (x ∷ l) m p d))
+            ≡ (if b then d else headOr (filter (λ t. eqb (f t) (suc p)) l) (headIn l m p d))
+        go true e ih = refl
+        go false e ih = rw (ne-eqb (f x) (suc p) (h (suc p) (leb-false (suc p) m e) (omega arith)), ih)
+
+    hit : (m p d : ℕ) → m < f x → f x ≤ p → headIn (x ∷ l) m p d ≡ headIn l (f x) p x
+    hit m zero d a b = absurd (omega arith)
+    hit m (suc p) d a b = rw (lt-leb (suc p) m (omega arith)) (go (eqb (f x) (suc p)) refl (λ c. hit m p d a c))
+      where
+        go : (t : Bool) → eqb (f x) (suc p) ≡ t → (f x ≤ p → headIn (x ∷ l) m p d ≡ headIn l (f x) p x)
+            → headOr (if t then x ∷ filter (λ t. eqb (f t) (suc p)) l else filter (λ t. eqb (f t) (suc p)) l) (headIn (x ∷ l) m p d)
+            ≡ (if leb (suc p) (f x) then x else headOr (filter (λ t. eqb (f t) (suc p)) l) (headIn l (f x) p x))
+        go true e ih = rw (le-leb (suc p) (f x) (omega (arith, eqb-true (f x) (suc p) e)))
+        go false e ih =
+            let ne : f x ≡ suc p → ⊥ = eqb-false (f x) (suc p) e in
+            rw (lt-leb (suc p) (f x) (omega arith), ih (omega arith))
+
+  one-pass : (l : List ℕ) (b : Best) → bestOf f b l .task ≡ headIn l (b .priority) 15 (b .task)
+  one-pass [] b = sym (none (b .priority) 15 (b .task))
+  one-pass (x ∷ l) b = go (ltb (b .priority) (f x) && leb (f x) 15) refl (one-pass l)
+    where
+      go : (t : Bool) → (ltb (b .priority) (f x) && leb (f x) 15) ≡ t
+          → ((c : Best) → bestOf f c l .task ≡ headIn l (c .priority) 15 (c .task))
+          → bestOf f (if t then record { task = x; priority = f x } else b) l .task ≡ headIn (x ∷ l) (b .priority) 15 (b .task)
+      go true e ih =
+          ih (record { task = x; priority = f x })
+          ∙ sym (hit x l (b .priority) 15 (b .task) (ltb-true (b .priority) (f x) (and-first (ltb (b .priority) (f x)) (leb (f x) 15) e)) (leb-true (f x) 15 (and-true (ltb (b .priority) (f x)) (leb (f x) 15) e)))
+      go false e ih =
+          ih b ∙ sym (skip x l (b .priority) 15 (b .task)
+          (λ q a c z. true≢false (rw (lt-ltb (b .priority) (f x) (omega arith), le-leb (f x) 15 (omega arith)) at e)))
+
+from-zero : (s : State) (p : ℕ) → headIn (priorityOf s) (s .ready) 0 p 0 ≡ headUpTo s p
+from-zero s zero = refl
+from-zero s (suc p) = rw (lt-leb (suc p) 0 (omega arith), from-zero s p) (go (level s (suc p)))
+  where
+    go : (l : List ℕ) → headOr l (headUpTo s p) ≡ elim l as (λ _. ℕ) [ [] ↦ headUpTo s p | t ∷ ts ↦ t ]
+    go [] = refl
+    go (x ∷ xs) = refl
+
+pub one-pass-running : (s : State) → running s ≡ bestOf (priorityOf s) (record { task = 0; priority = 0 }) (s .ready) .task
+unfolding running
+one-pass-running s = sym (one-pass (priorityOf s) (s .ready) (record { task = 0; priority = 0 }) ∙ from-zero s 15)
+
+-- one turn
+pub best-turn : (s : State) (b c : Best) (x : Task) (t : ℕ) (xs ys : List ℕ) → xs ≡ t ∷ ys → x ≡ taskOf s t → c ≡ betterOf b t (x .priority) → bestOf (priorityOf s) b xs .task ≡ bestOf (priorityOf s) c ys .task
+best-turn s b c x t xs ys q ex ec = rw (q, ec, ex)

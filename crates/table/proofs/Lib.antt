@@ -1,0 +1,3 @@
+pub mod LeafLaws
+pub mod Levels
+pub mod Bits

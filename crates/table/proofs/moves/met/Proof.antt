@@ -1,0 +1,6 @@
+use borrow.Author.Needs.{needs}
+use Rattle.table.proofs.moves.met.Statement.{statement}
+use Rattle.table.proofs.moves.met.Tie as tie
+
+pub met-spec : {M : Type 1} → statement M
+met-spec = tie.close (tie.spec (λ c κs. search needs) (λ c. c .moved .ensures))

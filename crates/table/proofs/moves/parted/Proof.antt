@@ -1,0 +1,6 @@
+use borrow.Author.Needs.{needs}
+use Rattle.table.proofs.moves.parted.Statement.{statement}
+use Rattle.table.proofs.moves.parted.Tie as tie
+
+pub parted-spec : {M : Type 1} → statement M
+parted-spec = tie.close (tie.spec (λ c κs. search needs) (λ c. c .moved .ensures))

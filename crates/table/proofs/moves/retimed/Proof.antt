@@ -1,0 +1,23 @@
+use borrow.Author.Needs.{needs}
+use mathlib.Core.Path.{_≡_, _∙_}
+use lib.ListN.{length}
+use Rattle.rules.specs.Whole.{view}
+use Rattle.table.proofs.LeafLaws.{retime-due, mapped-long}
+use Rattle.table.proofs.moves.retimed.Statement.{statement}
+use Rattle.table.proofs.moves.retimed.Tie as tie
+
+returns : tie.Need-returns
+returns c = rw (c .enum-told .given .1) (c .before .before .without .ensures)
+
+returns-2 : tie.Need-returns-2
+returns-2 c =
+    let a = c .before .before .before .before .before .before .before .before .args in
+    let k : length (a .s .delays) ≡ 31 = search (needs, mapped-long) in
+    let d = c .before .before .before .before .w .given .1 in
+    rw d (c .put-at .ensures ∙ retime-due (a .s .delays) (a .t) _ k (c .before .before .before .before .before .before .without .ensures) (a .s .clock) (view (a .s) .tasks) _ _ _ (c .before .before .ticks-left .ensures) (c .before .slot .ensures))
+
+pub retimed-spec : {M : Type 1} → statement M
+retimed-spec =
+    tie.close
+    (tie.spec (λ c κs. search needs) (λ c. search needs) (λ c. search needs) (λ c κs. search needs)
+    (λ c κs. search needs) (λ c κs. search needs) returns returns-2)

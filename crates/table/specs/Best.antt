@@ -1,0 +1,16 @@
+-- The running task, found in one pass over the ready line.
+-- Assumes nothing.
+use Prim.Native.Nat.{ℕ}
+use mathlib.Core.Bool.{Bool, true, false, _&&_}
+use mathlib.Core.List.{List, [], _∷_}
+use lib.Dec.{ltb, leb}
+use Rattle.lists.specs.Lists.{if_then_else_}
+use Rattle.table.specs.declared.dispatch.Best.{Best}
+
+-- one pass for the running task: the first of the highest priority seen
+abbrev pub betterOf : Best → ℕ → ℕ → Best
+betterOf b t p = if ltb (b .priority) p && leb p 15 then record { task = t; priority = p } else b
+
+abbrev pub bestOf : (ℕ → ℕ) → Best → List ℕ → Best
+bestOf f b [] = b
+bestOf f b (t ∷ l) = bestOf f (betterOf b t (f t)) l

@@ -1,0 +1,63 @@
+-- What the small functions of the code answer, where the rules have no word for it.
+-- Assumes nothing.
+use Prim.Native.Nat.{ℕ, zero, suc}
+use mathlib.Core.Bool.{Bool, true, false, not, _&&_}
+use mathlib.Core.List.{List, [], _∷_}
+use lib.Dec.{eqb, ltb}
+use Rattle.lists.specs.Line.{line, pad}
+use Rattle.lists.specs.Lists.{if_then_else_, rejoin}
+use Rattle.rules.specs.State.{State, setNth, taskOf, timerOf, isReady, isQueued, isHeld, ticksLeft, retime, placed, partnerOf, entryOf, meeting}
+use Rattle.rules.specs.declared.Place.the-variants.{Ready, Held}
+use Rattle.rules.specs.declared.Timer.the-variants.{Off}
+use Rattle.rules.specs.Step.{isDue}
+use Rattle.rules.specs.Whole.{view}
+use Rattle.rules.specs.declared.Task.{Task}
+use Rattle.rules.specs.declared.Timer.{Timer}
+use Rattle.rules.specs.declared.Place.{Place}
+use Rattle.rules.specs.declared.Supervisor.{Supervisor}
+use Rattle.table.specs.declared.queues.Test.{Test}
+use Rattle.table.specs.declared.queues.Test.the-variants.{QueuedOn, HeldBy, DueAt}
+
+-- the struct with task t as x
+abbrev pub withTask : Supervisor → ℕ → Task → Supervisor
+withTask s t x = record {
+  clock = s .clock;
+  created = s .created;
+  tasks = setNth (s .tasks) t x;
+  ready = s .ready;
+  callers = s .callers;
+  held = s .held;
+  delays = s .delays;
+}
+
+-- task t goes to place p with the time w, in the struct: the lines of `move`, laid out; the table as it is but for t
+unfoldable pub movedOf : Supervisor → ℕ → Place → Timer → Supervisor
+movedOf s t p w = record {
+  clock = s .clock;
+  created = s .created;
+  tasks = setNth (s .tasks) t (placed (taskOf (view s) t) p w);
+  ready = pad (rejoin (isReady p) t (line (s .ready)));
+  callers = pad (rejoin (isQueued p) t (line (s .callers)));
+  held = pad (rejoin (isHeld p) t (line (s .held)));
+  delays = pad (retime (s .clock) (view s .tasks) w t (line (s .delays)));
+}
+
+-- a rendezvous of g with its caller c at entry e begins, and ends, in the struct
+abbrev pub metOf : Supervisor → ℕ → ℕ → ℕ → Supervisor
+metOf s g c e = movedOf s c (Held (meeting (view s) g e)) Off
+
+abbrev pub partedOf : Supervisor → ℕ → ℕ → Supervisor
+partedOf s g c = movedOf s c Ready Off
+
+-- task x has more than so many ticks left
+abbrev pub later : Supervisor → ℕ → ℕ → Bool
+later s left x = ltb left (ticksLeft (s .clock) (timerOf (view s) x))
+
+-- the tests by which queues are picked out of lines
+abbrev pub isPicked : Task → Test → Bool
+isPicked x (QueuedOn t e) = isQueued (x .place) && eqb (partnerOf (x .place)) t && eqb (entryOf (x .place)) e
+isPicked x (HeldBy t) = isHeld (x .place) && eqb (partnerOf (x .place)) t
+isPicked x (DueAt now) = isDue now (x .timer)
+
+abbrev pub passesOf : State → Test → ℕ → Bool
+passesOf s q c = isPicked (taskOf s c) q

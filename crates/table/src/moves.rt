@@ -1,0 +1,96 @@
+// The one way in which a task changes its place.
+ghost use mathlib.Core.Path.{_≡_};
+ghost use Rattle.lists.specs.Line.{line, pad, slotOf};
+ghost use Rattle.rules.specs.State.{retime};
+ghost use Rattle.rules.specs.Whole.{view};
+ghost use Rattle.table.specs.Moved.{movedOf, metOf, partedOf, later};
+use super::place::is_held;
+use super::place::is_queued;
+use super::place::is_ready;
+use super::place::ticks_left;
+use super::tasks::index_of;
+use super::tasks::is_number;
+use super::tasks::pick_task;
+use super::tasks::placed_at;
+use super::tasks::shown;
+use rules::Meeting;
+use rules::Place;
+use rules::Supervisor;
+use rules::Timer;
+
+// The place of the first of the line that has more than `left` ticks left.
+fn slot(s: Supervisor, a: [u8; 31], left: u32) -> usize
+    ensures { λ r. ⌜ r ≡ slotOf (later s left) (line a) ⌝ }
+{
+    for i in 0..31 {
+        let x = a[i];
+        if x == 0 {
+            return i;
+        }
+        let at = index_of(x);
+        let k = s.tasks[at];
+        let y = shown(s.created, x, k);
+        let w = y.timer;
+        if left < ticks_left(s.clock, w) {
+            return i;
+        }
+    }
+    31
+}
+
+// The delay queue without t, and with t in its place if it has a time now.
+fn retimed(s: Supervisor, t: u8, w: Timer) -> [u8; 31]
+    ensures { λ r. ⌜ r ≡ pad (retime (s .clock) (view s .tasks) w t (line (s .delays))) ⌝ }
+{
+    let delays = s.delays;
+    let a = lines::without(delays, t);
+    match w {
+        Timer::Off => a,
+        Timer::Due(d) => {
+            let at = slot(s, a, ticks_left(s.clock, w));
+            lines::put_at(a, at, t)
+        }
+    }
+}
+
+// Task t goes to place p with the time w.
+pub fn moved(s: Supervisor, t: u8, p: Place, w: Timer) -> Supervisor
+    ensures { λ r. ⌜ r ≡ movedOf s t p w ⌝ }
+{
+    let ready = s.ready;
+    let callers = s.callers;
+    let held = s.held;
+    let ready_now = lines::rejoined(ready, t, is_ready(p));
+    let callers_now = lines::rejoined(callers, t, is_queued(p));
+    let held_now = lines::rejoined(held, t, is_held(p));
+    let delays_now = retimed(s, t, w);
+    let at = index_of(t);
+    let k = s.tasks[at];
+    let x = shown(s.created, t, k);
+    let y = pick_task(is_number(t), placed_at(x, p, w), k);
+    let mut n = s;
+    n.ready = ready_now;
+    n.callers = callers_now;
+    n.held = held_now;
+    n.delays = delays_now;
+    n.tasks[at] = y;
+    n
+}
+
+// A rendezvous of g with its caller c at entry e begins.
+pub fn met(s: Supervisor, g: u8, c: u8, e: u8) -> Supervisor
+    ensures { λ r. ⌜ r ≡ metOf s g c e ⌝ }
+{
+    let m = Meeting {
+        holder: g,
+        entry: e,
+    };
+    moved(s, c, Place::Held(m), Timer::Off)
+}
+
+// The rendezvous of g with its caller c ends.
+pub fn parted(s: Supervisor, g: u8, c: u8) -> Supervisor
+    ensures { λ r. ⌜ r ≡ partedOf s g c ⌝ }
+{
+    moved(s, c, Place::Ready, Timer::Off)
+}

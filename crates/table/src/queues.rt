@@ -1,0 +1,59 @@
+// The queues, picked out of a line by a test that is data.
+ghost use mathlib.Core.Path.{_≡_};
+ghost use Rattle.lists.specs.Line.{line, pad};
+ghost use Rattle.lists.specs.Lists.{filter};
+ghost use Rattle.rules.specs.Whole.{view};
+ghost use Rattle.table.specs.Moved.{isPicked, passesOf};
+use super::place::entry_of;
+use super::place::is_due;
+use super::place::is_held;
+use super::place::is_queued;
+use super::place::partner_of;
+use super::tasks::index_of;
+use super::tasks::shown;
+use rules::Supervisor;
+use rules::Task;
+
+// What picks a queue out of a line.
+pub enum Test {
+    QueuedOn { target: u8, entry: u8 },
+    HeldBy { holder: u8 },
+    DueAt { now: u32 },
+}
+
+// Whether a task passes.
+fn passes(x: Task, q: Test) -> bool
+    ensures { λ r. ⌜ r ≡ isPicked x q ⌝ }
+{
+    let p = x.place;
+    let w = x.timer;
+    match q {
+        Test::QueuedOn { target, entry } => {
+            is_queued(p) & (partner_of(p) == target) & (entry_of(p) == entry)
+        }
+        Test::HeldBy { holder } => is_held(p) & (partner_of(p) == holder),
+        Test::DueAt { now } => is_due(now, w),
+    }
+}
+
+// Those of the line that pass.
+pub fn picked(s: Supervisor, a: [u8; 31], q: Test) -> [u8; 31]
+    ensures { λ r. ⌜ r ≡ pad (filter (passesOf (view s) q) (line a)) ⌝ }
+{
+    let mut r = [0u8; 31];
+    let mut j: usize = 0;
+    for i in 0..31 {
+        let x = a[i];
+        if x == 0 {
+            return r;
+        }
+        let at = index_of(x);
+        let k = s.tasks[at];
+        let y = shown(s.created, x, k);
+        if passes(y, q) {
+            r[j] = x;
+            j += 1;
+        }
+    }
+    r
+}
