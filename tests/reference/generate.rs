@@ -180,9 +180,8 @@ fn idle(state: &Supervisor) -> bool {
     state.running() == 0 && state.delays.first().is_none_or(|timer| state.left(timer.due) > 30)
 }
 
-fn log(random: &mut Random, theme: &Theme, most: usize) -> Log {
+fn log(random: &mut Random, theme: &Theme, clock: u32, most: usize) -> Log {
     let calls = if theme.short { most.min(random.below(4)) } else { most };
-    let clock = start_clock(random);
     let mut state = Supervisor::empty(clock);
     let mut room = [0; ROOM];
     let mut bytes = Vec::new();
@@ -215,5 +214,33 @@ pub fn some_call(random: &mut Random, state: &Supervisor) -> Call {
 /// `logs` logs of at most `calls` calls each.
 pub fn generate(seed: u64, logs: usize, calls: usize) -> Vec<Log> {
     let mut random = Random::new(seed);
-    (0..logs).map(|i| log(&mut random, &THEMES[i % THEMES.len()], calls)).collect()
+    let theme = |i: usize| &THEMES[i % THEMES.len()];
+    let started = |i: usize| {
+        let clock = start_clock(&mut random);
+        log(&mut random, theme(i), clock, calls)
+    };
+    (0..logs).map(started).collect()
+}
+
+/// The records of one log from clock 0 with so many calls, chosen so that its tasks stay alive.
+pub fn long(seed: u64, calls: usize) -> Vec<u8> {
+    let mut random = Random::new(seed);
+    let mut bytes = Vec::new();
+    let mut state = Supervisor::empty(0);
+    for _ in 0..calls {
+        let mut call = Call::Tick;
+        let mut after = state.clone();
+        for _ in 0..8 {
+            call = some_call(&mut random, &state);
+            after = state.clone();
+            after.step(&call, &mut [0; ROOM]);
+            if call != Call::Finish && !idle(&after) {
+                break;
+            }
+        }
+        state = after;
+        bytes.extend(calls::record(&call));
+    }
+    spoil::tail(&mut random, &mut bytes);
+    bytes
 }

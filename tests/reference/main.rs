@@ -29,6 +29,7 @@ const USAGE: &str = "the reference of the supervisor; it reads standard input wh
   stepper                    prints what the program stepper prints for a log
   replay                     prints what the program replay prints for a sequence of logs
   generate SEED LOGS CALLS   writes a sequence of LOGS logs of at most CALLS calls each
+  long SEED CALLS            writes one log of CALLS calls and a bad record, for stepper
   tally                      prints how often each event occurs in a sequence of logs; fails if one never does
   promises                   checks on a sequence of logs what is promised of every log
   shrink FILE COMMAND...     where the command differs from replay on the file, prints a small log that shows it
@@ -145,6 +146,7 @@ fn run(words: &[&str]) -> Result<(), String> {
             let (logs, calls) = (number(logs)? as usize, number(calls)? as usize);
             output(&logs::pack(&generate::generate(number(seed)?, logs, calls)))
         }
+        ["long", seed, calls] => output(&generate::long(number(seed)?, number(calls)? as usize)),
         ["tally"] => tally(),
         ["promises"] => promises(),
         ["shrink", file, command @ ..] if !command.is_empty() => shrink(file, command),
