@@ -16,7 +16,8 @@ fn alphabet() -> Vec<Call> {
     let mut calls = vec![Call::Create { priority: 1, entries: 1 }, Call::Create { priority: 2, entries: 1 }];
     calls.extend([0, 1, 2].map(Call::Delay));
     for target in 1..=TASKS as u8 {
-        let modes = [CallMode::Simple, CallMode::Timed(1), CallMode::Timed(2), CallMode::Timed(0), CallMode::Conditional];
+        let modes =
+            [CallMode::Simple, CallMode::Timed(1), CallMode::Timed(2), CallMode::Timed(0), CallMode::Conditional];
         calls.extend(modes.map(|mode| Call::Call { target, entry: 1, mode }));
     }
     let modes = [SelectMode::Plain, SelectMode::Delay(1), SelectMode::Delay(2), SelectMode::Else];
