@@ -1,54 +1,46 @@
 /* Puts the cases of its standard input to the library and writes what it answers; tests/reference/judge.rs says how a
-   case and a reply are laid out. It needs no header of a C library, so that the kit's compiler alone builds it. */
+   case and a reply are laid out. It takes two functions of the C library and none of its headers, so that the kit's
+   compiler alone builds it. */
+#include "fuzgerlint.h"
 
-typedef unsigned char byte;
-typedef unsigned long size;
+long read(int file, void *to, size_t bytes);
+long write(int file, const void *from, size_t bytes);
 
-long read(int file, void *to, size bytes);
-long write(int file, const void *from, size bytes);
-
-byte card_sound(const byte *state, size state_bytes);
-byte card_step(byte *state, size state_bytes, const byte *record, size record_bytes, byte *room, size room_bytes,
-               byte *answer, size answer_bytes);
-byte card_count(const byte *state, size state_bytes, byte task, byte entry, byte *answer, size answer_bytes);
-byte card_callable(const byte *state, size state_bytes, byte task, byte *answer, size answer_bytes);
-byte card_running(const byte *state, size state_bytes, byte *answer, size answer_bytes);
-
-enum { STATE = 439, CASE = 456, BEFORE = 165 };
+enum { CASE = 456, BEFORE = 165 };
 
 struct reply {
-    byte refusal, sound, answer[9], state[448], room[255], questions[6];
+    uint8_t refusal, sound, answer[9], state[448], room[255], questions[6];
 };
 
-static int whole(byte *to, size bytes) {
-    size have = 0;
+static int whole(uint8_t *to, size_t bytes) {
+    size_t have = 0;
     while (have < bytes) {
         long more = read(0, to + have, bytes - have);
         if (more <= 0) return 0;
-        have += (size)more;
+        have += (size_t)more;
     }
     return 1;
 }
 
-static int all(const byte *from, size bytes) {
+static int all(const uint8_t *from, size_t bytes) {
     while (bytes > 0) {
         long more = write(1, from, bytes);
         if (more <= 0) return 0;
         from += more;
-        bytes -= (size)more;
+        bytes -= (size_t)more;
     }
     return 1;
 }
 
-static void fill(struct reply *r, const byte *state) {
-    byte *bytes = (byte *)r;
-    for (size i = 0; i < sizeof *r; i++) bytes[i] = BEFORE;
-    for (size i = 0; i < STATE; i++) r->state[i] = state[i];
+static void fill(struct reply *r, const uint8_t *state) {
+    uint8_t *bytes = (uint8_t *)r;
+    for (size_t i = 0; i < sizeof *r; i++) bytes[i] = BEFORE;
+    for (size_t i = 0; i < CARD_STATE; i++) r->state[i] = state[i];
 }
 
-static void put(struct reply *r, const byte *given) {
-    size state = (size)given[0] << 8 | given[1];
-    byte *q = r->questions;
+static void put(struct reply *r, const uint8_t *given) {
+    size_t state = (size_t)given[0] << 8 | given[1];
+    uint8_t *q = r->questions;
     r->sound = card_sound(r->state, state);
     q[0] = card_count(r->state, state, given[5], given[6], q + 1, 1);
     q[2] = card_callable(r->state, state, given[5], q + 3, 1);
@@ -57,12 +49,12 @@ static void put(struct reply *r, const byte *given) {
 }
 
 int main(void) {
-    static byte one[CASE];
+    static uint8_t one[CASE];
     static struct reply r;
     while (whole(one, CASE)) {
         fill(&r, one);
-        put(&r, one + STATE);
-        if (!all((const byte *)&r, sizeof r)) return 1;
+        put(&r, one + CARD_STATE);
+        if (!all((const uint8_t *)&r, sizeof r)) return 1;
     }
     return 0;
 }
