@@ -1,7 +1,10 @@
 -- What stepper prints: a header, and a line for each call.
 -- Assumes nothing.
 use Prim.Native.Nat.{ℕ, zero, suc}
+use mathlib.Core.Bool.{cond}
 use mathlib.Core.List.{List, [], _∷_, _++_}
+use lib.ListN.{length, getD, drop}
+use lib.Dec.{ltb}
 use Rattle.rules.specs.declared.Answer.{Answer}
 use Rattle.text.specs.Text.{decimal}
 
@@ -21,8 +24,9 @@ barred task result entry partner = (32 ∷ 124 ∷ []) ++ (spaced task ++ (space
 -- the first n ended waits of a room, four bytes each; fewer where the room has fewer
 unfoldable pub waits : ℕ → List ℕ → List ℕ
 waits zero room = []
-waits (suc n) (task ∷ result ∷ entry ∷ partner ∷ room) = barred task result entry partner ++ waits n room
-waits (suc n) _ = []
+waits (suc n) room =
+    cond (ltb (length room) 4) []
+    (barred (getD room 0 0) (getD room 1 0) (getD room 2 0) (getD room 3 0) ++ waits n (drop 4 room))
 
 -- a line: the step's number, the answer's numbers, each ended wait behind a bar, and a line end
 unfoldable pub lineText : ℕ → Answer → List ℕ → List ℕ

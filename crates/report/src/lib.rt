@@ -4,6 +4,7 @@ ghost use mathlib.Core.List.{[], _∷_};
 ghost use Rattle.text.specs.Text.{Put};
 ghost use Rattle.report.specs.Lines.{header, spaced, barred, waits, lineText};
 use rules::Answer;
+use text::least;
 use text::put_byte;
 use text::put_bytes;
 use text::put_number;
@@ -41,14 +42,21 @@ fn put_wait(task: u8, result: u8, entry: u8, partner: u8, out: &mut [u8], at: us
 fn put_waits(ended: u8, room: &[u8], out: &mut [u8], at: usize) -> usize
     ensures { λ r. ⌜ Put (now (out .entry)) at (waits ended (now (room .entry))) (now (out .exit)) r ⌝ }
 {
-    let mut place = put_bytes(b"", out, at);
+    let mut place = least(at, out.len());
     let mut from = 0;
     let mut left = ended;
     while 0 < left {
         if room.len() - from < 4 {
             return place;
         }
-        place = put_wait(room[from], room[from + 1], room[from + 2], room[from + 3], out, place);
+        place = put_wait(
+            room[from],
+            room[from + 1],
+            room[from + 2],
+            room[from + 3],
+            out,
+            place,
+        );
         from += 4;
         left -= 1;
     }

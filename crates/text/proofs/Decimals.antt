@@ -25,7 +25,7 @@ enough (suc k) zero n h g = absurd (omega arith)
 enough (suc k) (suc m) n h g = cases (ltb n 10)
     (λ e. let low = ltb-true n 10 e in small k n low ∙ sym (small m n low))
     (λ e. let high = ltb-false n 10 e in
-        large k n high ∙ ap (λ (l : List ℕ). l ++ ((48 + n % 10) ∷ [])) (enough k m (n / 10) (omega arith) (omega arith)) ∙ sym (large m n high))
+    large k n high ∙ ap (λ (l : List ℕ). l ++ ((48 + n % 10) ∷ [])) (enough k m (n / 10) (omega arith) (omega arith)) ∙ sym (large m n high))
 
 decimal-small : (n : ℕ) → n < 10 → (48 + n) ∷ [] ≡ decimal n
 unfolding decimal

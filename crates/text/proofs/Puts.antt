@@ -60,6 +60,10 @@ then-put {row} {a} {b} {at = at} p q = record {
   placed = q .placed ∙ rw (p .written, p .placed) (behind-behind row at a b);
 }
 
+-- the row is as long as before
+pub put-kept : {row text after : List ℕ} {at k : ℕ} → Put row at text after k → length after ≡ length row
+put-kept {row} {text} {at = at} p = ap length (p .written) ∙ put-length row at text
+
 -- a byte within the row, and one behind its end
 put-set : (row : List ℕ) (at b : ℕ) → at < length row → set row at b ≡ putAt row at (b ∷ [])
 put-set [] at b h = absurd (omega arith)
@@ -92,6 +96,10 @@ putting-start row at text {k} e =
       long = refl;
       within = omega (arith, e);
     }
+
+-- the same rest under another name
+pub toward : {row text now a b : List ℕ} {at k : ℕ} → a ≡ b → Putting row at text now k a → Putting row at text now k b
+toward {row} {text} {now} {at = at} {k = k} e g = subst (Putting row at text now k) e g
 
 pub putting-on : {row text now next a rest : List ℕ} {at k m : ℕ} → Putting row at text now k (a ++ rest) → Put now k a next m → Putting row at text next m rest
 putting-on {row} {text} {now} {next} {a} {rest} {at} {k} {m} g p = record {

@@ -17,7 +17,7 @@ pub fn put_byte(b: u8, out: &mut [u8], at: usize) -> usize
 }
 
 // The smaller of two numbers.
-fn least(a: usize, b: usize) -> usize
+pub fn least(a: usize, b: usize) -> usize
     ensures { λ r. ⌜ r ≡ min a b ⌝ }
 {
     if a < b { a } else { b }
