@@ -59,8 +59,8 @@ pub leaves-room : (s : Session) (n many : ℕ) (last : Bool) (room : List ℕ) �
 leaves-room s n many last room = cases (not last && ltb many 10)
     (λ e. ap (λ (t : Turn). t .room) (asks-more s n many last room e))
     (λ e. cases (eqb n 12)
-        (λ f. ap (λ (t : Turn). t .room) (ends s n many last room e f))
-        (λ f. ap (λ (t : Turn). t .room) (says-bad s n many last room e f)))
+    (λ f. ap (λ (t : Turn). t .room) (ends s n many last room e f))
+    (λ f. ap (λ (t : Turn). t .room) (says-bad s n many last room e f)))
 
 -- what was read decides the turn
 module _ (s : Session) (input : List ℕ) (last : Bool) (room : List ℕ) (got : Read) (e : got ≡ readOf input) where

@@ -66,7 +66,15 @@ fn refusal_of(got: Read) -> u8
 }
 
 // No record: more bytes are asked for, the log is over, or a last line says what is wrong.
-fn refused(s: Session, n: u8, many: usize, last: bool, room: &[u8], out: &mut [u8], at: usize) -> Turned
+fn refused(
+    s: Session,
+    n: u8,
+    many: usize,
+    last: bool,
+    room: &[u8],
+    out: &mut [u8],
+    at: usize,
+) -> Turned
     ensures { λ r. ⌜ r ≡ turnedOf (leaves s n many last (now (room .entry))) (now (out .entry)) at ⌝ }
     ensures { λ r. ⌜ now (out .exit) ≡ putAt (now (out .entry)) at (leaves s n many last (now (room .entry)) .text) ⌝ }
 {
@@ -106,7 +114,14 @@ fn refused(s: Session, n: u8, many: usize, last: bool, room: &[u8], out: &mut [u
 }
 
 // One turn on the input, of which more bytes may come unless `last`. A bad record gets a line with refusal 11, and stops it.
-pub fn turn(s: Session, input: &[u8], last: bool, room: &mut [u8], out: &mut [u8], at: usize) -> Turned
+pub fn turn(
+    s: Session,
+    input: &[u8],
+    last: bool,
+    room: &mut [u8],
+    out: &mut [u8],
+    at: usize,
+) -> Turned
     ensures { λ r. ⌜ r ≡ turnedOf (turnOf s (now (input .entry)) last (now (room .entry))) (now (out .entry)) at ⌝ }
     ensures { λ r. ⌜ now (room .exit) ≡ turnOf s (now (input .entry)) last (now (room .entry)) .room ⌝ }
     ensures { λ r. ⌜ now (out .exit) ≡ putAt (now (out .entry)) at (turnOf s (now (input .entry)) last (now (room .entry)) .text) ⌝ }

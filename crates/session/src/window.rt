@@ -27,7 +27,7 @@ fn shift(buf: &mut [u8], at: usize, end: usize) -> usize
     ensures { λ r. ⌜ r ≤ length (now (buf .entry)) ⌝ }
 {
     let n = end - at;
-    let mut i = 0;
+    let mut i: usize = 0;
     while i < n {
         buf[i] = buf[at + i];
         i += 1;
@@ -53,7 +53,7 @@ pub fn refilled(w: Window, buf: &mut [u8]) -> Window {
 // The window with a whole head of eight bytes in it, where the input has one.
 pub fn headed(w: Window, buf: &mut [u8]) -> Window {
     let mut n = w;
-    let mut i = 0;
+    let mut i: usize = 0;
     while i < 8 {
         n = topped(n, buf);
         i += 1;
