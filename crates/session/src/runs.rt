@@ -76,7 +76,7 @@ fn less(left: u64, n: usize) -> u64 {
 fn started(clock: u32, left: u64, window: Window, out: &mut [u8], waits: usize) -> Run {
     let o = drained(out, waits);
     let place = put_header(out, o.waits);
-    let state = rules::made(clock);
+    let state = supervisor::empty(clock);
     let session = Session { state, step: 1 };
     Run {
         window,

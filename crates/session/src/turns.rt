@@ -9,7 +9,6 @@ use calls::Read;
 use report::put_line;
 use rules::Answer;
 use rules::Supervisor;
-use table::dispatch::running_of;
 
 // A log on its way: the supervisor, and the number of the next line.
 pub struct Session {
@@ -102,7 +101,7 @@ fn refused(
         entry: 0,
         partner: 0,
         ended: 0,
-        next: running_of(state),
+        next: supervisor::running(state),
     };
     let place = put_line(s.step, answer, room, out, at);
     Turned {

@@ -14,7 +14,7 @@ use Rattle.rules.specs.declared.Item.{Item}
 use Rattle.rules.specs.declared.Place.{Place}
 use Rattle.rules.specs.declared.Supervisor.{Supervisor}
 use Rattle.rules.proofs.Invariant.{Sound}
-use Rattle.supervisor.specs.declared.Taken.{Taken}
+use Rattle.supervisor.specs.declared.answers.Taken.{Taken}
 
 -- the struct is that of a sound state
 pub record Stands (s : Supervisor) : Type 0 where

@@ -18,7 +18,7 @@ returns-2 c =
 
 returns-3 : tie.Need-returns-3
 returns-3 c =
-    says _ _ (says-bad (c .before .before .before .before .before .before .before .before .before .before .args .s) (c .before .before .before .before .before .before .before .before .before .before .args .n) (c .before .before .before .before .before .before .before .before .before .before .args .many) (c .before .before .before .before .before .before .before .before .before .before .args .last) (c .before .before .before .before .before .before .before .before .before .before .args .room .now) (c .before .before .before .before .before .before .before .if1 .left) (ne-eqb (c .before .before .before .before .before .before .before .before .before .before .args .n) 12 (c .before .before .before .before .before .before .if2 .left))) (same-text (ap (λ (k : ℕ). lineText (c .before .before .before .before .before .before .before .before .before .before .args .s .step) (record { refusal = c .before .before .before .before .before .before .before .before .before .before .args .n; result = 0; task = 0; entry = 0; partner = 0; ended = 0; next = k }) (c .before .before .before .before .before .before .before .before .before .before .args .room .now)) (c .before .before .before .before .running-of .ensures)) (c .before .before .put-line .ensures))
+    says _ _ (says-bad (c .before .before .before .before .before .before .before .before .before .before .args .s) (c .before .before .before .before .before .before .before .before .before .before .args .n) (c .before .before .before .before .before .before .before .before .before .before .args .many) (c .before .before .before .before .before .before .before .before .before .before .args .last) (c .before .before .before .before .before .before .before .before .before .before .args .room .now) (c .before .before .before .before .before .before .before .if1 .left) (ne-eqb (c .before .before .before .before .before .before .before .before .before .before .args .n) 12 (c .before .before .before .before .before .before .if2 .left))) (same-text (ap (λ (k : ℕ). lineText (c .before .before .before .before .before .before .before .before .before .before .args .s .step) (record { refusal = c .before .before .before .before .before .before .before .before .before .before .args .n; result = 0; task = 0; entry = 0; partner = 0; ended = 0; next = k }) (c .before .before .before .before .before .before .before .before .before .before .args .room .now)) (c .before .before .before .before .running .ensures)) (c .before .before .put-line .ensures))
 
 pub refused-spec : {M : Type 1} → statement M
 refused-spec =
