@@ -18,7 +18,7 @@ use Rattle.rules.specs.declared.Supervisor.{Supervisor}
 use Rattle.soundness.specs.declared.stand.Line.{Line}
 use Rattle.soundness.specs.Marks.{Marks, Whole, hasMark, withMark, withoutMark, isNone}
 use Rattle.soundness.specs.Check.{named, wanted, emptied, lineHas, belongs, arrayOf, standsIn}
-use Rattle.soundness.proofs.TaskLaws.{named-is}
+use Rattle.soundness.proofs.TaskLaws.{and-none, named-is}
 use Rattle.soundness.proofs.MarkLaws.{none-whole, with-whole, without-whole, has-none, has-with, has-without, none-has, has-all}
 
 -- ── tests that pass at each of 1..n ──
@@ -41,10 +41,6 @@ every-at f (suc n) t e a b =
 
 pub every-miss : (f : ℕ → Bool) (n t : ℕ) → 0 < t → t ≤ n → f t ≡ false → every f (downFrom n) ≡ false
 every-miss f n t a b e = cases (every f (downFrom n)) (λ q. clash (every-at f n t q a b) e) (λ q. q)
-
-pub and-none : (a : Bool) → (a && false) ≡ false
-and-none true = refl
-and-none false = refl
 
 eqb-suc : (k : ℕ) → eqb k 0 ≡ eqb (1 + k) 1
 eqb-suc k = by-eq k 0 (λ e. rw e) (λ e. rw (ne-eqb k 0 e, ne-eqb (1 + k) 1 (λ z. e (omega arith))))

@@ -20,7 +20,7 @@ use Rattle.rules.specs.declared.Supervisor.{Supervisor}
 use Rattle.soundness.specs.declared.stand.Line.{Line}
 use Rattle.soundness.specs.declared.stand.Line.the-variants.{Ready, Callers, Held, Delays}
 use Rattle.soundness.specs.Check.{named, goodIn, leftOf, ascending, belongs, arrayOf, standsIn, lineHas}
-use Rattle.soundness.proofs.LineLaws.{and-none}
+use Rattle.soundness.proofs.TaskLaws.{and-none}
 
 -- ── order: each at most the next is each at most all behind ──
 

@@ -1,4 +1,5 @@
-// The soundness check: whether a state is sound, as the rules say it.
+// The soundness check: whether a state is sound, as the rules say it. The modules are this crate's own: what others see is
+// `is_sound`. No function that is called in a loop takes the state: each call would copy it whole.
 ghost use Prim.Native.Nat.{_≤_};
 ghost use lib.ListN.{drop};
 ghost use mathlib.Core.Path.{_≡_};
