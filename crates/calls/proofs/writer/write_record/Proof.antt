@@ -1,0 +1,67 @@
+use borrow.Author.Needs.{needs}
+use mathlib.Core.Path.{_≡_}
+use mir.Syntax.{w32}
+use mir.Val.{toZ, ofZ}
+use Rattle.calls.proofs.writer.write_record.Statement.{statement}
+use Rattle.calls.proofs.writer.write_record.Tie as tie
+
+returns : tie.Need-returns
+returns c = rw (c .before .before .before .before .before .before .c .given .1) (c .before .before .put .ensures)
+
+returns-2 : tie.Need-returns-2
+returns-2 c =
+    let k = c .before .before .before .before .before .c2 .given in
+    let e : toZ w32 (ofZ w32 (k .0 .0)) ≡ k .0 .0 = search needs in
+    rw (k .1) (rw e at (c .before .before .put-delay .ensures))
+
+returns-3 : tie.Need-returns-3
+returns-3 c = rw (c .before .before .before .before .before .c3 .given .1) (c .before .before .put-call .ensures)
+
+returns-4 : tie.Need-returns-4
+returns-4 c = rw (c .before .before .before .before .before .c4 .given .1) (c .before .before .put-select .ensures)
+
+returns-5 : tie.Need-returns-5
+returns-5 c = rw (c .before .before .before .before .before .enum-told .given .1) (c .before .before .put2 .ensures)
+
+returns-6 : tie.Need-returns-6
+returns-6 c = rw (c .before .before .before .before .before .enum-told2 .given .1) (c .before .before .put3 .ensures)
+
+returns-7 : tie.Need-returns-7
+returns-7 c = rw (c .before .before .before .before .before .enum-told3 .given .1) (c .before .before .put4 .ensures)
+
+pub write-record-spec : {M : Type 1} → statement M
+write-record-spec =
+    tie.close
+    (tie.spec
+    (λ c. search needs)
+    (λ c. search needs)
+    (λ c κs. search needs)
+    (λ c. search needs)
+    (λ c κs. search needs)
+    (λ c. search needs)
+    (λ c κs. search needs)
+    (λ c. search needs)
+    (λ c κs. search needs)
+    (λ c. search needs)
+    (λ c. search needs)
+    (λ c κs. search needs)
+    (λ c. search needs)
+    (λ c. search needs)
+    (λ c κs. search needs)
+    (λ c. search needs)
+    (λ c. search needs)
+    (λ c κs. search needs)
+    (λ c. search needs)
+    returns
+    (λ c. search needs)
+    returns-2
+    (λ c. search needs)
+    returns-3
+    (λ c. search needs)
+    returns-4
+    (λ c. search needs)
+    returns-5
+    (λ c. search needs)
+    returns-6
+    (λ c. search needs)
+    returns-7)

@@ -1,0 +1,26 @@
+-- The reader's two parts: the frame, and the fields of a record whose frame is right.
+use Prim.Native.Nat.{ℕ, _+_}
+use mathlib.Core.Bool.{Bool, not, _&&_, _||_}
+use mathlib.Core.List.{List}
+use lib.Dec.{eqb, ltb}
+use Rattle.lists.specs.Lists.{if_then_else_}
+use Rattle.calls.specs.Record.{lengthOf, hasMode, modeOf, timeOf}
+use Rattle.calls.specs.Reading.{fewBytes, unknownTag, wrongLength, cutShort, callIn}
+use Rattle.calls.specs.declared.Read.{Read}
+use Rattle.calls.specs.declared.Read.the-variants.{Record, BadRecord}
+
+-- the faults of tag, length and number of bytes
+unfoldable pub badFrame : List ℕ → Bool
+badFrame s = fewBytes s || unknownTag s || wrongLength s || cutShort s
+
+-- a mode's number and the bits of its d are those of no mode
+abbrev pub badMode : ℕ → ℕ → Bool
+badMode m d = ltb 2 m || not (eqb m 1) && not (eqb d 0)
+
+-- the faults of mode and d
+abbrev pub badBody : ℕ → List ℕ → Bool
+badBody tag s = hasMode tag && badMode (modeOf tag s) (timeOf tag s)
+
+-- what is found where the frame is right
+unfoldable pub bodyRead : ℕ → List ℕ → Read
+bodyRead tag s = if badBody tag s then BadRecord else Record (callIn tag s) (3 + lengthOf tag)

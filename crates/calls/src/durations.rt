@@ -1,0 +1,35 @@
+// Durations: signed numbers of ticks, and the 32 bits that stand for them.
+ghost use mathlib.Core.Path.{_≡_};
+ghost use Rattle.calls.specs.Duration as D;
+
+// The ticks that a duration asks to wait: zero and below mean the same.
+pub fn ticks(d: i32) -> u32
+    ensures { λ r. ⌜ r ≡ D.ticks d ⌝ }
+{
+    if d < 0 { 0 } else { d as u32 }
+}
+
+// Four bytes as a number, high byte first.
+pub fn word(a: u8, b: u8, c: u8, d: u8) -> u32
+    ensures { λ r. ⌜ r ≡ D.four a b c d ⌝ }
+{
+    (a as u32) * 16777216 + (b as u32) * 65536 + (c as u32) * 256 + (d as u32)
+}
+
+// The duration that 32 bits stand for, two's complement.
+pub(crate) fn duration(n: u32) -> i32
+    ensures { λ r. ⌜ r ≡ D.signed n ⌝ }
+{
+    if n < 2147483648 {
+        n as i32
+    } else {
+        !((!n) as i32)
+    }
+}
+
+// The 32 bits of a duration.
+pub(crate) fn duration_bits(d: i32) -> u32
+    ensures { λ r. ⌜ r ≡ D.bitsOf d ⌝ }
+{
+    if d < 0 { !((!d) as u32) } else { d as u32 }
+}

@@ -1,0 +1,187 @@
+// The reader of call records.
+ghost use mathlib.Core.Path.{_≡_};
+ghost use mathlib.Core.Bool.{true, false};
+ghost use Prim.Native.Nat.{_+_, _*_, _≤_};
+ghost use lib.ListN.{length};
+ghost use Rattle.calls.specs.Record.{fourFrom, lengthOf, isUnknown};
+ghost use Rattle.calls.specs.Reading.{callModeOf, selectModeOf, readOf, refusalOf, countOf, refusalFor, countFor};
+ghost use Rattle.calls.specs.Parts.{badFrame, badMode, bodyRead};
+use super::Call;
+use super::CallMode;
+use super::Read;
+use super::SelectMode;
+use super::durations::duration;
+use super::durations::word;
+
+// The four bytes of s from index i.
+fn four_from(s: &[u8], i: usize) -> u32
+    requires { ⌜ i + 4 ≤ length (now s) ⌝ }
+    ensures { λ r. ⌜ r ≡ fourFrom (now (s .entry)) i ⌝ }
+{
+    word(s[i], s[i + 1], s[i + 2], s[i + 3])
+}
+
+// Two bytes as a number, high byte first.
+fn half(a: u8, b: u8) -> usize
+    ensures { λ r. ⌜ r ≡ a * 256 + b ⌝ }
+{
+    (a as usize) * 256 + (b as usize)
+}
+
+fn is_unknown(tag: u8) -> bool
+    ensures { λ r. ⌜ r ≡ isUnknown tag ⌝ }
+{
+    (tag < 1) | (7 < tag)
+}
+
+// The length that belongs to a tag.
+fn length_of(tag: u8) -> usize
+    ensures { λ r. ⌜ r ≡ lengthOf tag ⌝ }
+{
+    match tag {
+        1 => 2,
+        2 => 4,
+        3 => 7,
+        4 => 6,
+        5 => 0,
+        6 => 0,
+        7 => 0,
+        _ => 0,
+    }
+}
+
+// Whether tag, length and number of bytes are not those of a record.
+fn bad_frame(s: &[u8]) -> bool
+    ensures { λ r. ⌜ r ≡ badFrame (now (s .entry)) ⌝ }
+{
+    if s.len() < 3 {
+        return true;
+    }
+    let tag = s[0];
+    let n = length_of(tag);
+    is_unknown(tag) | (half(s[1], s[2]) != n) | (s.len() - 3 < n)
+}
+
+// Whether a mode's number and duration make no mode.
+fn bad_mode(m: u8, d: u32) -> bool
+    ensures { λ r. ⌜ r ≡ badMode m d ⌝ }
+{
+    (2 < m) | ((m != 1) & (d != 0))
+}
+
+fn call_mode(m: u8, d: u32) -> CallMode
+    ensures { λ r. ⌜ r ≡ callModeOf m d ⌝ }
+{
+    match m {
+        0 => CallMode::Simple,
+        1 => CallMode::Timed(duration(d)),
+        _ => CallMode::Conditional,
+    }
+}
+
+fn select_mode(m: u8, d: u32) -> SelectMode
+    ensures { λ r. ⌜ r ≡ selectModeOf m d ⌝ }
+{
+    match m {
+        0 => SelectMode::Plain,
+        1 => SelectMode::Delay(duration(d)),
+        _ => SelectMode::Else,
+    }
+}
+
+// A DELAY record whose frame is right.
+fn read_delay(s: &[u8]) -> Read
+    requires { ⌜ 7 ≤ length (now s) ⌝ }
+    ensures { λ r. ⌜ r ≡ bodyRead 2 (now (s .entry)) ⌝ }
+{
+    let d = duration(four_from(s, 3));
+    Read::Record {
+        call: Call::Delay(d),
+        count: 7,
+    }
+}
+
+// A CALL record whose frame is right.
+fn read_call(s: &[u8]) -> Read
+    requires { ⌜ 10 ≤ length (now s) ⌝ }
+    ensures { λ r. ⌜ r ≡ bodyRead 3 (now (s .entry)) ⌝ }
+{
+    let m = s[5];
+    let d = four_from(s, 6);
+    if bad_mode(m, d) {
+        return Read::BadRecord;
+    }
+    let mode = call_mode(m, d);
+    Read::Record {
+        call: Call::Call {
+            target: s[3],
+            entry: s[4],
+            mode,
+        },
+        count: 10,
+    }
+}
+
+// A SELECT record whose frame is right.
+fn read_select(s: &[u8]) -> Read
+    requires { ⌜ 9 ≤ length (now s) ⌝ }
+    ensures { λ r. ⌜ r ≡ bodyRead 4 (now (s .entry)) ⌝ }
+{
+    let m = s[4];
+    let d = four_from(s, 5);
+    if bad_mode(m, d) {
+        return Read::BadRecord;
+    }
+    let mode = select_mode(m, d);
+    Read::Record {
+        call: Call::Select { open: s[3], mode },
+        count: 9,
+    }
+}
+
+// A record whose frame is right. There is no other tag: the frame would be wrong.
+fn read_body(s: &[u8], tag: u8) -> Read
+    requires { ⌜ isUnknown tag ≡ false ⌝ }
+    requires { ⌜ 3 + lengthOf tag ≤ length (now s) ⌝ }
+    ensures { λ r. ⌜ r ≡ bodyRead tag (now (s .entry)) ⌝ }
+{
+    match tag {
+        1 => Read::Record {
+            call: Call::Create {
+                priority: s[3],
+                entries: s[4],
+            },
+            count: 5,
+        },
+        2 => read_delay(s),
+        3 => read_call(s),
+        4 => read_select(s),
+        5 => Read::Record {
+            call: Call::End,
+            count: 3,
+        },
+        6 => Read::Record {
+            call: Call::Finish,
+            count: 3,
+        },
+        7 => Read::Record {
+            call: Call::Tick,
+            count: 3,
+        },
+        _ => Read::BadRecord,
+    }
+}
+
+// The record at the start of s. Bytes behind it are not looked at.
+pub fn read_record(s: &[u8]) -> Read
+    ensures { λ r. ⌜ r ≡ readOf (now (s .entry)) ⌝ }
+    ensures { λ r. ⌜ (refusalOf r ≡ refusalFor (now (s .entry))) × (countOf r ≡ countFor (now (s .entry))) ⌝ }
+{
+    if s.len() == 0 {
+        return Read::EndOfLog;
+    }
+    if bad_frame(s) {
+        return Read::BadRecord;
+    }
+    read_body(s, s[0])
+}
