@@ -7,8 +7,9 @@ ghost use Rattle.lists.specs.Lists.{every, downFrom};
 ghost use Rattle.rules.specs.Whole.{view, unused, soundWhole};
 ghost use Rattle.soundness.specs.Check.{goodIn};
 use rules::Supervisor;
-use table::place::is_between;
 use table::place::partner_of;
+use table::tasks::index_of;
+use table::tasks::shown;
 
 mod marks;
 mod order;
@@ -36,16 +37,16 @@ fn all_good(s: Supervisor) -> bool
     requires { ⌜ s .created ≤ 31 ⌝ }
     ensures { λ r. ⌜ r ≡ every (goodIn (view s)) (downFrom (s .created)) ⌝ }
 {
-    let n = s.created;
-    let mut t = n;
+    let mut t = s.created;
     while t > 0 {
-        let at = task::index_of(t);
-        let x = s.tasks[at];
+        let i = (t - 1) as usize;
+        let x = s.tasks[i];
         let p = x.place;
         let u = partner_of(p);
-        let to = task::index_of(u);
-        let g = s.tasks[to];
-        if task::is_good(s.clock, x, is_between(u, n), g) {
+        let at = index_of(u);
+        let k = s.tasks[at];
+        let g = shown(s.created, u, k);
+        if task::is_good(s.clock, x, g) {
             t -= 1;
         } else {
             return false;
