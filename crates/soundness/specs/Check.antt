@@ -48,6 +48,9 @@ arrayOf s Callers = s .callers
 arrayOf s Held = s .held
 arrayOf s Delays = s .delays
 
+abbrev pub lines : List Line
+lines = Ready ∷ Callers ∷ Held ∷ Delays ∷ []
+
 -- the array is task numbers 1..n and blanks behind, and has each of 1..n once if it passes the test, and else not
 unfoldable pub lineHas : ℕ → (ℕ → Bool) → List ℕ → Bool
 lineHas n f a = (tidy a && every (named n) (line a)) && every (λ t. eqb (count t (line a)) (bit (f t))) (downFrom n)

@@ -1,5 +1,6 @@
 // The soundness check: whether a state is sound, as the rules say it. The modules are this crate's own: what others see is
-// `is_sound`. No function that is called in a loop takes the state: each call would copy it whole.
+// `is_sound`. No function that is called for each task takes the state: each call would copy it whole. Each function that does
+// take it is called in one place, so that the compiler lays them all into `is_sound`, with one copy of the state among them.
 ghost use Prim.Native.Nat.{_≤_};
 ghost use lib.ListN.{drop};
 ghost use mathlib.Core.Path.{_≡_};
@@ -62,9 +63,5 @@ pub fn is_sound(s: Supervisor) -> bool
     if s.created > 31 {
         return false;
     }
-    let placed = stand::in_line(s, stand::Line::Ready)
-        & stand::in_line(s, stand::Line::Callers)
-        & stand::in_line(s, stand::Line::Held);
-    let timed = stand::in_line(s, stand::Line::Delays) & order::in_order(s);
-    all_unused(s) & all_good(s) & placed & timed
+    all_unused(s) & all_good(s) & stand::in_lines(s) & order::in_order(s)
 }

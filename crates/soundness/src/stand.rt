@@ -1,10 +1,12 @@
 // Each task stands once in the line of its place, and nowhere else.
 ghost use Prim.Native.Nat.{_≤_};
-ghost use lib.ListN.{length};
+ghost use lib.ListN.{length, getD};
 ghost use mathlib.Core.Bool.{_&&_, not};
 ghost use mathlib.Core.Path.{_≡_};
 ghost use lib.Dec.{eqb};
-ghost use Rattle.soundness.specs.Check.{belongs, emptied, full, standsIn};
+ghost use Rattle.lists.specs.Lists.{every};
+ghost use Rattle.soundness.specs.Check.{belongs, emptied, full, lines, standsIn};
+ghost use Rattle.soundness.specs.declared.stand.Line.the-variants.{Delays};
 ghost use Rattle.soundness.specs.Marks.{hasMark};
 use crate::marks;
 use rules::Supervisor;
@@ -77,7 +79,7 @@ fn is_met(a: &[u8; 31], word: u32) -> bool
 }
 
 // The line holds each created task that belongs into it, once, and nothing else.
-pub fn in_line(s: Supervisor, l: Line) -> bool
+fn in_line(s: Supervisor, l: Line) -> bool
     requires { ⌜ s .created ≤ 31 ⌝ }
     ensures { λ r. ⌜ r ≡ standsIn s l ⌝ }
 {
@@ -94,4 +96,32 @@ pub fn in_line(s: Supervisor, l: Line) -> bool
         Line::Held => is_met(&s.held, word),
         Line::Delays => is_met(&s.delays, word),
     }
+}
+
+// The line with the number i; the last for every number above.
+fn line_at(i: u8) -> Line
+    ensures { λ r. ⌜ r ≡ getD lines i Delays ⌝ }
+{
+    match i {
+        0 => Line::Ready,
+        1 => Line::Callers,
+        2 => Line::Held,
+        _ => Line::Delays,
+    }
+}
+
+// Each of the four lines.
+pub fn in_lines(s: Supervisor) -> bool
+    requires { ⌜ s .created ≤ 31 ⌝ }
+    ensures { λ r. ⌜ r ≡ every (standsIn s) lines ⌝ }
+{
+    let mut i: u8 = 0;
+    while i < 4 {
+        if in_line(s, line_at(i)) {
+            i += 1;
+        } else {
+            return false;
+        }
+    }
+    true
 }
