@@ -14,7 +14,14 @@ struct Told {
 }
 
 // A step with its name and its line.
-fn tell_step(name: &[u8], s: Supervisor, c: Call, room: &mut [u8], out: &mut [u8], at: usize) -> Told {
+fn tell_step(
+    name: &[u8],
+    s: Supervisor,
+    c: Call,
+    room: &mut [u8],
+    out: &mut [u8],
+    at: usize,
+) -> Told {
     let a = put_bytes(name, out, at);
     let stepped = supervisor::step(s, c, room);
     let answer = stepped.answer;
@@ -90,7 +97,14 @@ fn tell_rooms(out: &mut [u8], at: usize) -> Told {
     let a = tell_step(b"CREATE, room 123: ", s, low, &mut short, out, at);
     let b = tell_step(b"CREATE, room 124: ", a.state, low, &mut room, out, a.place);
     let c = tell_step(b"CREATE, no room: ", b.state, high, &mut [], out, b.place);
-    let d = tell_step(b"CREATE, room 124: ", c.state, high, &mut room, out, c.place);
+    let d = tell_step(
+        b"CREATE, room 124: ",
+        c.state,
+        high,
+        &mut room,
+        out,
+        c.place,
+    );
     tell_step(b"CALL, room 124: ", d.state, call, &mut room, out, d.place)
 }
 
