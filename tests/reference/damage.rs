@@ -198,7 +198,8 @@ fn another_time(random: &mut Random, bytes: &mut [u8]) {
         return;
     }
     let task = 1 + random.below(created as usize) as u8;
-    let mut delays: Vec<u8> = Flat(bytes).members(Line::Delays).iter().copied().filter(|&other| other != task).collect();
+    let mut delays: Vec<u8> =
+        Flat(bytes).members(Line::Delays).iter().copied().filter(|&other| other != task).collect();
     let due = match Flat(bytes).timed(task) {
         true => None,
         false => Some(Flat(bytes).clock().wrapping_add(1 + random.below(5) as u32)),

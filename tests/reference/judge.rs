@@ -4,7 +4,7 @@
 //! a record, and ten bytes that begin with the record. An answer is 706 bytes: 1 if the state is sound, the seven numbers
 //! of the step, the state afterwards, the 255 bytes in which the room lies, and refusal and answer of COUNT and CALLABLE.
 
-use crate::calls::{self, Read};
+use crate::calls::{self, Call, Read};
 use crate::damage;
 use crate::flat::{self, Flat, STATE};
 use crate::generate;
@@ -31,13 +31,19 @@ pub fn cases(seed: u64, count: usize) -> Vec<u8> {
     let mut bytes = Vec::new();
     for state in damage::states(seed, count) {
         let met = state_of(&state).unwrap_or(Supervisor::empty(0));
-        let record = calls::record(&generate::some_call(&mut random, &met));
+        let call = generate::some_call(&mut random, &met);
         let room = random.one_of(&[124, 124, 124, 125, 255, 123, 0]);
-        bytes.extend(state);
-        bytes.extend([room, random.below(34) as u8, random.below(10) as u8, record.len() as u8]);
-        bytes.extend(&record);
-        bytes.resize(bytes.len() + 10 - record.len(), 0);
+        let asked = [random.below(34) as u8, random.below(10) as u8];
+        bytes.extend(case(&state, room, asked, &call));
     }
+    bytes
+}
+
+/// The bytes of one case.
+pub fn case(state: &[u8], room: u8, asked: [u8; 2], call: &Call) -> Vec<u8> {
+    let record = calls::record(call);
+    let mut bytes = [state, &[room], &asked, &[record.len() as u8], &record].concat();
+    bytes.resize(CASE, 0);
     bytes
 }
 

@@ -97,10 +97,9 @@ impl Pieces {
                 Call::Call { target, entry, mode: CallMode::Simple },
                 Call::Call { target, entry, mode: CallMode::Timed(d / 2) },
             ],
-            Call::Select { open, mode: SelectMode::Delay(d) } => &[
-                Call::Select { open, mode: SelectMode::Plain },
-                Call::Select { open, mode: SelectMode::Delay(d / 2) },
-            ],
+            Call::Select { open, mode: SelectMode::Delay(d) } => {
+                &[Call::Select { open, mode: SelectMode::Plain }, Call::Select { open, mode: SelectMode::Delay(d / 2) }]
+            }
             _ => &[],
         };
         let changed = |&call: &Call| {
