@@ -198,9 +198,11 @@ one-stretch a e z =
     let t : [] ≡ blocksFrom 0 (s .sound .pieces) = ap (λ (n : ℕ). take n (a .blocks)) (sym z) ∙ s .sound .are-blocks in
     let w : fl a e ≡ stretch 0 units ∷ [] = s .sound .are-free ∙ whole-area (s .sound .pieces) t (s .sound .fill) (s .sound .good) in
     let c : length (fl a e) ≡ a .used .free = count-free (a .blocks) (a .free) (a .used) s in
-    let d : length (fl a e) ≡ 1 = ap length w in
-    (rest-unused (a .blocks) 0 (subst (λ (n : ℕ). every isNone (drop n (a .blocks)) ≡ true) z (s .unused-blocks)),
-    rest-unused (a .free) (a .used .free) (s .unused-free) ∙ ap (tableAfter (a .free)) w, omega (arith, c, d))
+    let d : length (fl a e) ≡ 1 = ap length w in (
+      rest-unused (a .blocks) 0 (subst (λ (n : ℕ). every isNone (drop n (a .blocks)) ≡ true) z (s .unused-blocks)),
+      rest-unused (a .free) (a .used .free) (s .unused-free) ∙ ap (tableAfter (a .free)) w,
+      omega (arith, c, d),
+    )
 
 module _ (a : Area) (e : isSound a ≡ true) (b : Stretch) (ls : List Stretch) (w : take (a .used .blocks) (a .blocks) ≡ b ∷ ls) where
   first-released : outcomeOf a (give (b .start)) ≡ took (b .length) ls (joined (stretch (b .start) (b .length)) (fl a e))
