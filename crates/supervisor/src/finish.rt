@@ -3,13 +3,13 @@ ghost use Prim.Native.Nat.{_≤_};
 ghost use lib.ListN.{length};
 ghost use mathlib.Core.Path.{_≡_};
 ghost use Rattle.calls.specs.declared.Call.the-variants.{Finish};
-ghost use Rattle.lists.specs.Line.{pad};
-ghost use Rattle.rules.specs.Step.{takeCall, roomAfter, queuedOn};
+ghost use Rattle.rules.specs.Step.{takeCall, roomAfter};
 ghost use Rattle.rules.specs.Whole.{view};
 ghost use Rattle.supervisor.specs.Taken.{Stands, takenOf, endedBy};
 use super::answers::Taken;
 use super::answers::answered;
 use super::answers::refused_by;
+use super::callers::queued_on;
 use super::ended::wake_all;
 use super::numbers::DONE;
 use super::numbers::NO_TASK;
@@ -21,29 +21,6 @@ use table::dispatch::running;
 use table::moves::moved;
 use table::queues::Test;
 use table::queues::picked;
-
-// All callers queued on task t, entry 1 first, each queue from its head.
-fn queued_on(s: Supervisor, t: u8) -> [u8; 31]
-    ensures { λ r. ⌜ r ≡ pad (queuedOn (view s) t) ⌝ }
-{
-    let callers = s.callers;
-    let mut r = [0u8; 31];
-    let mut e: u8 = 1;
-    while e < 9 {
-        let q = picked(
-            s,
-            callers,
-            Test::QueuedOn {
-                target: t,
-                entry: e,
-            },
-        );
-        let next = lines::joined_all(r, q);
-        r = next;
-        e += 1;
-    }
-    r
-}
 
 // The running task completes, and all callers queued on it become ready.
 pub fn finish(s: Supervisor, room: &mut [u8]) -> Taken

@@ -1,6 +1,7 @@
 // The supervisor: an empty one, its step, its questions.
 mod answers;
 mod call;
+mod callers;
 mod create;
 mod delay;
 mod end;

@@ -3,15 +3,14 @@ ghost use Prim.Native.Nat.{_≤_};
 ghost use lib.ListN.{length};
 ghost use mathlib.Core.Path.{_≡_};
 ghost use Rattle.calls.specs.declared.Call.the-variants.{Select};
-ghost use Rattle.lists.specs.Line.{line};
 ghost use Rattle.rules.specs.Step.{takeCall, selectNone};
 ghost use Rattle.rules.specs.Whole.{view};
-ghost use Rattle.supervisor.specs.Lowest.{openCall, callOf, nobody, lowerOf, lowestOf};
 ghost use Rattle.supervisor.specs.Taken.{Stands, takenOf};
 use super::answers::Taken;
 use super::answers::answered;
 use super::answers::refused_by;
 use super::answers::ticks_of;
+use super::callers::lowest;
 use super::numbers::ACCEPTED;
 use super::numbers::DELAY_TAKEN;
 use super::numbers::ELSE_TAKEN;
@@ -27,63 +26,8 @@ use rules::Timer;
 use table::dispatch::running;
 use table::moves::met;
 use table::moves::moved;
-use table::place::entry_of;
-use table::place::is_between;
-use table::place::is_open;
-use table::place::is_queued;
 use table::place::is_too_wide;
-use table::place::partner_of;
-use table::tasks::index_of;
-use table::tasks::shown;
 use table::tasks::task_of;
-
-// A caller, and the open entry that it has called; entry 9, which no task has, stands for none.
-pub struct Caller {
-    pub task: u8,
-    pub entry: u8,
-}
-
-// The open entry that a task in place p has called at task t; 9 where there is none.
-fn open_call(t: u8, o: u8, p: Place) -> u8
-    ensures { λ r. ⌜ r ≡ openCall t o p ⌝ }
-{
-    let e = entry_of(p);
-    if is_queued(p) & (partner_of(p) == t) & is_between(e, 8) & is_open(o, e) {
-        e
-    } else {
-        9
-    }
-}
-
-// The caller of the lower entry; of the same entry the earlier one.
-fn lower(b: Caller, c: u8, e: u8) -> Caller
-    ensures { λ r. ⌜ r ≡ lowerOf b c e ⌝ }
-{
-    if e < b.entry {
-        Caller { task: c, entry: e }
-    } else {
-        b
-    }
-}
-
-// The longest-waiting caller of the lowest open entry of task t that has one.
-fn lowest(s: Supervisor, t: u8, o: u8) -> Caller
-    ensures { λ r. ⌜ r ≡ lowestOf (callOf (view s) t o) nobody (line (s .callers)) ⌝ }
-{
-    let mut b = Caller { task: 0, entry: 9 };
-    for i in 0..31 {
-        let c = s.callers[i];
-        if c == 0 {
-            return b;
-        }
-        let at = index_of(c);
-        let k = s.tasks[at];
-        let x = shown(s.created, c, k);
-        let p = x.place;
-        b = lower(b, c, open_call(t, o, p));
-    }
-    b
-}
 
 // No open entry has a caller: the task waits, or not, as the mode says.
 fn select_none(s: Supervisor, t: u8, o: u8, m: SelectMode) -> Taken

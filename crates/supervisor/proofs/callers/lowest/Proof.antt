@@ -10,8 +10,8 @@ use Rattle.rules.specs.declared.Task.{Task}
 use Rattle.table.proofs.LeafLaws.{mapped-long, shown-at}
 use Rattle.supervisor.specs.Lowest.{openCall, callOf, nobody, lowestOf}
 use Rattle.supervisor.proofs.LowestLaws.{lower-turn}
-use Rattle.supervisor.proofs.select.lowest.Statement.{statement}
-use Rattle.supervisor.proofs.select.lowest.Tie as tie
+use Rattle.supervisor.proofs.callers.lowest.Statement.{statement}
+use Rattle.supervisor.proofs.callers.lowest.Tie as tie
 
 -- The lowest of the rest of the line, from the lowest so far, is that of the line.
 abbrev Inv-loop : tie.InvT-loop

@@ -1,6 +1,6 @@
 use borrow.Author.Tests.{lt-ltb, le-ltb}
-use Rattle.supervisor.proofs.select.lower.Statement.{statement}
-use Rattle.supervisor.proofs.select.lower.Tie as tie
+use Rattle.supervisor.proofs.callers.lower.Statement.{statement}
+use Rattle.supervisor.proofs.callers.lower.Tie as tie
 
 returns : tie.Need-returns
 returns c = rw (lt-ltb _ _ (c .if1 .taken))

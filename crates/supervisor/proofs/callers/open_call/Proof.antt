@@ -6,8 +6,8 @@ use lib.Dec.{eqb}
 use Rattle.lists.specs.Lists.{if_then_else_}
 use Rattle.supervisor.specs.Lowest.{openCall}
 use Rattle.supervisor.proofs.LowestLaws.{open-call-is}
-use Rattle.supervisor.proofs.select.open_call.Statement.{statement}
-use Rattle.supervisor.proofs.select.open_call.Tie as tie
+use Rattle.supervisor.proofs.callers.open_call.Statement.{statement}
+use Rattle.supervisor.proofs.callers.open_call.Tie as tie
 
 -- what the code's test and its two answers come to
 test-here : (c : tie.After-is-open) → let a = c .before .before .before .before .before .args in let e = c .before .before .before .before .entry-of .result in

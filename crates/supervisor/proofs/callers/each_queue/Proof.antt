@@ -11,8 +11,8 @@ use Rattle.table.specs.declared.queues.Test.the-variants.{QueuedOn}
 use Rattle.table.proofs.LeafLaws.{mapped-long}
 use Rattle.supervisor.proofs.MoveLaws.{picked-line}
 use Rattle.supervisor.proofs.FinishLaws.{queued-laid, queued-turn, queued-end}
-use Rattle.supervisor.proofs.finish.queued_on.Statement.{statement}
-use Rattle.supervisor.proofs.finish.queued_on.Tie as tie
+use Rattle.supervisor.proofs.callers.each_queue.Statement.{statement}
+use Rattle.supervisor.proofs.callers.each_queue.Tie as tie
 
 abbrev Inv-loop : tie.InvT-loop
 Inv-loop s t callers r₀ e₀ r e = (1 ≤ e) × (e ≤ 9) × (length callers ≡ 31) × (r ≡ pad (line r)) × (pad (queuedOn (view s) t) ≡ pad (line r ++ queuedFrom (view s) t (9 - e) e))
@@ -35,8 +35,8 @@ returns c =
     let l = c .before .loop in let a = c .before .before .before .args in
     sym (l .inv .4 ∙ queued-end (view (a .s)) (a .t) (l .e) (l .r) (omega arith) (l .inv .3))
 
-pub queued-on-spec : {M : Type 1} → statement M
-queued-on-spec =
+pub each-queue-spec : {M : Type 1} → statement M
+each-queue-spec =
     tie.close
     (tie.spec Inv-loop μ-loop loop-holds (λ c κs. search needs) (λ c κs. search needs) (λ c. search needs)
     (λ c. search needs) loop-again returns)
