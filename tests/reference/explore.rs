@@ -38,7 +38,7 @@ pub fn cases(states: usize) -> (Vec<u8>, usize) {
         let Some((state, made)) = waiting.pop_front() else { break };
         depth = made;
         for call in &calls {
-            bytes.extend(judge::case(&flat::write(&state), ROOM as u8, [1, 1], call));
+            bytes.extend(judge::plain_case(&flat::write(&state), call));
             let mut after = state.clone();
             after.step(call, &mut [0; ROOM]);
             if after.tasks.len() <= TASKS && seen.insert(flat::write(&after)) {

@@ -5,18 +5,21 @@ use mathlib.Core.Path.{_≡_, refl, sym, ap, subst, _∙_}
 use mathlib.Core.Bool.{Bool, true, false, not, _&&_}
 use mathlib.Core.List.{List, [], _∷_, _++_}
 use lib.ListN.{length}
+use types.Run.{OneOf, miss}
+use denote.Enum.Declared.{tagOf}
 use lib.Dec.{eqb, ltb}
 use Rattle.calls.specs.declared.Call as C
 use Rattle.calls.specs.declared.Read.{Read}
-use Rattle.calls.specs.declared.Read.the-variants.{Record, Refused}
-use Rattle.calls.specs.Record.{readOf}
+use Rattle.calls.specs.declared.Read.the-variants.{Record, BadRecord, EndOfLog}
+use Rattle.calls.proofs.Read.{the-type}
+use Rattle.calls.specs.Reading.{readOf, refusalOf}
 use Rattle.lists.proofs.Tests.{cases}
 use Rattle.rules.specs.Step.{roomAfter}
 use Rattle.rules.specs.Whole.{Whole, stepWhole, steppedOf}
 use Rattle.rules.specs.declared.Stepped.{Stepped}
 use Rattle.report.specs.Lines.{lineText}
 use Rattle.text.specs.Text.{Put, putAt}
-use Rattle.session.specs.Turn.{Turn, nextStep, refusedAnswer, took, left, leaves, turnBy, turnOf, turnedOf, refusalOf}
+use Rattle.session.specs.Turn.{Turn, nextStep, refusedAnswer, took, left, leaves, turnBy, turnOf, turnedOf}
 use Rattle.session.specs.declared.turns.Session.{Session}
 use Rattle.session.specs.declared.turns.Turned.{Turned}
 use Rattle.session.specs.declared.turns.Next.the-variants.{Again, More, Stop}
@@ -63,9 +66,17 @@ leaves-room s n many last room = cases (not last && ltb many 10)
     (λ f. ap (λ (t : Turn). t .room) (says-bad s n many last room e f)))
 
 -- what was read decides the turn
+other-than-record : (s : Session) (got : Read) (many : ℕ) (last : Bool) (room : List ℕ) → OneOf (1 ∷ 2 ∷ []) (tagOf the-type got)
+    → leaves s (refusalOf got) many last room ≡ turnBy s got many last room
+other-than-record s (Record c k) many last room h = absurd (miss (1 ∷ 2 ∷ []) 0 tt h)
+other-than-record s BadRecord many last room h = refl
+other-than-record s EndOfLog many last room h = refl
+
 module _ (s : Session) (input : List ℕ) (last : Bool) (room : List ℕ) (got : Read) (e : got ≡ readOf input) where
-  pub turn-refused : (m n : ℕ) → got ≡ Refused m → n ≡ refusalOf got → leaves s n (length input) last room ≡ turnOf s input last room
-  turn-refused m n f g = ap (λ (x : ℕ). leaves s x (length input) last room) (g ∙ ap refusalOf f) ∙ ap (λ (x : Read). turnBy s x (length input) last room) (sym f ∙ e)
+  pub turn-refused : (n : ℕ) → OneOf (1 ∷ 2 ∷ []) (tagOf the-type got) → n ≡ refusalOf got → leaves s n (length input) last room ≡ turnOf s input last room
+  turn-refused n h g =
+      ap (λ (x : ℕ). leaves s x (length input) last room) g ∙ other-than-record s got (length input) last room h
+      ∙ ap (λ (x : Read). turnBy s x (length input) last room) e
 
   pub turn-took : (c : C.Call) (k : ℕ) → got ≡ Record c k → took s c k room ≡ turnOf s input last room
   turn-took c k f = ap (λ (x : Read). turnBy s x (length input) last room) (sym f ∙ e)

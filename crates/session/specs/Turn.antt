@@ -7,8 +7,8 @@ use lib.ListN.{length}
 use lib.Dec.{eqb, ltb}
 use Rattle.calls.specs.declared.Call as C
 use Rattle.calls.specs.declared.Read.{Read}
-use Rattle.calls.specs.declared.Read.the-variants.{Record, Refused}
-use Rattle.calls.specs.Record.{readOf}
+use Rattle.calls.specs.declared.Read.the-variants.{Record, BadRecord, EndOfLog}
+use Rattle.calls.specs.Reading.{readOf, refusalOf}
 use Rattle.rules.specs.State.{running}
 use Rattle.rules.specs.Step.{roomAfter}
 use Rattle.rules.specs.Whole.{Whole, view, stepWhole, answerOf}
@@ -36,11 +36,6 @@ nextStep n = (n + 1) % 18446744073709551616
 abbrev pub refusedAnswer : Session → ℕ → Answer
 refusedAnswer s n = record { refusal = n; result = 0; task = 0; entry = 0; partner = 0; ended = 0; next = running (view (s .state)) }
 
--- the refusal number of what was read, 0 for a record
-abbrev pub refusalOf : Read → ℕ
-refusalOf (Record c k) = 0
-refusalOf (Refused n) = n
-
 -- a call is taken: its record's bytes are consumed, and its line is printed
 unfoldable pub took : Session → C.Call → ℕ → List ℕ → Turn
 took s c k room =
@@ -65,9 +60,11 @@ leaves s n many last room =
     (cond (eqb n 12) (left s Stop [] room)
     (left s Stop (lineText (s .step) (refusedAnswer s n) room) room))
 
+-- a turn by what was read
 abbrev pub turnBy : Session → Read → ℕ → Bool → List ℕ → Turn
 turnBy s (Record c k) many last room = took s c k room
-turnBy s (Refused n) many last room = leaves s n many last room
+turnBy s BadRecord many last room = leaves s (refusalOf BadRecord) many last room
+turnBy s EndOfLog many last room = leaves s (refusalOf EndOfLog) many last room
 
 -- one turn on the input; `last` says that no more bytes come behind it
 abbrev pub turnOf : Session → List ℕ → Bool → List ℕ → Turn

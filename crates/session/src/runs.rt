@@ -2,8 +2,6 @@
 // buffer is nearly full, and before more input is waited for. Nothing says that the input ends and a proved loop has to:
 // turns are counted down from a number that no run uses up.
 ghost use Prim.Native.Nat.{_≤_};
-ghost use mathlib.Core.Path.{_≡_};
-ghost use Rattle.calls.specs.Duration.{four};
 use super::turns::Next;
 use super::turns::Session;
 use super::turns::Turned;
@@ -12,6 +10,7 @@ use super::window::Window;
 use super::window::headed;
 use super::window::refilled;
 use super::window::unread;
+use calls::word;
 use libc::STDOUT_FILENO;
 use report::put_header;
 use text::least;
@@ -229,13 +228,6 @@ pub struct Logs {
     pub window: Window,
     pub waits: usize,
     pub goes: bool,
-}
-
-// Four bytes as a number, high byte first.
-fn word(a: u8, b: u8, c: u8, d: u8) -> u32
-    ensures { λ r. ⌜ r ≡ four a b c d ⌝ }
-{
-    (a as u32) * 16777216 + (b as u32) * 65536 + (c as u32) * 256 + (d as u32)
 }
 
 // The next log: a clock and a number of bytes, four bytes each, and the log's bytes.

@@ -1,14 +1,18 @@
 // One turn: the record at the start of the input is read, its call taken, and its line printed.
 ghost use mathlib.Core.Path.{_≡_};
 ghost use lib.ListN.{length};
-ghost use Rattle.rules.specs.Whole.{pack};
+ghost use Rattle.calls.specs.Reading.{refusalOf};
 ghost use Rattle.text.specs.Text.{putAt};
-ghost use Rattle.session.specs.Turn.{turnOf, turnedOf, refusalOf, took, leaves};
+ghost use Rattle.session.specs.Turn.{turnOf, turnedOf, took, leaves};
 use calls::Call;
 use calls::Read;
 use report::put_line;
 use rules::Answer;
 use rules::Supervisor;
+
+const BAD_RECORD: u8 = 11;
+
+const END_OF_LOG: u8 = 12;
 
 // A log on its way: the supervisor, and the number of the next line.
 pub struct Session {
@@ -60,7 +64,8 @@ fn refusal_of(got: Read) -> u8
 {
     match got {
         Read::Record { call: _, count: _ } => 0,
-        Read::Refused(n) => n,
+        Read::BadRecord => BAD_RECORD,
+        Read::EndOfLog => END_OF_LOG,
     }
 }
 
@@ -85,7 +90,7 @@ fn refused(
             next: Next::More,
         };
     }
-    if n == calls::END_OF_LOG {
+    if n == END_OF_LOG {
         return Turned {
             session: s,
             count: 0,
