@@ -104,7 +104,18 @@ fn print(name: &str, tasks: usize, costs: &Costs, copy: f64) {
     println!("| {name} | {tasks} | {figures} |");
 }
 
-fn main() {
+/// Makes one step over and over, for a profiler: `bench NAME TASKS`.
+fn repeat(name: &str, tasks: usize) -> Option<()> {
+    let scene = scenes::scenes(tasks).into_iter().find(|scene| scene.name == name)?;
+    let record = calls::record(&scene.call);
+    let bytes: [u8; STATE] = flat::write(&scene.state).try_into().ok()?;
+    for _ in 0..2_000_000 {
+        black_box(card::step(&mut bytes.clone(), &record, &mut [0; ROOM]));
+    }
+    Some(())
+}
+
+fn table() {
     let copy = fastest(&[0u8; STATE], |state| {
         let mut other = [0u8; STATE];
         other.copy_from_slice(black_box(&state[..]));
@@ -126,4 +137,13 @@ fn main() {
         print("the soundness check alone", tasks, &sound_costs(full), copy);
     }
     println!("\nThe dearest step costs {worst:.1} times what it costs the reference in its own form.");
+}
+
+fn main() {
+    let words: Vec<String> = std::env::args().skip(1).collect();
+    match &words[..] {
+        [] => table(),
+        [name, tasks] => tasks.parse().ok().and_then(|tasks| repeat(name, tasks)).expect("a step and 1, 8 or 31"),
+        _ => panic!("bench, or bench NAME TASKS"),
+    }
 }
