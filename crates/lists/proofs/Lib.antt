@@ -1,3 +1,4 @@
+-- Laws, each said once and over any test: of the tests themselves, of the lists, of lines in arrays, of the turns of a loop.
 pub mod Tests
 pub mod ListLaws
 pub mod LineLaws

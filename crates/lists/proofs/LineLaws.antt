@@ -14,25 +14,24 @@ use Rattle.lists.specs.Lists.{if_then_else_, filter, remove, rejoin, ins
 use Rattle.lists.specs.Line.{line, padTo, pad, insertAt, slotOf, blanks, tidy}
 use Rattle.lists.proofs.Tests.{cases, and-first, and-second}
 
+-- a filtered list is no longer
 pub length-filter : (p : ℕ → Bool) (xs : List ℕ) → length (filter p xs) ≤ length xs
 length-filter p [] = le-refl 0
 length-filter p (x ∷ xs) = let ih = length-filter p xs in cases (p x) (λ e. simp e (omega arith)) (λ e. simp e (omega arith))
 
-pub length-insertAt : (i t : ℕ) (xs : List ℕ) → length (insertAt i t xs) ≡ suc (length xs)
-length-insertAt i t [] = refl
-length-insertAt zero t (x ∷ xs) = refl
-length-insertAt (suc i) t (x ∷ xs) = ap suc (length-insertAt i t xs)
-
+-- a place beyond the end is the end
 pub insertAt-end : (i t : ℕ) (xs : List ℕ) → length xs ≤ i → insertAt i t xs ≡ xs ++ (t ∷ [])
 insertAt-end i t [] h = refl
 insertAt-end zero t (x ∷ xs) h = absurd (not-suc-le-zero h)
 insertAt-end (suc i) t (x ∷ xs) h = ap (λ (r : List ℕ). x ∷ r) (insertAt-end i t xs (le-of-suc-le-suc h))
 
+-- a line has no blanks
 pub line-line : (xs : List ℕ) → line (line xs) ≡ line xs
 line-line [] = refl
 line-line (zero ∷ xs) = refl
 line-line (suc n ∷ xs) = ap (λ (r : List ℕ). suc n ∷ r) (line-line xs)
 
+-- a line is no longer than its array
 pub length-line : (xs : List ℕ) → length (line xs) ≤ length xs
 length-line [] = le-refl 0
 length-line (zero ∷ xs) = zero-le
@@ -43,26 +42,24 @@ pub line-cons : (x : ℕ) (xs : List ℕ) → line (x ∷ xs) ≡ x ∷ xs → (
 line-cons zero xs h = absurd (nil≢cons h)
 line-cons (suc n) xs h = (suc-le-suc zero-le, tail-eq-of-cons-eq h)
 
+-- a number before a list with no blanks
 pub line-of-cons : (x : ℕ) (xs : List ℕ) → 0 < x → line xs ≡ xs → line (x ∷ xs) ≡ x ∷ xs
 line-of-cons zero xs p h = absurd (not-suc-le-zero p)
 line-of-cons (suc n) xs p h = ap (λ (r : List ℕ). suc n ∷ r) h
 
-pub line-insertAt : (i t : ℕ) (xs : List ℕ) → 0 < t → line xs ≡ xs → line (insertAt i t xs) ≡ insertAt i t xs
-line-insertAt i t [] p h = line-of-cons t [] p refl
-line-insertAt zero t (x ∷ xs) p h = line-of-cons t (x ∷ xs) p h
-line-insertAt (suc i) t (x ∷ xs) p h =
-    let d = line-cons x xs h in line-of-cons x (insertAt i t xs) (d .0) (line-insertAt i t xs p (d .1))
-
+-- two lists with no blanks, joined
 pub line-append : (xs ys : List ℕ) → line xs ≡ xs → line ys ≡ ys → line (xs ++ ys) ≡ xs ++ ys
 line-append [] ys h k = k
 line-append (x ∷ xs) ys h k = let d = line-cons x xs h in line-of-cons x (xs ++ ys) (d .0) (line-append xs ys (d .1) k)
 
+-- room for n has n places
 pub length-padTo : (n : ℕ) (xs : List ℕ) → length (padTo n xs) ≡ n
 unfolding padTo
 length-padTo zero xs = refl
 length-padTo (suc n) [] = ap suc (length-padTo n [])
 length-padTo (suc n) (x ∷ xs) = ap suc (length-padTo n xs)
 
+-- what is laid out in n places is read back
 pub line-padTo : (n : ℕ) (xs : List ℕ) → line xs ≡ xs → length xs ≤ n → line (padTo n xs) ≡ xs
 unfolding padTo
 line-padTo zero [] h l = refl
@@ -84,11 +81,12 @@ padTo-full zero (x ∷ xs) ys e = absurd (suc-ne-zero (length xs) e)
 padTo-full (suc n) [] ys e = absurd (suc-ne-zero n (sym e))
 padTo-full (suc n) (x ∷ xs) ys e = ap (λ (r : List ℕ). x ∷ r) (padTo-full n xs ys (suc-inj e))
 
+-- an array has 31 places
 pub length-pad : (xs : List ℕ) → length (pad xs) ≡ 31
 unfolding pad
 length-pad xs = length-padTo 31 xs
 
--- a tidy array is its line laid out
+-- zeros alone are nothing laid out
 blank-padTo : (xs : List ℕ) → blanks xs ≡ true → xs ≡ padTo (length xs) []
 unfolding padTo
 blank-padTo [] h = refl
@@ -101,17 +99,18 @@ tidy-padTo [] h = refl
 tidy-padTo (zero ∷ xs) h = ap (λ (r : List ℕ). 0 ∷ r) (blank-padTo xs h)
 tidy-padTo (suc n ∷ xs) h = ap (λ (r : List ℕ). suc n ∷ r) (tidy-padTo xs h)
 
+-- a tidy array is its line laid out
 pub tidy-pad : (a : List ℕ) → length a ≡ 31 → tidy a ≡ true → a ≡ pad (line a)
 unfolding pad
 tidy-pad a l h = tidy-padTo a h ∙ ap (λ (n : ℕ). padTo n (line a)) l
 
--- a blank at the end is room
 padTo-blank : (n : ℕ) (xs : List ℕ) → padTo n (xs ++ (0 ∷ [])) ≡ padTo n xs
 unfolding padTo
 padTo-blank zero xs = refl
 padTo-blank (suc n) [] = refl
 padTo-blank (suc n) (x ∷ xs) = ap (λ (r : List ℕ). x ∷ r) (padTo-blank n xs)
 
+-- a blank at the end is room
 pub pad-blank : (xs : List ℕ) → pad (xs ++ (0 ∷ [])) ≡ pad xs
 unfolding pad
 pad-blank xs = padTo-blank 31 xs
@@ -122,10 +121,12 @@ take-padTo n [] l = refl
 take-padTo zero (x ∷ xs) l = absurd (not-suc-le-zero l)
 take-padTo (suc n) (x ∷ xs) l = ap (λ (r : List ℕ). x ∷ r) (take-padTo n xs (le-of-suc-le-suc l))
 
+-- the front of what is laid out
 pub take-pad : (xs : List ℕ) → length xs ≤ 31 → take (length xs) (pad xs) ≡ xs
 unfolding pad
 take-pad xs l = take-padTo 31 xs l
 
+-- a filtered list with no blanks has none
 pub line-filter : (p : ℕ → Bool) (xs : List ℕ) → line xs ≡ xs → line (filter p xs) ≡ filter p xs
 line-filter p [] h = refl
 line-filter p (x ∷ xs) h =
@@ -133,6 +134,7 @@ line-filter p (x ∷ xs) h =
     let ih = line-filter p xs (d .1) in
     cases (p x) (λ e. simp e (line-of-cons x (filter p xs) (d .0) ih)) (λ e. simp e ih)
 
+-- those of a line that pass a test, laid out and read back
 pub line-picked : (p : ℕ → Bool) (a : List ℕ) → length a ≡ 31 → line (pad (filter p (line a))) ≡ filter p (line a)
 line-picked p a l =
     line-pad (filter p (line a)) (line-filter p (line a) (line-line a)) (omega (arith, length-filter p (line a), length-line a))
@@ -149,10 +151,12 @@ padTo-tidy (suc n) [] h = padTo-blanks n
 padTo-tidy (suc n) (zero ∷ xs) h = absurd (nil≢cons h)
 padTo-tidy (suc n) (suc x ∷ xs) h = padTo-tidy n xs (tail-eq-of-cons-eq h)
 
+-- what is laid out is tidy
 pub pad-tidy : (xs : List ℕ) → line xs ≡ xs → tidy (pad xs) ≡ true
 unfolding pad
 pad-tidy xs h = padTo-tidy 31 xs h
 
+-- insertion before the first that passes is insertion at its place
 pub insert-slot : (f : ℕ → Bool) (t : ℕ) (l : List ℕ) → insert f t l ≡ insertAt (slotOf f l) t l
 insert-slot f t [] = refl
 insert-slot f t (x ∷ xs) = go (f x) (insert-slot f t xs)
@@ -162,15 +166,18 @@ insert-slot f t (x ∷ xs) = go (f x) (insert-slot f t xs)
     go true ih = refl
     go false ih = ap (λ (r : List ℕ). x ∷ r) ih
 
+-- the first of a line stands at place 0
 pub first-at : (a : List ℕ) → getD a 0 0 ≡ first (line a)
 first-at [] = refl
 first-at (zero ∷ xs) = refl
 first-at (suc x ∷ xs) = refl
 
+-- an empty list has no last
 pub last-none : (l : List ℕ) → length l ≡ 0 → 0 ≡ last l
 last-none [] h = refl
 last-none (x ∷ xs) h = absurd (omega arith)
 
+-- the last of a line stands at the place before its length
 pub last-at : (a : List ℕ) (n : ℕ) → n ≡ length (line a) → (n ≡ 0 → ⊥) → getD a (n - 1) 0 ≡ last (line a)
 last-at [] n e z = absurd (z e)
 last-at (zero ∷ xs) n e z = absurd (z e)
@@ -184,8 +191,10 @@ last-at (suc x ∷ xs) n e z = go (line xs) refl (last-at xs (length (line xs)) 
 
 -- what `without` left of a line, and the line with t behind it
 module _ (a : List ℕ) (t : ℕ) (l : List ℕ) (long : length a ≡ 31) (e : l ≡ pad (remove t (line a))) where
+  -- what is left of the line
   pub left-over : line l ≡ remove t (line a)
   left-over = ap line e ∙ line-picked (λ x. not (eqb x t)) a long
 
+  -- and that with t behind it
   pub rejoin-on : pad (line l ++ (t ∷ [])) ≡ pad (rejoin true t (line a))
   rejoin-on = rw left-over

@@ -5,31 +5,38 @@ use mathlib.Core.Path.{_≡_, refl, sym, _∙_, ap, subst}
 use mathlib.Core.Bool.{Bool, true, false, not, _&&_, true≢false}
 use mathlib.Core.List.{List, [], _∷_, _++_}
 use native.Mathlib.Omega.{arith}
+use lib.ListN.{length}
 use lib.Dec.{T, eqb, ltb, leb, leb→le, le→leb, eqb→eq}
 use borrow.Author.Tests.{eqb-true, eqb-false, eq-eqb, ne-eqb, ltb-true, ltb-false, leb-true, leb-false, le-leb}
 use Rattle.lists.specs.Lists.{if_then_else_, bit, filter, remove, insert, count, every, inOrder, downFrom}
 
 -- ── tests ──
 
+-- a test that passes is true
 pub is-true : (b : Bool) → T b → b ≡ true
 is-true true h = refl
 is-true false h = absurd h
 
+-- a test that is true passes
 pub true-T : {b : Bool} → b ≡ true → T b
 true-T e = subst T (sym e) tt
 
+-- the first part of an `and`
 pub and-l : (a b : Bool) → T (a && b) → T a
 and-l true b h = tt
 and-l false b h = h
 
+-- the second part of an `and`
 pub and-r : (a b : Bool) → T (a && b) → T b
 and-r true b h = h
 and-r false b h = absurd h
 
+-- both parts make an `and`
 pub both : (a b : Bool) → T a → T b → T (a && b)
 both true b h k = k
 both false b h k = h
 
+-- a test that is false fails
 pub not-T : {b : Bool} → b ≡ false → T (not b)
 not-T e = subst (λ (b : Bool). T (not b)) (sym e) tt
 
@@ -53,10 +60,12 @@ by-eq u t f g = by-bool (eqb u t) (λ e. f (eqb-true u t e)) (λ e. g (eqb-false
 
 -- ── count ──
 
+-- how often in two lists joined
 pub count-append : (u : ℕ) (l m : List ℕ) → count u (l ++ m) ≡ count u l + count u m
 count-append u [] m = omega arith
 count-append u (x ∷ xs) m = omega (arith, count-append u xs m)
 
+-- who passes the test stays as often
 pub count-filter-yes : (f : ℕ → Bool) (u : ℕ) (l : List ℕ) → f u ≡ true → count u (filter f l) ≡ count u l
 count-filter-yes f u [] h = refl
 count-filter-yes f u (x ∷ xs) h = go (f x) refl (count-filter-yes f u xs h)
@@ -65,6 +74,7 @@ count-filter-yes f u (x ∷ xs) h = go (f x) refl (count-filter-yes f u xs h)
     go true e ih = omega (arith, ih)
     go false e ih = rw (ne-eqb x u (λ q. let z : false ≡ true = sym e ∙ ap f q ∙ h in subst T (sym z) tt)) (omega (arith, ih))
 
+-- who fails it is gone
 pub count-filter-no : (f : ℕ → Bool) (u : ℕ) (l : List ℕ) → f u ≡ false → count u (filter f l) ≡ 0
 count-filter-no f u [] h = refl
 count-filter-no f u (x ∷ xs) h = go (f x) refl (count-filter-no f u xs h)
@@ -73,12 +83,15 @@ count-filter-no f u (x ∷ xs) h = go (f x) refl (count-filter-no f u xs h)
     go true e ih = rw (ne-eqb x u (λ q. let z : false ≡ true = sym h ∙ ap f (sym q) ∙ e in subst T (sym z) tt)) (omega (arith, ih))
     go false e ih = ih
 
+-- t is gone from the list without t
 pub count-remove-same : (t : ℕ) (l : List ℕ) → count t (remove t l) ≡ 0
 count-remove-same t l = count-filter-no (λ x. not (eqb x t)) t l (ap not (eq-eqb t t refl))
 
+-- the others stay
 pub count-remove-other : (t u : ℕ) (l : List ℕ) → (u ≡ t → ⊥) → count u (remove t l) ≡ count u l
 count-remove-other t u l h = count-filter-yes (λ x. not (eqb x t)) u l (ap not (ne-eqb u t h))
 
+-- an inserted number stands once more
 pub count-insert : (f : ℕ → Bool) (t u : ℕ) (l : List ℕ) → count u (insert f t l) ≡ bit (eqb t u) + count u l
 count-insert f t u [] = refl
 count-insert f t u (x ∷ xs) = go (f x) (count-insert f t u xs)
@@ -89,10 +102,12 @@ count-insert f t u (x ∷ xs) = go (f x) (count-insert f t u xs)
 
 -- ── every, by the members ──
 
+-- what holds of all holds of each member
 pub every-at : (g : ℕ → Bool) (l : List ℕ) → T (every g l) → (x : ℕ) → 0 < count x l → T (g x)
 every-at g [] h x k = absurd (omega arith)
 every-at g (y ∷ ys) h x k = by-eq y x (λ e. subst (λ (z : ℕ). T (g z)) e (and-l (g y) (every g ys) h)) (λ n. every-at g ys (and-r (g y) (every g ys) h) x (omega (arith, rw (ne-eqb y x n) at k)))
 
+-- what holds of each member holds of all
 pub every-of : (g : ℕ → Bool) (l : List ℕ) → ((x : ℕ) → 0 < count x l → T (g x)) → T (every g l)
 every-of g [] h = tt
 every-of g (y ∷ ys) h = both (g y) (every g ys) (h y (rw (eq-eqb y y refl) (omega arith))) (every-of g ys (λ x k. h x (omega arith)))
@@ -104,6 +119,7 @@ abbrev pub Ordered : (ℕ → ℕ) → List ℕ → Type 0
 Ordered k [] = Unit {0}
 Ordered k (x ∷ xs) = ((y : ℕ) → 0 < count y xs → k x ≤ k y) × Ordered k xs
 
+-- a list that passes the test of order is in order
 pub ordered-of : (k : ℕ → ℕ) (l : List ℕ) → T (inOrder (λ a b. leb (k a) (k b)) l) → Ordered k l
 ordered-of k [] o = tt
 ordered-of k (x ∷ xs) o =
@@ -111,6 +127,7 @@ ordered-of k (x ∷ xs) o =
     let r = inOrder (λ a b. leb (k a) (k b)) xs in
     (λ y j. leb→le (k x) (k y) (every-at (λ b. leb (k x) (k b)) xs (and-l e r o) y j), ordered-of k xs (and-r e r o))
 
+-- a list in order passes the test
 pub in-order : (k : ℕ → ℕ) (l : List ℕ) → Ordered k l → T (inOrder (λ a b. leb (k a) (k b)) l)
 in-order k [] o = tt
 in-order k (x ∷ xs) o =
@@ -118,6 +135,7 @@ in-order k (x ∷ xs) o =
     (every-of (λ b. leb (k x) (k b)) xs (λ y j. le→leb (k x) (k y) (o .0 y j)))
     (in-order k xs (o .1))
 
+-- a filtered list has nobody more often
 pub count-filter-le : (f : ℕ → Bool) (u : ℕ) (l : List ℕ) → count u (filter f l) ≤ count u l
 count-filter-le f u l = go (f u) refl
   where
@@ -125,6 +143,7 @@ count-filter-le f u l = go (f u) refl
     go true e = omega (arith, count-filter-yes f u l e)
     go false e = omega (arith, count-filter-no f u l e)
 
+-- a filtered list stays in order
 pub ordered-filter : (k : ℕ → ℕ) (g : ℕ → Bool) (l : List ℕ) → Ordered k l → Ordered k (filter g l)
 ordered-filter k g [] o = tt
 ordered-filter k g (x ∷ xs) o =
@@ -146,3 +165,68 @@ ordered-insert k g t (x ∷ xs) h o =
     by-test (Ordered k) (g x)
     (λ e. (λ y j. by-eq x y (λ q. omega (arith, ltb-true (k t) (k x) (sym gx ∙ e), ap k q)) (λ n. omega (arith, o .0 y (omega (arith, rw (ne-eqb x y n) at j)), ltb-true (k t) (k x) (sym gx ∙ e))), o))
     (λ e. (λ y j. by-eq t y (λ q. omega (arith, ltb-false (k t) (k x) (sym gx ∙ e), ap k q)) (λ n. o .0 y (omega (arith, rw (ne-eqb t y n) at (count-insert g t y xs)))), ih))
+
+-- ── how long ──
+
+-- a list is as long as what is left without t, and t as often as it stands there
+pub length-remove : (t : ℕ) (l : List ℕ) → length l ≡ length (remove t l) + count t l
+length-remove t [] = refl
+length-remove t (x ∷ xs) = go (eqb x t) refl (length-remove t xs)
+  where
+    go : (b : Bool) → eqb x t ≡ b → length xs ≡ length (remove t xs) + count t xs → suc (length xs) ≡ length (if not b then x ∷ remove t xs else remove t xs) + (bit (eqb x t) + count t xs)
+    go true e ih = rw e (omega (arith, ih))
+    go false e ih = rw e (omega (arith, ih))
+
+-- distinct numbers of 1..n are at most n
+pub at-most : (n : ℕ) (l : List ℕ) → ((u : ℕ) → count u l ≤ 1) → ((u : ℕ) → 0 < count u l → (0 < u) × (u ≤ n)) → length l ≤ n
+at-most zero [] h k = omega arith
+at-most zero (x ∷ xs) h k = let i = k x (rw (eq-eqb x x refl) (omega arith)) in omega (arith, i .0, i .1)
+at-most (suc n) l h k =
+    omega (
+      arith,
+      length-remove (suc n) l,
+      h (suc n),
+      at-most n (remove (suc n) l)
+          (λ u. by-eq u (suc n) (λ e. rw e (omega (arith, count-remove-same (suc n) l))) (λ m. omega (arith, count-remove-other (suc n) u l m, h u)))
+          (λ u j. by-eq u (suc n)
+          (λ e. absurd (omega (arith, count-remove-same (suc n) l, rw e at j)))
+          (λ m. let i = k u (omega (arith, count-remove-other (suc n) u l m)) in (i .0, omega (arith, i .1, m)))),
+    )
+
+-- each number stands equally often in both
+abbrev Alike : List ℕ → List ℕ → Type 0
+Alike l m = (u : ℕ) → count u l ≡ count u m
+
+none-alike : (m : List ℕ) → Alike [] m → 0 ≡ length m
+none-alike [] h = refl
+none-alike (y ∷ ys) h = absurd (omega (arith, rw (eq-eqb y y refl) at (h y)))
+
+-- such lists are equally long; n bounds the first one's length
+pub same-length : (n : ℕ) (l m : List ℕ) → length l ≤ n → Alike l m → length l ≡ length m
+same-length zero l m k h = go l k h
+  where
+    go : (l : List ℕ) → length l ≤ 0 → Alike l m → length l ≡ length m
+    go [] k h = none-alike m h
+    go (x ∷ xs) k h = absurd (omega arith)
+same-length (suc n) l m k h = go l k h (λ x. same-length n (remove x l) (remove x m))
+  where
+    go : (l : List ℕ) → length l ≤ suc n → Alike l m → ((x : ℕ) → length (remove x l) ≤ n → Alike (remove x l) (remove x m) → length (remove x l) ≡ length (remove x m)) → length l ≡ length m
+    go [] k h f = none-alike m h
+    go (x ∷ xs) k h f =
+        let one : 0 < count x (x ∷ xs) = rw (eq-eqb x x refl) (omega arith) in
+        let less = f x (omega (arith, one, k, length-remove x (x ∷ xs)))
+        (λ u. by-eq u x
+        (λ e. rw e (omega (arith, count-remove-same x (x ∷ xs), count-remove-same x m)))
+        (λ e. omega (arith, count-remove-other x u (x ∷ xs) e, count-remove-other x u m e, h u))) in
+        omega (arith, less, length-remove x (x ∷ xs), length-remove x m, h x)
+
+-- ── n, n - 1, .., 1 ──
+
+-- each of 1..n stands there once
+pub down-once : (u n : ℕ) → 0 < u → u ≤ n → count u (downFrom n) ≡ 1
+down-once u zero a b = absurd (omega arith)
+down-once u (suc n) a b = by-eq (suc n) u (λ e. rw (eq-eqb (suc n) u e) (omega (arith, down-none u n (omega (arith, e))))) (λ k. rw (ne-eqb (suc n) u k) (omega (arith, down-once u n a (omega (arith, b, k)))))
+  where
+    down-none : (u n : ℕ) → n < u → count u (downFrom n) ≡ 0
+    down-none u zero k = refl
+    down-none u (suc n) k = rw (ne-eqb (suc n) u (λ e. omega (arith, e, k))) (omega (arith, down-none u n (omega arith)))

@@ -14,11 +14,12 @@ pub ways : {A B G : Type 0} → A ⊎ B → (A → G) → (B → G) → G
 ways (inl a) f g = f a
 ways (inr b) f g = g b
 
--- both parts of an `and` that is true
+-- the first part of an `and` that is true
 pub and-first : (a b : Bool) → (a && b) ≡ true → a ≡ true
 and-first true b h = refl
 and-first false b h = h
 
+-- the second part of an `and` that is true
 pub and-second : (a b : Bool) → (a && b) ≡ true → b ≡ true
 and-second true b h = h
 and-second false b h = absurd (false≢true h)

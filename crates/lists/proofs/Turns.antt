@@ -16,9 +16,11 @@ use Rattle.lists.proofs.LineLaws.{take-pad, length-padTo, padTo-full}
 
 -- ---- reading: the entries from place i on
 
+-- from a blank on there is nothing
 pub rest-blank : (a : List ℕ) (i : ℕ) → i < length a → getD a i 0 ≡ 0 → line (drop i a) ≡ []
 rest-blank a i l e = rw (drop-cons a i 0 l, e)
 
+-- from a number on there is the number and the rest
 pub rest-entry : (a : List ℕ) (i : ℕ) → i < length a → (getD a i 0 ≡ 0 → ⊥) → line (drop i a) ≡ getD a i 0 ∷ line (drop (i + 1) a)
 rest-entry a i l n = rw (drop-cons a i 0 l, add-one i) (entry (getD a i 0) n)
   where
@@ -26,6 +28,7 @@ rest-entry a i l n = rw (drop-cons a i 0 l, add-one i) (entry (getD a i 0) n)
     entry zero n = absurd (n refl)
     entry (suc x) n = refl
 
+-- from the end on there is nothing
 pub rest-end : (a : List ℕ) (i : ℕ) → length a ≤ i → line (drop i a) ≡ []
 rest-end a i l = ap line (drop-of-length-le a l)
 
@@ -37,6 +40,7 @@ set-padTo zero xs x l = absurd (not-suc-le-zero l)
 set-padTo (suc n) [] x l = refl
 set-padTo (suc n) (y ∷ xs) x l = ap (λ (r : List ℕ). y ∷ r) (set-padTo n xs x (le-of-suc-le-suc l))
 
+-- such an array has 31 places
 pub length-filled : (r : List ℕ) (j : ℕ) → r ≡ pad (take j r) → length r ≡ 31
 unfolding pad
 length-filled r j e = ap length e ∙ length-padTo 31 (take j r)
@@ -55,6 +59,7 @@ fill r j x l e =
     rw (add-one j, take-suc-set r j x (omega arith))
     (ap (λ (s : List ℕ). set s j x) e ∙ subst (λ (m : ℕ). set (pad (take j r)) m x ≡ pad (take j r ++ (x ∷ []))) k (set-padTo 31 (take j r) x (omega arith)))
 
+-- the front after a store
 pub fill-front : (r : List ℕ) (j x : ℕ) (ys : List ℕ) → j < 31 → r ≡ pad (take j r) → take (j + 1) (set r j x) ++ ys ≡ take j r ++ (x ∷ ys)
 fill-front r j x ys l e =
     let n = length-filled r j e in
@@ -77,21 +82,26 @@ filled-up r j ys h e =
 
 -- ---- insertion at the front
 
+-- place 0 is the front
 pub insert-front : (x : ℕ) (xs : List ℕ) → insertAt 0 x xs ≡ x ∷ xs
 insert-front x [] = refl
 insert-front x (y ∷ ys) = refl
 
 -- ---- blanks behind the line
 
+-- a blank: look on
 pub blank-on : (a : List ℕ) (i : ℕ) → i < length a → getD a i 0 ≡ 0 → blanks (drop i a) ≡ blanks (drop (i + 1) a)
 blank-on a i l e = rw (drop-cons a i 0 l, add-one i, e)
 
+-- a number: not blank
 pub blank-off : (a : List ℕ) (i : ℕ) → i < length a → (getD a i 0 ≡ 0 → ⊥) → blanks (drop i a) ≡ false
 blank-off a i l n = simp (drop-cons a i 0 l, ne-eqb (getD a i 0) 0 n)
 
+-- the first blank: the rest must be blank
 pub tidy-end : (a : List ℕ) (i : ℕ) → i < length a → getD a i 0 ≡ 0 → tidy (drop i a) ≡ blanks (drop (i + 1) a)
 tidy-end a i l e = rw (drop-cons a i 0 l, add-one i, e)
 
+-- a number: look on
 pub tidy-on : (a : List ℕ) (i : ℕ) → i < length a → (getD a i 0 ≡ 0 → ⊥) → tidy (drop i a) ≡ tidy (drop (i + 1) a)
 tidy-on a i l n = rw (drop-cons a i 0 l, add-one i) (entry (getD a i 0) n)
   where
@@ -101,9 +111,11 @@ tidy-on a i l n = rw (drop-cons a i 0 l, add-one i) (entry (getD a i 0) n)
 
 -- ---- an array that another function laid out
 
+-- its front is what was laid out
 pub laid : (r : List ℕ) (j : ℕ) (xs : List ℕ) → length xs ≤ 31 → r ≡ pad xs → j ≡ length xs → take j r ≡ xs
 laid r j xs l e n = rw (e, n) (take-pad xs l)
 
+-- it holds its front and blanks behind it
 pub laid-out : (r : List ℕ) (j : ℕ) (xs : List ℕ) → length xs ≤ 31 → r ≡ pad xs → j ≡ length xs → r ≡ pad (take j r)
 laid-out r j xs l e n = e ∙ ap pad (sym (laid r j xs l e n))
 
@@ -111,6 +123,7 @@ laid-out r j xs l e n = e ∙ ap pad (sym (laid r j xs l e n))
 pub pick-on : (p : ℕ → Bool) (r : List ℕ) (j x : ℕ) (xs ys : List ℕ) → j < 31 → r ≡ pad (take j r) → xs ≡ x ∷ ys → p x ≡ true → pad (take j r ++ filter p xs) ≡ pad (take (j + 1) (set r j x) ++ filter p ys)
 pick-on p r j x xs ys l e q h = simp (q, h, fill-front r j x (filter p ys) l e)
 
+-- one turn of picking where the number fails the test
 pub pick-off : (p : ℕ → Bool) (x : ℕ) (xs ys zs : List ℕ) → xs ≡ x ∷ ys → p x ≡ false → pad (zs ++ filter p xs) ≡ pad (zs ++ filter p ys)
 pick-off p x xs ys zs q h = simp (q, h)
 
@@ -118,5 +131,6 @@ pick-off p x xs ys zs q h = simp (q, h)
 pub slot-hit : (f : ℕ → Bool) (x : ℕ) (xs ys : List ℕ) → xs ≡ x ∷ ys → f x ≡ true → slotOf f xs ≡ 0
 slot-hit f x xs ys q h = simp (q, h)
 
+-- the place is further on
 pub slot-on : (f : ℕ → Bool) (x : ℕ) (xs ys : List ℕ) → xs ≡ x ∷ ys → f x ≡ false → slotOf f xs ≡ suc (slotOf f ys)
 slot-on f x xs ys q h = simp (q, h)

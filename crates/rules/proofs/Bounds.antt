@@ -1,4 +1,4 @@
--- A queue that a caller would join has at most 30 callers; a step ends at most 31 waits; the room keeps its length.
+-- A queue that a caller would join has at most 30 callers: the caller is itself one of at most 31 tasks, and ready.
 -- Assumes nothing.
 use Prim.Native.Nat.{ℕ, zero, suc, _+_, _*_, _-_, _≤_, _<_}
 use mathlib.Core.Path.{_≡_, refl, sym, _∙_, ap}
@@ -33,7 +33,3 @@ queue-has-room s t g e h r = omega (arith, h .few, at-most (length (s .tasks)) (
 
     inside : (u : ℕ) → 0 < count u (t ∷ queue s g e) → (0 < u) × (u ≤ length (s .tasks))
     inside u k = by-eq t u (λ z. rw (← z) (r .low, r .high)) (λ n. let q = of-queue s u g e (omega (arith, rw (ne-eqb t u n) at k)) in queued-there s u (q .0) (q .1))
-
-pub room-length : (is : List Item) (room : List ℕ) → 4 * length is ≤ length room → length (roomAfter room is) ≡ length room
-room-length [] room h = refl
-room-length (i ∷ is) room h = omega (arith, h, room-length is (drop 4 room) (omega (arith, h, length-drop 4 room)), length-drop 4 room)

@@ -32,10 +32,12 @@ use Rattle.calls.specs.declared.Call as C
 use Rattle.calls.specs.declared.Call.the-variants.{Create, Delay, Call, Select, End, Finish, Tick}
 use Rattle.lists.proofs.ListLaws.{by-eq, by-bool, by-test, and-l, and-r, both, is-true, true-T, count-append, count-filter-yes, count-filter-no, count-filter-le, Ordered, ordered-cong}
 use Rattle.rules.proofs.Invariant.{Lined, Calls, Fits, InTime, Good, GoodAt, Sound}
-use Rattle.rules.proofs.Members.{in-filter, first-in, first-member, some-length, and-true, and-false, in-queue, of-queue, queued-good, queued-there, of-held, in-held, held-there, last-in, there, timed-there, bit-true, nth-beyond, Runs, runs}
+use Rattle.rules.proofs.Members.{in-filter, first-member, some-length, and-true, and-false, in-queue, of-queue, queued-good, queued-there, of-held, in-held, held-there, last-in, there, timed-there, bit-true, nth-beyond, Runs, runs}
 use Rattle.rules.proofs.MoveLaws.{Alike, alike, alike-trans, place-same, place-other, meet-same, meet-other, part-same, part-other, moved, task-same, task-other, length-move}
 use Rattle.rules.specs.Step.{failed, expired, expiry, WAITS, ELAPSED, SERVED, CALL-EXPIRED, TASKING-ERROR, ACCEPTED, DELAY-TAKEN, DONE}
-use Rattle.rules.specs.Runs.{isWaiting, reasons, duration, isTick}
+use Rattle.rules.specs.Runs.{isWaiting, reasons, duration, ticksOf}
+use Rattle.rules.specs.Step.{tickTo, endsAt}
+use Rattle.rules.proofs.Passes.{reasons-none, reasons-one, bit-le, in-time, Passes, stays, comes, tick-passes, later}
 use Rattle.rules.proofs.StepSound.{by-runner, wakeAll-clock, between, wakeAll-out, wakeAll-in, wakeAll-length, of-queuedFrom, one-open, nth-old, nth-new, nth-further, by-number, due-is}
 
 -- where a wait that begins with a call stands, and its time
@@ -62,9 +64,9 @@ pub data Fate (s : State) (c : C.Call) (u : ℕ) (s′ : State) (a : Item) (l : 
   began : isWaiting (placeOf s u) ≡ false → isWaiting (placeFor s c) ≡ true → placeOf s′ u ≡ placeFor s c → timerOf s′ u ≡ timerIn (s .clock) (duration c)
       → reasons u l ≡ [] → starts u a ≡ true → Fate s c u s′ a l
   began-held : isWaiting (placeOf s u) ≡ false → (m : Meeting) → placeOf s′ u ≡ Held m → reasons u l ≡ [] → starts u a ≡ true → Fate s c u s′ a l
-  taken : isTick c ≡ false → (q : Waiting) (m : Meeting) → placeOf s u ≡ Queued q → placeOf s′ u ≡ Held m → reasons u l ≡ [] → starts u a ≡ false → Fate s c u s′ a l
-  ran-out : c ≡ Tick → timerOf s u ≡ Due (after (s .clock) 1) → placeOf s′ u ≡ Ready → reasons u l ≡ expiry (placeOf s u) ∷ [] → starts u a ≡ false → Fate s c u s′ a l
-  accepted : isTick c ≡ false → (o : Offer) → placeOf s u ≡ Accepting o → placeOf s′ u ≡ Ready → reasons u l ≡ ACCEPTED ∷ [] → starts u a ≡ false → Fate s c u s′ a l
+  taken : ticksOf c ≡ 0 → (q : Waiting) (m : Meeting) → placeOf s u ≡ Queued q → placeOf s′ u ≡ Held m → reasons u l ≡ [] → starts u a ≡ false → Fate s c u s′ a l
+  ran-out : (d : ℕ) → timerOf s u ≡ Due d → left (s .clock) d ≤ ticksOf c → placeOf s′ u ≡ Ready → reasons u l ≡ expiry (placeOf s u) ∷ [] → starts u a ≡ false → Fate s c u s′ a l
+  accepted : ticksOf c ≡ 0 → (o : Offer) → placeOf s u ≡ Accepting o → placeOf s′ u ≡ Ready → reasons u l ≡ ACCEPTED ∷ [] → starts u a ≡ false → Fate s c u s′ a l
   served : c ≡ End → (m : Meeting) → placeOf s u ≡ Held m → running s ≡ m .holder → last (heldBy s (m .holder)) ≡ u → placeOf s′ u ≡ Ready → l ≡ item u SERVED (m .entry) (m .holder) ∷ []
       → starts u a ≡ false → Fate s c u s′ a l
   given-up : c ≡ Finish → (q : Waiting) → placeOf s u ≡ Queued q → a .task ≡ q .target → placeOf s′ u ≡ Ready → reasons u l ≡ TASKING-ERROR ∷ [] → starts u a ≡ false
@@ -106,7 +108,7 @@ busy-fate s u t g e (Timed d) r = go (ticks d) refl
     go (suc n) z = enqueue-fate s u t g e (Timed d) (Due (after (s .clock) (suc n))) r (rw z)
 busy-fate s u t g e Conditional r = untouched (alike refl) refl refl
 
-accepts-is : (p : Place) (e : ℕ) → accepts p e ≡ true → (o : Offer) × (p ≡ Accepting o)
+pub accepts-is : (p : Place) (e : ℕ) → accepts p e ≡ true → (o : Offer) × (p ≡ Accepting o)
 accepts-is (Accepting o) e h = (o, refl)
 accepts-is Blank e h = absurd (let z : _≡_ {A = ℕ} 0 1 = cc in omega arith)
 accepts-is Ready e h = absurd (let z : _≡_ {A = ℕ} 0 1 = cc in omega arith)
@@ -176,25 +178,7 @@ end-fate s u t run r = go (last (heldBy s t)) refl
         (λ z. rw z (served refl m (q .1) (run ∙ y) (rw y at e) (part-same s t (suc c) (r .low) (r .high) (i .0) (i .1)) (ap (λ (p : Place). item (suc c) SERVED (entryOf p) t ∷ []) (q .1) ∙ ap (λ (x : ℕ). item (suc c) SERVED (m .entry) x ∷ []) y) refl))
         (λ n. untouched (part-other s t (suc c) (r .low) (r .high) (i .0) (i .1) u n) (rw (ne-eqb (suc c) u (λ z. n (sym z)))) refl)
 
--- ── lists of items made from lists of tasks ──
-
-module _ (f : ℕ → Item) (own : (x : ℕ) → f x .task ≡ x) (u : ℕ) where
-  reasons-none : (l : List ℕ) → count u l ≡ 0 → reasons u (map f l) ≡ []
-  reasons-none [] h = refl
-  reasons-none (x ∷ xs) h = by-eq x u (λ e. absurd (omega (arith, rw (eq-eqb x u e) at h))) (λ n. rw (own x, ne-eqb x u n) (reasons-none xs (omega arith)))
-
-  reasons-one : (l : List ℕ) → count u l ≡ 1 → reasons u (map f l) ≡ f u .result ∷ []
-  reasons-one [] h = absurd (omega arith)
-  reasons-one (x ∷ xs) h =
-      by-eq x u
-      (λ e. rw (own x, eq-eqb x u e, e, reasons-none xs (omega (arith, rw (eq-eqb x u e) at h))))
-      (λ n. rw (own x, ne-eqb x u n) (reasons-one xs (omega (arith, rw (ne-eqb x u n) at h))))
-
 -- ── FINISH ──
-
-bit-le : (b : Bool) → bit b ≤ 1
-bit-le true = omega arith
-bit-le false = omega arith
 
 pub queue-once : (s : State) (u t e : ℕ) → Sound s → count u (queue s t e) ≤ 1
 queue-once s u t e h = omega (arith, count-filter-le (waitsOn s t e) u (s .callers), h .callers u, bit-le (isQueued (placeOf s u)))
@@ -241,25 +225,9 @@ finish-fate s u t h r = by-test (FateOf s Finish u) (ltb 0 (length (heldBy s t))
 
 -- ── TICK ──
 
-tick-fate : (s : State) (u : ℕ) → Sound s → FateOf s Tick u (tick s)
-tick-fate s u h = by-bool (ltb 0 (count u l)) woken other
-  where
-    n : ℕ
-    n = after (s .clock) 1
-
-    l : List ℕ
-    l = dueAt s n
-
-    woken : ltb 0 (count u l) ≡ true → FateOf s Tick u (tick s)
-    woken b =
-        let k = ltb-true 0 (count u l) b in
-        let d = due-is n (timerOf s u) (in-filter (λ t. isDue n (timerOf s t)) u (s .delays) k .0) in
-        let i = timed-there s u (rw d) in
-        ran-out refl d (wakeAll-in l s u (i .0) (i .1) k .0)
-        (reasons-one (expired s) (λ x. refl) u l (omega (arith, k, count-filter-le (λ t. isDue n (timerOf s t)) u (s .delays), h .delays u, bit-le (hasTime (timerOf s u))))) refl
-
-    other : ltb 0 (count u l) ≡ false → FateOf s Tick u (tick s)
-    other b = let k : count u l ≡ 0 = omega (arith, ltb-false 0 (count u l) b) in untouched (alike (wakeAll-out l s u k)) (reasons-none (expired s) (λ x. refl) u l k) refl
+pass-fate : (s : State) (c : C.Call) (u n k : ℕ) (s′ : State) (l : List Item) → ticksOf c ≡ n → Passes s n u s′ l → Fate s c u s′ (item 0 DONE k 0) l
+pass-fate s c u n k s′ l e (stays q f r) = untouched (alike q) r refl
+pass-fate s c u n k s′ l e (comes d q j p t r) = ran-out d q (rw e j) p r refl
 
 -- ── CREATE, and every call ──
 
@@ -284,12 +252,12 @@ fate s (Call g e m) u h = by-runner (FateOf s (Call g e m) u) s (λ t. call s t 
 fate s (Select o m) u h = by-runner (FateOf s (Select o m) u) s (λ t. select s t o m) h tt (λ t z r. select-fate s u t o m r)
 fate s End u h = by-runner (FateOf s End u) s (λ t. end s t) h tt (λ t e r. end-fate s u t e r)
 fate s Finish u h = by-runner (FateOf s Finish u) s (λ t. finish s t) h tt (λ t e r. finish-fate s u t h r)
-fate s Tick u h = tick-fate s u h
+fate s Tick u h = pass-fate s Tick u 1 0 (tickTo s (after (s .clock) 1)) (endsAt s (after (s .clock) 1)) refl (tick-passes s u h)
 
 -- ── the clock, and FINISH ──
 
 abbrev pub clockAfter : State → C.Call → ℕ
-clockAfter s c = if isTick c then after (s .clock) 1 else s .clock
+clockAfter s c = later (s .clock) (ticksOf c)
 
 abbrev pub ClockOf : State → C.Call → Outcome → Type 0
 ClockOf s c (refused r) = Unit {0}
@@ -355,6 +323,31 @@ clock-of s Finish h = by-runner P s (λ t. finish s t) h tt (λ t z r. by-test P
     P : Outcome → Type 0
     P = ClockOf s Finish
 clock-of s Tick h = refl
+
+-- whose time has not been dropped waits for more ticks than the call has
+abbrev pub LastsOf : State → C.Call → ℕ → ℕ → Outcome → Type 0
+LastsOf s c u d (refused r) = Unit {0}
+LastsOf s c u d (took s′ a l) = timerOf s′ u ≡ Due d → ticksOf c < left (s .clock) d
+
+pub lasts : (s : State) (c : C.Call) (u d : ℕ) → Sound s → timerOf s u ≡ Due d → LastsOf s c u d (takeCall s c)
+lasts s c u d h q = go c
+  where
+    still : (c : C.Call) → ticksOf c ≡ 0 → (o : Outcome) → LastsOf s c u d o
+    still c e (refused r) = tt
+    still c e (took s′ a l) = λ z. rw e (in-time s u d h q .0)
+
+    passed : (n : ℕ) (s′ : State) (l : List Item) → Passes s n u s′ l → timerOf s′ u ≡ Due d → n < left (s .clock) d
+    passed n s′ l (stays e f r) z = f d q
+    passed n s′ l (comes v w j p t r) z = absurd (let y : _≡_ {A = ℕ} 0 1 = cc in omega arith)
+
+    go : (c : C.Call) → LastsOf s c u d (takeCall s c)
+    go (Create p n) = still (Create p n) refl (takeCall s (Create p n))
+    go (Delay w) = still (Delay w) refl (takeCall s (Delay w))
+    go (Call g e m) = still (Call g e m) refl (takeCall s (Call g e m))
+    go (Select o m) = still (Select o m) refl (takeCall s (Select o m))
+    go End = still End refl (takeCall s End)
+    go Finish = still Finish refl (takeCall s Finish)
+    go Tick = passed 1 (tickTo s (after (s .clock) 1)) (endsAt s (after (s .clock) 1)) (tick-passes s u h)
 
 abbrev pub Finished : Outcome → Type 0
 Finished (refused r) = Unit {0}

@@ -3,10 +3,15 @@ pub mod MoveLaws
 pub mod Members
 pub mod StepSound
 pub mod SoundTest
+pub mod Passes
 pub mod Fate
+pub mod StateRuns
 pub mod OverRuns
+pub mod Ends
 pub mod TimedWait
 pub mod WholeLaws
+pub mod SoundSaid
 pub mod Bounds
+pub mod Dispatch
 pub mod WholeRuns
-pub mod Unique
+pub mod Uses

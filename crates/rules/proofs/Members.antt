@@ -29,10 +29,6 @@ in-filter f u l h = go (f u) refl
     go true e = (e, omega (arith, count-filter-yes f u l e))
     go false e = absurd (omega (arith, count-filter-no f u l e))
 
-pub first-in : (t : ℕ) (l : List ℕ) → first l ≡ suc t → 0 < count (suc t) l
-first-in t [] e = absurd (omega arith)
-first-in t (x ∷ xs) e = rw (eq-eqb x (suc t) e) (omega arith)
-
 pub last-in : (t : ℕ) (l : List ℕ) → last l ≡ suc t → 0 < count (suc t) l
 last-in t [] e = absurd (omega arith)
 last-in t (x ∷ []) e = rw (eq-eqb x (suc t) e) (omega arith)

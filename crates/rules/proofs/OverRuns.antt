@@ -13,9 +13,11 @@ use borrow.Author.Tests.{eqb-true, eqb-false, eq-eqb, ne-eqb, ltb-true, ltb-fals
 use Rattle.lists.specs.Lists.{if_then_else_, bit, count, every, last}
 use Rattle.rules.specs.State.{State, empty, nth, taskOf, placeOf, timerOf, blank, isReady, isQueued, isHeld, heldBy, running, after, left, ticksLeft, hasTime, partnerOf}
 use Rattle.rules.specs.Sound.{sound}
-use Rattle.rules.specs.Step.{Refusal, SHORT-ROOM, BAD-STATE, BAD-FIELD, NO-TASK, NO-TARGET, NO-ENTRY, NOT-SERVING, STILL-SERVING, FULL, QUEUE-FULL, number, refuse, Outcome, refused, took, item, Stepped, step, stepped, takeCall, ticks, expiry, WAITS, ELAPSED, SERVED, CALL-EXPIRED, TASKING-ERROR, ACCEPTED, DELAY-TAKEN}
+use Rattle.rules.specs.Step.{Refusal, SHORT-ROOM, BAD-STATE, BAD-FIELD, NO-TASK, NO-TARGET, NO-ENTRY, NOT-SERVING, STILL-SERVING, FULL, QUEUE-FULL, number, Outcome, refused, took, item, takeCall, expiry, WAITS, SERVED}
 use Rattle.rules.specs.declared.Item.{Item}
-use Rattle.rules.specs.Runs.{Ask, Entry, entry, logOf, reach, duration, isWaiting, begins, begun, reasons, ended, isTick, ticked, tickCount, has, engages, engaged, isFinish, completes, completed, target, timeReason, WaitsCounted, isReason, SixReasons, Stays, Released, HeldTillEnd, EndsByTime, TimeReached, TimedWaits, OverRuns}
+use Rattle.rules.specs.Runs.{Ask, Given, Entry, duration, isWaiting, begins, begun, reasons, ended}
+use Rattle.rules.specs.OverRuns.{WaitsCounted, EndsOnce, WereWaiting, isReason, SixReasons, FewEnds, Stays, Released, HeldTillEnd}
+use Rattle.rules.proofs.StateRuns.{refuse, stepped, step, entry, logOf, reach}
 use Rattle.rules.specs.declared.Task.{Task}
 use Rattle.rules.specs.declared.Timer.{Timer}
 use Rattle.rules.specs.declared.Timer.the-variants.{Off, Due}
@@ -53,7 +55,7 @@ duration-small Finish = omega arith
 duration-small Tick = omega arith
 
 -- what holds of each refusal that leaves all as it was, and of each taken call, holds of a step
-pub by-step {κ} : (P : Stepped → Type κ) (s : State) (c : C.Call) (room : ℕ) → Sound s
+pub by-step {κ} : (P : Given → Type κ) (s : State) (c : C.Call) (room : ℕ) → Sound s
     → ((r : Refusal) (n : ℕ) → P (refuse s r n))
     → ((s′ : State) (a : Item) (l : List Item) → takeCall s c ≡ took s′ a l → P (record { refusal = 0; answer = a; ended = l; next = running s′; state = s′ }))
     → P (step s c room)
@@ -89,13 +91,10 @@ pub reach-sound : (run : List Ask) (s : State) → Sound s → Sound (reach s ru
 reach-sound [] s h = h
 reach-sound (a ∷ rest) s h = reach-sound rest (entry s a .out .state) (step-sound s a h)
 
-pub always-sound : (n : ℕ) → n < 4294967296 → (run : List Ask) → sound (reach (empty n) run) ≡ true
-always-sound n h run = sound-test (reach (empty n) run) (reach-sound run (empty n) (empty-sound n h))
-
 -- ── waits begun and ended ──
 
 -- what a step of a sound state does to a task
-pub data StepFate (s : State) (c : C.Call) (u : ℕ) (r : Stepped) : Type 0 where
+pub data StepFate (s : State) (c : C.Call) (u : ℕ) (r : Given) : Type 0 where
   not-taken : (f : Refusal) (n : ℕ) → r ≡ refuse s f n → StepFate s c u r
   was-taken : (s′ : State) (a : Item) (l : List Item) → takeCall s c ≡ took s′ a l → r ≡ record { refusal = 0; answer = a; ended = l; next = running s′; state = s′ } → Fate s c u s′ a l → StepFate s c u r
 
@@ -138,7 +137,7 @@ balance s c u s′ a l h (awake p q r b) = rw (p, q, r, b)
 balance s c u s′ a l h (began p w q t r b) = rw (p, q, w, r, b)
 balance s c u s′ a l h (began-held p m q r b) = rw (p, q, r, b)
 balance s c u s′ a l h (taken _ w m p q r b) = rw (p, q, r, b)
-balance s c u s′ a l h (ran-out z d q r b) = rw (timed-waits-place s u h (rw d) .0, q, r, b)
+balance s c u s′ a l h (ran-out z d i q r b) = rw (timed-waits-place s u h (rw d) .0, q, r, b)
 balance s c u s′ a l h (accepted _ o p q r b) = rw (p, q, r, b)
 balance s c u s′ a l h (served z m p ru la q r b) = rw (p, q, r, b, eq-eqb u u refl)
 balance s c u s′ a l h (given-up z w p t q r b) = rw (p, q, r, b)
@@ -147,12 +146,12 @@ step-balance : (s : State) (a : Ask) (u : ℕ) → Sound s
     → bit (begins u (entry s a)) + bit (isWaiting (placeOf s u)) ≡ length (reasons u (entry s a .out .ended)) + bit (isWaiting (placeOf (entry s a .out .state) u))
 step-balance s a u h = go (entry s a .out) (step-fate s a u h)
   where
-    go : (r : Stepped) → StepFate s (a .call) u r
+    go : (r : Given) → StepFate s (a .call) u r
         → bit (eqb (r .refusal) 0 && eqb (r .answer .result) WAITS && eqb (r .answer .task) u) + bit (isWaiting (placeOf s u)) ≡ length (reasons u (r .ended)) + bit (isWaiting (placeOf (r .state) u))
     go r (not-taken f n e) = rw (e, number-pos f)
     go r (was-taken s′ b l t e k) = rw e (balance s (a .call) u s′ b l h k)
 
-counted : (run : List Ask) (s : State) (t : ℕ) → Sound s
+pub counted : (run : List Ask) (s : State) (t : ℕ) → Sound s
     → begun t (logOf s run) + bit (isWaiting (placeOf s t)) ≡ ended t (logOf s run) + bit (isWaiting (placeOf (reach s run) t))
 counted [] s t h = refl
 counted (a ∷ rest) s t h = omega (arith, step-balance s a t h, counted rest (entry s a .out .state) t (step-sound s a h))
@@ -172,7 +171,7 @@ fate-reasons s c u s′ a l h (awake p q r b) = rw r
 fate-reasons s c u s′ a l h (began p w q t r b) = rw r
 fate-reasons s c u s′ a l h (began-held p m q r b) = rw r
 fate-reasons s c u s′ a l h (taken _ w m p q r b) = rw r
-fate-reasons s c u s′ a l h (ran-out z d q r b) = rw (r, timed-waits-place s u h (rw d) .1)
+fate-reasons s c u s′ a l h (ran-out z d i q r b) = rw (r, timed-waits-place s u h (rw d) .1)
 fate-reasons s c u s′ a l h (accepted _ o p q r b) = rw r
 fate-reasons s c u s′ a l h (served z m p ru la q r b) = rw (r, eq-eqb u u refl)
 fate-reasons s c u s′ a l h (given-up z w p t q r b) = rw r
@@ -186,12 +185,12 @@ all-reasons (i ∷ is) h =
 step-reasons : (s : State) (a : Ask) → Sound s → (u : ℕ) → every isReason (reasons u (entry s a .out .ended)) ≡ true
 step-reasons s a h u = go (entry s a .out) (step-fate s a u h)
   where
-    go : (r : Stepped) → StepFate s (a .call) u r → every isReason (reasons u (r .ended)) ≡ true
+    go : (r : Given) → StepFate s (a .call) u r → every isReason (reasons u (r .ended)) ≡ true
     go r (not-taken f n e) = rw e
     go r (was-taken s′ b l t e k) = rw e (fate-reasons s (a .call) u s′ b l h k)
 
-pub six-reasons : (n : ℕ) → n < 4294967296 → (run : List Ask) (a : Ask) → SixReasons (entry (reach (empty n) run) a)
-six-reasons n h run a = all-reasons (entry (reach (empty n) run) a .out .ended) (step-reasons (reach (empty n) run) a (reach-sound run (empty n) (empty-sound n h)))
+pub six-reasons : (s : State) (a : Ask) → Sound s → SixReasons (entry s a)
+six-reasons s a h = all-reasons (entry s a .out .ended) (step-reasons s a h)
 
 -- ── a held caller ──
 
@@ -201,19 +200,16 @@ no e = absurd (omega arith)
 pub held-step : (s : State) (a : Ask) (c : ℕ) (m : Meeting) → Sound s → placeOf s c ≡ Held m → Stays c m (entry s a) ⊎ Released c m (entry s a)
 held-step s a c mt h q = go (entry s a .out) refl (step-fate s a c h)
   where
-    go : (r : Stepped) → entry s a .out ≡ r → StepFate s (a .call) c r → Stays c mt (entry s a) ⊎ Released c mt (entry s a)
+    go : (r : Given) → entry s a .out ≡ r → StepFate s (a .call) c r → Stays c mt (entry s a) ⊎ Released c mt (entry s a)
     go r z (not-taken f n y) = inl (record { place = rw (z, y) q; ended = rw (z, y) })
     go r z (was-taken s′ b l t y (untouched p k m)) = inl (record { place = rw (z, y) (p .place ∙ q); ended = rw (z, y) k })
     go r z (was-taken s′ b l t y (awake p k m o)) = no (cc)
     go r z (was-taken s′ b l t y (began p w k v m o)) = no (cc)
     go r z (was-taken s′ b l t y (began-held p f k m o)) = no (cc)
     go r z (was-taken s′ b l t y (taken _ f i p k m o)) = no (cc)
-    go r z (was-taken s′ b l t y (ran-out v d k m o)) = let w = timed-waits-place s c h (rw d) .2 in no (cc)
+    go r z (was-taken s′ b l t y (ran-out v d i k m o)) = let w = timed-waits-place s c h (rw d) .2 in no (cc)
     go r z (was-taken s′ b l t y (accepted _ f p k m o)) = no (cc)
     go r z (was-taken s′ b l t y (served v f p k m o w x)) =
         let i : f ≡ mt = cc in
         inr (record { call = v; by = rw i at k; latest = rw i at m; place = rw (z, y) o; ended = rw (z, y, w, i) })
     go r z (was-taken s′ b l t y (given-up v f p k m o w)) = no (cc)
-
-pub held-till-end : (n : ℕ) → n < 4294967296 → (run : List Ask) (a : Ask) → HeldTillEnd (entry (reach (empty n) run) a)
-held-till-end n h run a c m q = held-step (reach (empty n) run) a c m (reach-sound run (empty n) (empty-sound n h)) q

@@ -31,7 +31,7 @@ use Rattle.calls.specs.declared.Call as C
 use Rattle.calls.specs.declared.Call.the-variants.{Create, Delay, Call, Select, End, Finish, Tick}
 use Rattle.lists.proofs.ListLaws.{by-eq, by-bool, by-test, and-l, and-r, both, is-true, true-T, count-append, count-filter-yes, count-filter-no, Ordered, ordered-cong}
 use Rattle.rules.proofs.Invariant.{Lined, Calls, Fits, InTime, Good, GoodAt, Sound}
-use Rattle.rules.proofs.Members.{in-filter, first-in, first-member, some-length, and-true, and-false, in-queue, of-queue, queued-good, queued-there, of-held, in-held, held-there, last-in, there, timed-there, bit-true, nth-beyond, Runs, runs}
+use Rattle.rules.proofs.Members.{in-filter, first-member, some-length, and-true, and-false, in-queue, of-queue, queued-good, queued-there, of-held, in-held, held-there, last-in, there, timed-there, bit-true, nth-beyond, Runs, runs}
 use Rattle.rules.proofs.MoveLaws.{wake-sound, delay-sound, queue-sound, meet-sound, part-sound, accept-sound, complete-sound, place-same, place-other, moved, task-same, task-other, length-move}
 
 abbrev pub Kept : Outcome → Type 0

@@ -13,9 +13,11 @@ use borrow.Author.Tests.{eqb-true, eqb-false, eq-eqb, ne-eqb, ltb-true, ltb-fals
 use Rattle.lists.specs.Lists.{if_then_else_, bit, count, every, last}
 use Rattle.rules.specs.State.{State, empty, nth, taskOf, placeOf, timerOf, blank, isReady, isQueued, isHeld, heldBy, running, after, left, ticksLeft, hasTime, partnerOf, waiting, offer}
 use Rattle.rules.specs.Sound.{sound}
-use Rattle.rules.specs.Step.{Refusal, SHORT-ROOM, BAD-STATE, BAD-FIELD, NO-TASK, NO-TARGET, NO-ENTRY, NOT-SERVING, STILL-SERVING, FULL, QUEUE-FULL, number, refuse, Outcome, refused, took, item, Stepped, step, stepped, takeCall, ticks, expiry, WAITS, ELAPSED, SERVED, CALL-EXPIRED, TASKING-ERROR, ACCEPTED, DELAY-TAKEN}
+use Rattle.rules.specs.Step.{number, took, takeCall, ticks, expiry, WAITS, ELAPSED, SERVED, CALL-EXPIRED, TASKING-ERROR, ACCEPTED, DELAY-TAKEN}
 use Rattle.rules.specs.declared.Item.{Item}
-use Rattle.rules.specs.Runs.{Ask, Entry, entry, logOf, reach, duration, isWaiting, begins, begun, reasons, ended, isTick, ticked, tickCount, has, engages, engaged, isFinish, completes, completed, target, timeReason, WaitsCounted, isReason, SixReasons, Stays, Released, HeldTillEnd, EndsByTime, TimeReached, TimedWaits, OverRuns}
+use Rattle.rules.specs.Runs.{Ask, Given, Entry, duration, isWaiting, begins, reasons, ended, ticksOf, ticksIn, tickCount, has, engages, engaged, isFinish, completes, completed, target, timeReason}
+use Rattle.rules.specs.OverRuns.{Stays, Released, EndsByTime, TimeReached, TimedWaits}
+use Rattle.rules.proofs.StateRuns.{entry, logOf, reach}
 use Rattle.rules.specs.declared.Task.{Task}
 use Rattle.rules.specs.declared.Timer.{Timer}
 use Rattle.rules.specs.declared.Timer.the-variants.{Off, Due}
@@ -38,9 +40,10 @@ use Rattle.rules.proofs.SoundTest.{sound-test}
 use Rattle.rules.proofs.StepSound.{Kept, call-sound}
 use Rattle.rules.proofs.Fate.{Fate, FateOf, fate, untouched, awake, began, began-held, taken, ran-out, accepted, served, given-up, placeFor, timerIn, starts}
 use Rattle.rules.specs.State.{isCompleted, accepts}
-use Rattle.rules.proofs.StepSound.{left-after, tick-left}
-use Rattle.rules.proofs.Fate.{clockAfter, ClockOf, clock-of, Finished, finished}
-use Rattle.rules.proofs.OverRuns.{StepFate, not-taken, was-taken, step-fate, step-sound, reach-sound, empty-sound, held-step, number-pos, timed-waits-place, no, always-sound, waits-counted, six-reasons, held-till-end, duration-small}
+use Rattle.rules.proofs.StepSound.{left-after}
+use Rattle.rules.proofs.Passes.{left-later, later-is}
+use Rattle.rules.proofs.Fate.{clockAfter, ClockOf, clock-of, lasts, Finished, finished}
+use Rattle.rules.proofs.OverRuns.{StepFate, not-taken, was-taken, step-fate, step-sound, reach-sound, held-step, number-pos, no, duration-small}
 
 -- ── a timed wait that goes on ──
 
@@ -79,26 +82,19 @@ partner-alive s t p (queued a) h q w = let i = timed-there s t w in (rw q at (h 
 
 -- what a step does to it
 pub data Next (s : State) (x : Entry) (t : ℕ) (p : Place) (due k d : ℕ) : Type 0 where
-  goes-on : Pending (x .out .state) t p due (bit (ticked x) + k) d → reasons t (x .out .ended) ≡ [] → engages t x ≡ false → completes (partnerOf p) x ≡ false → Next s x t p due k d
-  meets : ticked x ≡ false → engages t x ≡ true → (mt : Meeting) → placeOf (x .out .state) t ≡ Held mt → reasons t (x .out .ended) ≡ [] → Next s x t p due k d
-  is-met : ticked x ≡ false → engages t x ≡ true → reasons t (x .out .ended) ≡ ACCEPTED ∷ [] → Next s x t p due k d
-  fails : ticked x ≡ false → completes (partnerOf p) x ≡ true → reasons t (x .out .ended) ≡ TASKING-ERROR ∷ [] → Next s x t p due k d
-  expires : ticked x ≡ true → suc k ≡ d → reasons t (x .out .ended) ≡ expiry p ∷ [] → Next s x t p due k d
+  goes-on : Pending (x .out .state) t p due (ticksIn x + k) d → reasons t (x .out .ended) ≡ [] → engages t x ≡ false → completes (partnerOf p) x ≡ false → Next s x t p due k d
+  meets : ticksIn x ≡ 0 → engages t x ≡ true → (mt : Meeting) → placeOf (x .out .state) t ≡ Held mt → reasons t (x .out .ended) ≡ [] → Next s x t p due k d
+  is-met : ticksIn x ≡ 0 → engages t x ≡ true → reasons t (x .out .ended) ≡ ACCEPTED ∷ [] → Next s x t p due k d
+  fails : ticksIn x ≡ 0 → completes (partnerOf p) x ≡ true → reasons t (x .out .ended) ≡ TASKING-ERROR ∷ [] → Next s x t p due k d
+  expires : k < d → d ≤ ticksIn x + k → reasons t (x .out .ended) ≡ expiry p ∷ [] → Next s x t p due k d
 
 still-due : (s : State) (t due : ℕ) → Sound s → timerOf s t ≡ Due due → 0 < left (s .clock) due
 still-due s t due h q = let j = timed-there s t (rw q) in (rw q at (h .good t (j .0) (j .1) .time)) .0
 
 -- the ticks that are left and those that came stay the same together
-one-tick : (s s′ : State) (c : C.Call) (due k d : ℕ) → Sound s → Sound s′ → left (s .clock) due + k ≡ d → InTime (s .clock) (Due due) → s′ .clock ≡ clockAfter s c → 0 < left (s′ .clock) due
-    → left (s′ .clock) due + (bit (isTick c) + k) ≡ d
-one-tick s s′ c due k d h h′ e i q p =
-    by-bool (isTick c)
-    (λ b. let n : s′ .clock ≡ after (s .clock) 1 = q ∙ rw b in
-    rw (b, n) (omega (arith, e, tick-left (s .clock) due (h .clock) (i .2) (λ z. omega (arith, rw (n, z) at p, self (after (s .clock) 1) (omega arith))) (i .0))))
-    (λ b. let n : s′ .clock ≡ s .clock = q ∙ rw b in rw (b, n) (omega (arith, e)))
-  where
-    self : (m : ℕ) → m < 4294967296 → left m m ≡ 0
-    self m j = omega arith
+more-ticks : (s s′ : State) (c : C.Call) (due k d : ℕ) → Sound s → left (s .clock) due + k ≡ d → InTime (s .clock) (Due due) → s′ .clock ≡ clockAfter s c → ticksOf c < left (s .clock) due
+    → left (s′ .clock) due + (ticksOf c + k) ≡ d
+more-ticks s s′ c due k d h e i q p = rw (q ∙ later-is (s .clock) (ticksOf c) (h .clock)) (omega (arith, e, left-later (s .clock) due (ticksOf c) (h .clock) (i .2) (omega (arith, p))))
 
 finish-is : (c : C.Call) → isFinish c ≡ true → c ≡ Finish
 finish-is Finish e = refl
@@ -133,7 +129,7 @@ next s a t p due k d h y w = go (entry s a .out) refl (step-fate s a t h)
     good : InTime (s .clock) (Due due)
     good = let j = timed-there s t (rw (w .timer)) in rw (w .timer) at (h .good t (j .0) (j .1) .time)
 
-    go : (r : Stepped) → entry s a .out ≡ r → StepFate s (a .call) t r → Next s (entry s a) t p due k d
+    go : (r : Given) → entry s a .out ≡ r → StepFate s (a .call) t r → Next s (entry s a) t p due k d
     go r z (not-taken f n e) =
         goes-on
         (record { place = rw (z, e) (w .place); timer = rw (z, e) (w .timer); ticks = rw (z, e, number-pos f) (omega (arith, w .ticks)) })
@@ -143,15 +139,15 @@ next s a t p due k d h y w = go (entry s a .out) refl (step-fate s a t h)
         let tm : timerOf s′ t ≡ Due due = q .timer ∙ w .timer in
         let hs : Sound s′ = rw c at (call-sound s (a .call) h) in
         goes-on
-        (record { place = rw (z, e) pl; timer = rw (z, e) tm; ticks = rw (z, e) (one-tick s s′ (a .call) due k d h hs (w .ticks) good (rw c at (clock-of s (a .call) h)) (still-due s′ t due hs tm)) })
+        (record { place = rw (z, e) pl; timer = rw (z, e) tm; ticks = rw (z, e) (more-ticks s s′ (a .call) due k d h (w .ticks) good (rw c at (clock-of s (a .call) h)) ((rw c at (lasts s (a .call) t due h (w .timer))) tm)) })
         (rw (z, e) m) (rw (z, e, pl, held-no p y, m)) (rw (z, e) (not-completed s s′ (a .call) b l p h c (partner-alive s′ t p y hs pl (rw tm))))
     go r z (was-taken s′ b l c e (awake q m n v)) = let u = waits-yes p y in let o = w .place in no (cc)
     go r z (was-taken s′ b l c e (began q m n v f g)) = let u = waits-yes p y in let o = w .place in no (cc)
     go r z (was-taken s′ b l c e (began-held q m v f g)) = let u = waits-yes p y in let o = w .place in no (cc)
     go r z (was-taken s′ b l c e (taken ti wt mt q m n v)) = meets (rw (z, e, ti)) (rw (z, e, m)) mt (rw (z, e) m) (rw (z, e) n)
-    go r z (was-taken s′ b l c e (ran-out ti q m n v)) =
-        let o : after (s .clock) 1 ≡ due = (let u = w .timer in cc) in
-        expires (rw (z, e, ti)) (omega (arith, w .ticks, left-after (s .clock) 1 (h .clock) (omega arith), ap (left (s .clock)) o)) (rw (z, e) (n ∙ ap (λ (f : Place). expiry f ∷ []) (w .place)))
+    go r z (was-taken s′ b l c e (ran-out u q j m n v)) =
+        let o : u ≡ due = (let f = w .timer in cc) in
+        expires (omega (arith, w .ticks, good .0)) (rw (z, e) (omega (arith, w .ticks, j, ap (left (s .clock)) o))) (rw (z, e) (n ∙ ap (λ (f : Place). expiry f ∷ []) (w .place)))
     go r z (was-taken s′ b l c e (accepted ti o q m n v)) = is-met (rw (z, e, ti)) (rw (z, e, m, n)) (rw (z, e) n)
     go r z (was-taken s′ b l c e (served ti mt q m n o v f)) = let u = held-no p y in let oo = w .place in no (cc)
     go r z (was-taken s′ b l c e (given-up ti wt q m n o v)) = let pq : p ≡ Queued wt = sym (w .place) ∙ q in fails (rw (z, e, ti)) (rw (z, e, ti, pq, m, eq-eqb (wt .target) (wt .target) refl)) (rw (z, e) o)
@@ -193,7 +189,7 @@ or-right false b e = e
 course : (mid : List Ask) (s : State) (t : ℕ) (p : Place) (due k d : ℕ) → Sound s → Timely p → Pending s t p due k d → Course s mid t p due k d
 course [] s t p due k d h y w = still (record { place = w .place; timer = w .timer; ticks = omega (arith, w .ticks) }) refl refl refl
 course (a ∷ rest) s t p due k d h y w =
-    go (next s a t p due k d h y w) (course rest s1 t p due (bit (ticked x) + k) d (step-sound s a h) y)
+    go (next s a t p due k d h y w) (course rest s1 t p due (ticksIn x + k) d (step-sound s a h) y)
   where
     x : Entry
     x = entry s a
@@ -204,14 +200,14 @@ course (a ∷ rest) s t p due k d h y w =
     log : List Entry
     log = logOf s1 rest
 
-    go : Next s x t p due k d → (Pending s1 t p due (bit (ticked x) + k) d → Course s1 rest t p due (bit (ticked x) + k) d) → Course s (a ∷ rest) t p due k d
+    go : Next s x t p due k d → (Pending s1 t p due (ticksIn x + k) d → Course s1 rest t p due (ticksIn x + k) d) → Course s (a ∷ rest) t p due k d
     go (goes-on v r en co) f = next-course (f v)
       where
-        next-course : Course s1 rest t p due (bit (ticked x) + k) d → Course s (a ∷ rest) t p due k d
+        next-course : Course s1 rest t p due (ticksIn x + k) d → Course s (a ∷ rest) t p due k d
         next-course (still u o m n) = still (record { place = u .place; timer = u .timer; ticks = omega (arith, u .ticks) }) (rw r (omega (arith, o))) (rw en m) (rw co n)
         next-course (over u o) = over (why u) (how o)
           where
-            why : (engaged t log ≡ true) ⊎ ((completed (partnerOf p) log ≡ true) ⊎ (d ≤ bit (ticked x) + k + tickCount log))
+            why : (engaged t log ≡ true) ⊎ ((completed (partnerOf p) log ≡ true) ⊎ (d ≤ ticksIn x + k + tickCount log))
                 → (engaged t (x ∷ log) ≡ true) ⊎ ((completed (partnerOf p) (x ∷ log) ≡ true) ⊎ (d ≤ k + tickCount (x ∷ log)))
             why (inl q) = inl (or-right (engages t x) (engaged t log) q)
             why (inr (inl q)) = inr (inl (or-right (completes (partnerOf p) x) (completed (partnerOf p) log) q))
@@ -227,11 +223,11 @@ course (a ∷ rest) s t p due k d h y w =
         how (inr z) = inr (omega arith)
     go (is-met n en r) f = over (inl (or-true (engages t x) (engaged t log) en)) (inr (rw r (omega arith)))
     go (fails n co r) f = over (inr (inl (or-true (completes (partnerOf p) x) (completed (partnerOf p) log) co))) (inr (rw r (omega arith)))
-    go (expires n m r) f = over (inr (inr (rw n (omega (arith, m))))) (inr (rw r (omega arith)))
+    go (expires n m r) f = over (inr (inr (omega (arith, m)))) (inr (rw r (omega arith)))
 
 -- ── the theorem ──
 
-timely : (s : State) (c : C.Call) → isWaiting (placeFor s c) ≡ true → Timely (placeFor s c) × (partnerOf (placeFor s c) ≡ target c) × (expiry (placeFor s c) ≡ timeReason c) × (isTick c ≡ false)
+timely : (s : State) (c : C.Call) → isWaiting (placeFor s c) ≡ true → Timely (placeFor s c) × (partnerOf (placeFor s c) ≡ target c) × (expiry (placeFor s c) ≡ timeReason c) × (ticksOf c ≡ 0)
 timely s (Create p n) e = no (cc)
 timely s (Delay d) e = (delayed, refl, refl, refl)
 timely s (Call g j m) e = (queued (waiting s g j), refl, refl, refl)
@@ -313,41 +309,32 @@ module _ (x : Entry) (mid : List Ask) (b : Ask) (t : ℕ) (h : Sound (x .out .st
         go (meets f en mt q r) = no (let k = z .time in cc)
         go (is-met f en r) = let k = z .time in let e : expiry p ≡ ACCEPTED = cc in absurd (eqb-false (expiry p) ACCEPTED (expiry-no p timed .0) e)
         go (fails f co r) = let k = z .time in let e : expiry p ≡ TASKING-ERROR = cc in absurd (eqb-false (expiry p) TASKING-ERROR (expiry-no p timed .1) e)
-        go (expires f g r) = record { tick = f; number = omega (arith, g); free = rw (fresh) m; alive = rw (← pa) n }
+        go (expires f g r) = record { later = omega (arith, f); reached = omega (arith, g); free = rw (fresh) m; alive = rw (← pa) n }
 
     back : TimeReached t (duration (x .call)) x log y → Course (x .out .state) mid t p due 0 (duration (x .call)) → EndsByTime t (x .call) log y
     back z (over (inl q) _) = no (let k = or-r (engages t x) (engaged t log) (z .free) in cc)
     back z (over (inr (inl q)) _) = no (let k = z .alive in cc)
-    back z (over (inr (inr q)) _) = absurd (omega (arith, q, z .number))
+    back z (over (inr (inr q)) _) = absurd (omega (arith, q, z .later))
     back z (still u o m n) = go (next s2 b t p due (0 + tickCount log) (duration (x .call)) h2 timed u)
       where
         go : Next s2 y t p due (0 + tickCount log) (duration (x .call)) → EndsByTime t (x .call) log y
-        go (goes-on v r en co) = absurd (omega (arith, z .number, rw (z .tick) at (v .ticks), still-due (y .out .state) t due (step-sound s2 b h2) (v .timer)))
-        go (meets f en mt q r) = no (let k = z .tick in cc)
-        go (is-met f en r) = no (let k = z .tick in cc)
-        go (fails f co r) = no (let k = z .tick in cc)
+        go (goes-on v r en co) = absurd (omega (arith, z .reached, v .ticks, still-due (y .out .state) t due (step-sound s2 b h2) (v .timer)))
+        go (meets f en mt q r) = absurd (omega (arith, f, z .later, z .reached))
+        go (is-met f en r) = absurd (omega (arith, f, z .later, z .reached))
+        go (fails f co r) = absurd (omega (arith, f, z .later, z .reached))
         go (expires f g r) = record { still = o; time = r ∙ ap (λ (k : ℕ). k ∷ []) ex }
 
     in-time : Claim
     in-time = (λ z. there z (course mid (x .out .state) t p due 0 (duration (x .call)) h timed w), λ z. back z (course mid (x .out .state) t p due 0 (duration (x .call)) h timed w))
 
-timed-waits : (n : ℕ) → n < 4294967296 → (pre : List Ask) (a : Ask) (mid : List Ask) (b : Ask)
-    → let x = entry (reach (empty n) pre) a in TimedWaits x (logOf (x .out .state) mid) (entry (reach (x .out .state) mid) b)
-timed-waits n hn pre a mid b t bg du = go (entry s a .out) refl (step-fate s a t h)
+pub timed-waits : (s : State) (a : Ask) (mid : List Ask) (b : Ask) → Sound s
+    → let x = entry s a in TimedWaits x (logOf (x .out .state) mid) (entry (reach (x .out .state) mid) b)
+timed-waits s a mid b h t bg du = go (entry s a .out) refl (step-fate s a t h)
   where
-    s : State
-    s = reach (empty n) pre
-
-    h : Sound s
-    h = reach-sound pre (empty n) (empty-sound n hn)
-
     h1 : Sound (entry s a .out .state)
     h1 = step-sound s a h
 
-    c : C.Call
-    c = a .call
-
-    go : (r : Stepped) → entry s a .out ≡ r → StepFate s (a .call) t r
+    go : (r : Given) → entry s a .out ≡ r → StepFate s (a .call) t r
         → EndsByTime t (a .call) (logOf (entry s a .out .state) mid) (entry (reach (entry s a .out .state) mid) b) ↔ TimeReached t (duration (a .call)) (entry s a) (logOf (entry s a .out .state) mid) (entry (reach (entry s a .out .state) mid) b)
     go r z (not-taken f k e) = clash (and-first (eqb (number f) 0) (eqb 0 WAITS) (and-first (eqb (number f) 0 && eqb 0 WAITS) (eqb 0 t) (rw (z, e) at bg))) (number-pos f)
     go r z (was-taken s′ k l tk e (untouched q m v)) = clash (rw (z, e) at bg) v
@@ -363,10 +350,7 @@ timed-waits n hn pre a mid b t bg du = go (entry s a .out) refl (step-fate s a t
         (rw (z, e, f, held-no (placeFor s (a .call)) (y .0), o))
     go r z (was-taken s′ k l tk e (began-held q mt f o m)) = at-once (entry s a) mid b t h1 mt (rw (z, e) f)
     go r z (was-taken s′ k l tk e (taken ti wt mt q m n v)) = clash (rw (z, e) at bg) v
-    go r z (was-taken s′ k l tk e (ran-out ti q m n v)) = clash (rw (z, e) at bg) v
+    go r z (was-taken s′ k l tk e (ran-out u q j m n v)) = clash (rw (z, e) at bg) v
     go r z (was-taken s′ k l tk e (accepted ti o q m n v)) = clash (rw (z, e) at bg) v
     go r z (was-taken s′ k l tk e (served ti mt q m n o v f)) = clash (rw (z, e) at bg) f
     go r z (was-taken s′ k l tk e (given-up ti wt q m n o v)) = clash (rw (z, e) at bg) v
-
-pub over-runs : OverRuns
-over-runs = record { always-sound = always-sound; waits-counted = waits-counted; six-reasons = six-reasons; held-till-end = held-till-end; timed-waits = timed-waits }

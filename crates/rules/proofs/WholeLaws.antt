@@ -14,12 +14,13 @@ use borrow.Author.Tests.{eqb-true, eqb-false, eq-eqb, ne-eqb, leb-true, leb-fals
 use Rattle.lists.specs.Lists.{if_then_else_, bit, count, filter, remove, every}
 use Rattle.rules.specs.State.{State, blank, nth, created, isReady, isQueued, isHeld, hasTime, running}
 use Rattle.rules.specs.Sound.{sound}
-use Rattle.rules.specs.Step.{Outcome, refused, took, Refusal, SHORT-ROOM, BAD-STATE, Stepped, step, takeCall}
+use Rattle.rules.specs.Step.{Outcome, refused, took, Refusal, SHORT-ROOM, BAD-STATE, takeCall}
 use Rattle.rules.specs.Whole.{view, pack, isBlank, isOff, unused, packed, soundWhole, Whole, decline, done, stepWhole}
 use Rattle.rules.specs.declared.Supervisor.{Supervisor}
 use Rattle.calls.specs.declared.Call as C
 use Rattle.rules.specs.declared.Task.{Task}
-use Rattle.lists.proofs.ListLaws.{by-eq, by-bool, by-test, count-remove-same, count-remove-other, true-T, is-true, and-l, and-r}
+use Rattle.lists.proofs.ListLaws.{by-eq, by-bool, by-test, true-T, is-true, and-l, and-r}
+pub use Rattle.lists.proofs.ListLaws.{at-most}
 use Rattle.rules.proofs.Invariant.{Sound}
 use Rattle.rules.proofs.Members.{nth-beyond}
 use Rattle.rules.specs.declared.Place.{Place}
@@ -28,33 +29,11 @@ use Rattle.rules.specs.declared.Timer.{Timer}
 use Rattle.rules.specs.declared.Timer.the-variants.{Off, Due}
 use Rattle.rules.proofs.SoundTest.{sound-test}
 use Rattle.rules.specs.State.{empty}
-use Rattle.rules.specs.Runs.{Ask, Entry, entry, logOf, reach, viewed, entryWhole, logWhole, reachWhole, SameRuns}
+use Rattle.rules.specs.Runs.{Ask, Given, Entry, viewed, entryWhole, logWhole, reachWhole}
+use Rattle.rules.proofs.StateRuns.{stepped, step, entry, logOf, reach}
 use Rattle.rules.proofs.OverRuns.{step-sound, empty-sound, reach-sound}
 
 -- ── a line has no more places than there are tasks ──
-
-pub length-remove : (t : ℕ) (l : List ℕ) → length l ≡ length (remove t l) + count t l
-length-remove t [] = refl
-length-remove t (x ∷ xs) = go (eqb x t) refl (length-remove t xs)
-  where
-    go : (b : Bool) → eqb x t ≡ b → length xs ≡ length (remove t xs) + count t xs → suc (length xs) ≡ length (if not b then x ∷ remove t xs else remove t xs) + (bit (eqb x t) + count t xs)
-    go true e ih = rw e (omega (arith, ih))
-    go false e ih = rw e (omega (arith, ih))
-
-pub at-most : (n : ℕ) (l : List ℕ) → ((u : ℕ) → count u l ≤ 1) → ((u : ℕ) → 0 < count u l → (0 < u) × (u ≤ n)) → length l ≤ n
-at-most zero [] h k = omega arith
-at-most zero (x ∷ xs) h k = let i = k x (rw (eq-eqb x x refl) (omega arith)) in omega (arith, i .0, i .1)
-at-most (suc n) l h k =
-    omega (
-      arith,
-      length-remove (suc n) l,
-      h (suc n),
-      at-most n (remove (suc n) l)
-          (λ u. by-eq u (suc n) (λ e. rw e (omega (arith, count-remove-same (suc n) l))) (λ m. omega (arith, count-remove-other (suc n) u l m, h u)))
-          (λ u j. by-eq u (suc n)
-          (λ e. absurd (omega (arith, count-remove-same (suc n) l, rw e at j)))
-          (λ m. let i = k u (omega (arith, count-remove-other (suc n) u l m)) in (i .0, omega (arith, i .1, m)))),
-    )
 
 bit-le : (b : Bool) → bit b ≤ 1
 bit-le true = omega arith
@@ -114,7 +93,7 @@ packed-pack s h =
 
 -- ── a packed struct is the pack of what it stands for ──
 
-blank-is : (x : Task) → unused x ≡ true → x ≡ blank
+pub blank-is : (x : Task) → unused x ≡ true → x ≡ blank
 blank-is x e =
     let a = eqb (x .priority) 0 in let b = eqb (x .entries) 0 in let c = isBlank (x .place) in
     let t = true-T e in
@@ -174,7 +153,7 @@ whole-packed s l r c h d p =
     }
 
 -- the step of the rules, with its state in the code's struct
-abbrev pub wholeOf : Stepped → Whole
+abbrev pub wholeOf : Given → Whole
 wholeOf r = record { refusal = r .refusal; answer = r .answer; ended = r .ended; next = r .next; state = pack (r .state) }
 
 pub step-whole : (s : State) (c : C.Call) (room : ℕ) → Sound s → stepWhole (pack s) c room ≡ wholeOf (step s c room)
@@ -184,7 +163,7 @@ step-whole s c room h =
     (λ e. rw e)
     (λ e. rw (e, packed-pack s h, view-pack s h, sound-test s h) (go (takeCall s c)))
   where
-    go : (o : Outcome) → done (pack s) o ≡ wholeOf (Rattle.rules.specs.Step.stepped s o)
+    go : (o : Outcome) → done (pack s) o ≡ wholeOf (stepped s o)
     go (refused r) = rw (view-pack s h)
     go (took t a l) = refl
 
@@ -220,9 +199,3 @@ reach-whole (a ∷ rest) s h =
 
 pub sound-pack : (s : State) → Sound s → soundWhole (pack s) ≡ true
 sound-pack s h = rw (packed-pack s h, view-pack s h) (sound-test s h)
-
-pub same-runs : SameRuns
-same-runs = record {
-  same-log = λ n h run. log-whole run (empty n) (empty-sound n h);
-  same-state = λ n h run. reach-whole run (empty n) (empty-sound n h);
-}

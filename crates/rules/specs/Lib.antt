@@ -1,8 +1,22 @@
--- The supervisor, as document 01 has it. Read in this order.
+-- The rules of the supervisor, as document 01 has them. Read in this order; nothing here needs a proof to be understood.
+
+-- the state: tasks, places, queues, the running task, the clock, and the one way in which a task changes its place
 pub mod State
+-- when a state is sound, as a test
 pub mod Sound
+-- each call: results, refusals, the next state, the ended waits; the lent room
 pub mod Step
+-- the struct that the code works on, and the whole step on it: what the contract of `step` cites
 pub mod Whole
+-- COUNT and CALLABLE
 pub mod Questions
-pub mod Cases
+-- when a state is sound, fact by fact
+pub mod SoundFacts
+-- what holds of each step: a refusal changes nothing, the dispatched task, room in queues, COUNT
+pub mod EachStep
+-- runs, their logs, and what is read off a log
 pub mod Runs
+-- statement 3: what holds of every run
+pub mod OverRuns
+-- the same log, read off what the code's `step` answered and wrote
+pub mod Uses

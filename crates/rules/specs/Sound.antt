@@ -36,6 +36,7 @@ abbrev pub timeInRange : ℕ → Timer → Bool
 timeInRange now Off = true
 timeInRange now (Due d) = ltb 0 (ticksLeft now (Due d)) && leb (ticksLeft now (Due d)) 2147483647 && ltb d 4294967296
 
+-- a task in range, that stands where it may with its time; g is the task that it has called
 abbrev pub goodTask : ℕ → Task → Task → Bool
 goodTask now me g = inRange (me .priority) (me .entries) && fits me g (me .place) (me .timer) && timeInRange now (me .timer)
 
@@ -48,6 +49,7 @@ standsRight s t =
     && eqb (count t (s .held)) (bit (isHeld (placeOf s t)))
     && eqb (count t (s .delays)) (bit (hasTime (timerOf s t)))
 
+-- at most 31 tasks, each standing right, no other number in any line, and the delay queue in order of ticks left
 unfoldable pub sound : State → Bool
 sound s =
     leb (created s) 31

@@ -1,4 +1,6 @@
 -- The state as the rules speak of it: the created tasks, and four lines of task numbers with no unused places.
+-- Letters, here and in Step.antt: s a state; t a task, c a caller, g the task that is called; e an entry; p a priority or a
+-- place; w a time; d a number of ticks; o an open set; n a number or a clock reading.
 -- Assumes nothing.
 use Prim.Native.Nat.{ℕ, zero, suc, _+_, _-_, _/_, _%_, _^_}
 use mathlib.Core.Bool.{Bool, true, false, not, _&&_}
@@ -15,19 +17,23 @@ use Rattle.rules.specs.declared.Offer.{Offer}
 use Rattle.rules.specs.declared.Place.{Place}
 use Rattle.rules.specs.declared.Place.the-variants.{Blank, Ready, Delayed, Queued, Held, Accepting, Completed}
 
+-- a state: the clock, the tasks, and four lines; every queue of the manual is the part of a line that passes a test
 pub record State : Type 0 where
   pub clock : ℕ
-  -- task t is the t-th of them
+  -- the created tasks; task t is the t-th of them
   pub tasks : List Task
-  -- the ready tasks, in the order in which they became ready; the callers in entry queues, in the order of their calls;
-  -- the callers in a rendezvous, in the order in which it began; those who wait with a time, in order of ticks left
+  -- the ready tasks of all levels, in the order in which they became ready
   pub ready : List ℕ
+  -- the callers in all entry queues, in the order of their calls
   pub callers : List ℕ
+  -- the callers in a rendezvous, in the order in which it began
   pub held : List ℕ
+  -- the delay queue: those who wait with a time, in order of ticks left
   pub delays : List ℕ
 
 -- ── a task ──
 
+-- an unused place for a task
 abbrev pub blank : Task
 blank = record { priority = 0; entries = 0; place = Blank; timer = Off }
 
@@ -36,22 +42,28 @@ abbrev pub nth : List Task → ℕ → Task
 nth l zero = blank
 nth l (suc k) = getD l k blank
 
+-- the tasks with x as task t; all as they were for 0 and for a number that was never given
 abbrev pub setNth : List Task → ℕ → Task → List Task
 setNth l zero x = l
 setNth l (suc k) x = set l k x
 
+-- task t of a state
 abbrev pub taskOf : State → ℕ → Task
 taskOf s t = nth (s .tasks) t
 
+-- where task t is
 abbrev pub placeOf : State → ℕ → Place
 placeOf s t = taskOf s t .place
 
+-- the time with which task t waits, if any
 abbrev pub timerOf : State → ℕ → Timer
 timerOf s t = taskOf s t .timer
 
+-- the priority with which task t was created
 abbrev pub priorityOf : State → ℕ → ℕ
 priorityOf s t = taskOf s t .priority
 
+-- how many tasks have been created: they are 1..created
 abbrev pub created : State → ℕ
 created s = length (s .tasks)
 
@@ -61,6 +73,7 @@ isTask s t = ltb 0 t && leb t (created s)
 
 -- ── places ──
 
+-- ready, in the queue of its own priority
 abbrev pub isReady : Place → Bool
 isReady Blank = false
 isReady Ready = true
@@ -70,6 +83,7 @@ isReady (Held m) = false
 isReady (Accepting o) = false
 isReady Completed = false
 
+-- queued on an entry
 abbrev pub isQueued : Place → Bool
 isQueued Blank = false
 isQueued Ready = false
@@ -79,6 +93,7 @@ isQueued (Held m) = false
 isQueued (Accepting o) = false
 isQueued Completed = false
 
+-- held in a rendezvous
 abbrev pub isHeld : Place → Bool
 isHeld Blank = false
 isHeld Ready = false
@@ -88,6 +103,7 @@ isHeld (Held m) = true
 isHeld (Accepting o) = false
 isHeld Completed = false
 
+-- completed
 abbrev pub isCompleted : Place → Bool
 isCompleted Blank = false
 isCompleted Ready = false
@@ -97,7 +113,7 @@ isCompleted (Held m) = false
 isCompleted (Accepting o) = false
 isCompleted Completed = true
 
--- the task and the entry that a queued or held caller has called; 0 of all others
+-- the task that a queued or held caller has called; 0 of all others
 abbrev pub partnerOf : Place → ℕ
 partnerOf Blank = 0
 partnerOf Ready = 0
@@ -107,6 +123,7 @@ partnerOf (Held m) = m .holder
 partnerOf (Accepting o) = 0
 partnerOf Completed = 0
 
+-- the entry that a queued or held caller has called; 0 of all others
 abbrev pub entryOf : Place → ℕ
 entryOf Blank = 0
 entryOf Ready = 0
@@ -130,19 +147,22 @@ accepts (Held m) e = false
 accepts (Accepting o) e = opens (o .opens) e
 accepts Completed e = false
 
+-- there is a time
 abbrev pub hasTime : Timer → Bool
 hasTime Off = false
 hasTime (Due d) = true
 
 -- ── queues ──
 
--- caller c waits on entry e of task t; task g holds caller c; task t is of priority p
+-- caller c waits on entry e of task t
 abbrev pub waitsOn : State → ℕ → ℕ → ℕ → Bool
 waitsOn s t e c = isQueued (placeOf s c) && eqb (partnerOf (placeOf s c)) t && eqb (entryOf (placeOf s c)) e
 
+-- task g holds caller c
 abbrev pub holds : State → ℕ → ℕ → Bool
 holds s g c = isHeld (placeOf s c) && eqb (partnerOf (placeOf s c)) g
 
+-- task t is of priority p
 abbrev pub atLevel : State → ℕ → ℕ → Bool
 atLevel s p t = eqb (priorityOf s t) p
 
@@ -163,21 +183,25 @@ abbrev pub headUpTo : State → ℕ → ℕ
 headUpTo s zero = 0
 headUpTo s (suc p) = elim (level s (suc p)) [ [] ↦ headUpTo s p | t ∷ ts ↦ t ]
 
+-- the running task: the head of the highest ready queue that is not empty, 0 if none is ready
 unfoldable pub running : State → ℕ
 running s = headUpTo s 15
 
 -- ── the clock ──
 
+-- the clock counts 0..4294967295 and then 0 again
 abbrev pub round : ℕ → ℕ
 round n = n % 4294967296
 
--- the reading d ticks from now, and the ticks from now to a reading, counted round the clock
+-- the reading d ticks from now
 abbrev pub after : ℕ → ℕ → ℕ
 after now d = round (now + d)
 
+-- the ticks from now to a reading, counted round the clock
 abbrev pub left : ℕ → ℕ → ℕ
 left now due = round (due + 4294967296 - now)
 
+-- the ticks left of a time; 0 of none
 abbrev pub ticksLeft : ℕ → Timer → ℕ
 ticksLeft now Off = 0
 ticksLeft now (Due d) = left now d
@@ -189,10 +213,11 @@ abbrev pub retime : ℕ → List Task → Timer → ℕ → List ℕ → List �
 retime now tasks Off t l = remove t l
 retime now tasks (Due d) t l = insert (λ x. ltb (left now d) (ticksLeft now (nth tasks x .timer))) t (remove t l)
 
--- a task in another place, with another time; a new one
+-- a task in another place, with another time
 abbrev pub placed : Task → Place → Timer → Task
 placed x p w = record { priority = x .priority; entries = x .entries; place = p; timer = w }
 
+-- a new task: ready, with priority p and n entries
 abbrev pub fresh : ℕ → ℕ → Task
 fresh p n = record { priority = p; entries = n; place = Ready; timer = Off }
 
@@ -207,28 +232,32 @@ move s t p w = record {
   delays = retime (s .clock) (s .tasks) w t (s .delays);
 }
 
--- t becomes ready; all those of a list, one after the other
+-- t becomes ready: it joins the tail of its level, its time is dropped
 abbrev pub wake : State → ℕ → State
 wake s t = move s t Ready Off
 
+-- all those of a list become ready, one after the other
 abbrev pub wakeAll : State → List ℕ → State
 wakeAll s [] = s
 wakeAll s (t ∷ ts) = wakeAll (wake s t) ts
 
--- what a caller of entry e of task g waits for; what a task with the open set o waits for
+-- what a caller of entry e of task g waits for
 abbrev pub waiting : State → ℕ → ℕ → Waiting
 waiting s g e = record { target = g; entry = e }
 
+-- what a task with the open set o waits for
 abbrev pub offer : ℕ → Offer
 offer o = record { opens = o }
 
--- a rendezvous of g with its caller c at entry e begins, and ends
+-- the rendezvous of a caller of entry e with g
 abbrev pub meeting : State → ℕ → ℕ → Meeting
 meeting s g e = record { holder = g; entry = e }
 
+-- the rendezvous of g with its caller c at entry e begins: c is held by g, its time is dropped
 abbrev pub meet : State → ℕ → ℕ → ℕ → State
 meet s g c e = move s c (Held (meeting s g e)) Off
 
+-- the rendezvous of g with its caller c ends: c becomes ready
 abbrev pub part : State → ℕ → ℕ → State
 part s g c = wake s c
 
@@ -243,8 +272,10 @@ add s p n = record {
   delays = s .delays;
 }
 
+-- the same with another clock reading
 abbrev pub setClock : State → ℕ → State
 setClock s n = record { clock = n; tasks = s .tasks; ready = s .ready; callers = s .callers; held = s .held; delays = s .delays }
 
+-- no tasks, the clock at n
 abbrev pub empty : ℕ → State
 empty n = record { clock = n; tasks = []; ready = []; callers = []; held = []; delays = [] }

@@ -22,6 +22,7 @@ use Rattle.rules.specs.declared.Supervisor.{Supervisor}
 use Rattle.rules.specs.declared.Answer.{Answer}
 use Rattle.rules.specs.declared.Stepped.{Stepped}
 
+-- the state that a struct stands for
 abbrev pub view : Supervisor → State
 view s = record {
   clock = s .clock;
@@ -32,6 +33,7 @@ view s = record {
   delays = line (s .delays);
 }
 
+-- the struct that stands for a state: blank behind the tasks, 0 behind the numbers of each line
 abbrev pub pack : State → Supervisor
 pack s = record {
   clock = s .clock;
@@ -45,6 +47,7 @@ pack s = record {
 
 -- ── all unused places are blank ──
 
+-- no place: an unused one
 abbrev pub isBlank : Place → Bool
 isBlank Blank = true
 isBlank Ready = false
@@ -54,22 +57,27 @@ isBlank (Held m) = false
 isBlank (Accepting o) = false
 isBlank Completed = false
 
+-- no time
 abbrev pub isOff : Timer → Bool
 isOff Off = true
 isOff (Due d) = false
 
+-- a blank task
 abbrev pub unused : Task → Bool
 unused t = eqb (t .priority) 0 && eqb (t .entries) 0 && isBlank (t .place) && isOff (t .timer)
 
+-- at most 31 tasks created, and all unused places blank
 abbrev pub packed : Supervisor → Bool
 packed s =
     leb (s .created) 31 && every unused (drop (s .created) (s .tasks)) && tidy (s .ready) && tidy (s .callers) && tidy (s .held) && tidy (s .delays)
 
+-- the struct is sound: unused places blank, and the state that it stands for is sound
 abbrev pub soundWhole : Supervisor → Bool
 soundWhole s = packed s && sound (view s)
 
 -- ── the step of the code ──
 
+-- a refusal (0 if none), the answer, the ended waits, the dispatched task, and the struct afterwards
 pub record Whole : Type 0 where
   pub refusal : ℕ
   pub answer : Item
@@ -77,20 +85,23 @@ pub record Whole : Type 0 where
   pub next : ℕ
   pub state : Supervisor
 
+-- a refused step: the struct as it was, no ended waits, and 0 in all other numbers but the dispatched task n
 abbrev pub decline : Supervisor → Refusal → ℕ → Whole
 decline s r n = record { refusal = number r; answer = none; ended = []; next = n; state = s }
 
+-- a call as it was taken or refused, with the dispatched task afterwards
 abbrev pub done : Supervisor → Outcome → Whole
 done s (refused r) = decline s r (running (view s))
 done s (took st a l) = record { refusal = 0; answer = a; ended = l; next = running st; state = pack st }
 
+-- the whole step, with a room of so many bytes: SHORT_ROOM first, then BAD_STATE, then what the call itself gives
 unfoldable pub stepWhole : Supervisor → C.Call → ℕ → Whole
 stepWhole s c room =
     if ltb room 124 then decline s SHORT-ROOM 0
     else if not (soundWhole s) then decline s BAD-STATE 0
     else done s (takeCall (view s) c)
 
--- what the code's step gives: the state, and the answer with the number of ended waits
+-- the answer's seven numbers
 abbrev pub answerOf : Whole → Answer
 answerOf w = record {
   refusal = w .refusal;
@@ -102,5 +113,6 @@ answerOf w = record {
   next = w .next;
 }
 
+-- what the code's step gives: the struct and the answer
 abbrev pub steppedOf : Whole → Stepped
 steppedOf w = record { state = w .state; answer = answerOf w }

@@ -1,7 +1,3 @@
-ghost use mathlib.Core.Path.{_≡_};
-ghost use Rattle.rules.specs.State.{empty};
-ghost use Rattle.rules.specs.Whole.{pack};
-
 // The state of the supervisor, the calls and the answers: types only. All else stands in specs/.
 
 pub enum Timer {
@@ -89,27 +85,4 @@ pub struct Count {
 pub struct Known {
     pub refusal: u8,
     pub yes: bool,
-}
-
-// A supervisor with no tasks.
-pub fn made(clock: u32) -> Supervisor
-    ensures { λ r. ⌜ r ≡ pack (empty clock) ⌝ }
-{
-    let blank = Task {
-        priority: 0,
-        entries: 0,
-        place: Place::Blank,
-        timer: Timer::Off,
-    };
-    let tasks = [blank; 31];
-    let line = [0u8; 31];
-    Supervisor {
-        clock,
-        created: 0,
-        tasks,
-        ready: line,
-        callers: line,
-        held: line,
-        delays: line,
-    }
 }

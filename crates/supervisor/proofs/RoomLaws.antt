@@ -20,7 +20,7 @@ use Rattle.rules.proofs.MoveLaws.{wake-sound, length-move}
 use Rattle.rules.proofs.WholeLaws.{view-pack}
 use Rattle.table.specs.Moved.{movedOf}
 use Rattle.supervisor.specs.Taken.{Stands, itemOf, AllThere, WokenAs}
-use Rattle.supervisor.proofs.StepLaws.{stands-pack, moved-packed}
+use Rattle.supervisor.proofs.MoveLaws.{stands-pack, moved-packed}
 
 pub four : (xs : List ℕ) → 4 ≤ length xs → {a b c d : ℕ} → set (set (set (set xs 0 a) 1 b) 2 c) 3 d ≡ a ∷ b ∷ c ∷ d ∷ drop 4 xs
 four [] h = absurd (omega arith)

@@ -1,80 +1,33 @@
--- The whole step.
+-- The whole step, and the questions.
 -- Assumes nothing.
-use Prim.Native.Nat.{ℕ, zero, suc, _≤_, _<_, _^_}
+use Prim.Native.Nat.{ℕ, _≤_, _<_}
 use mathlib.Core.Path.{_≡_, refl, sym, ap, _∙_}
 use mathlib.Core.Bool.{Bool, true, false, not, _&&_}
-use mathlib.Core.List.{List, []}
-use lib.Dec.{eqb, ltb, leb}
-use lib.ListN.{length}
-use lib.IntN.{ℤ}
-use borrow.Author.Tests.{lt-ltb, le-ltb}
-use Rattle.rules.specs.State.{State, created, taskOf, running}
-use Rattle.rules.specs.Sound.{inRange, sound}
-use Rattle.rules.specs.Step.{Outcome, refused, took, SHORT-ROOM, BAD-STATE, ticks, delayFor, ofRunning, openEntry, selectDelay, selectNone, selectAt, select, takeCall, roomAfter}
-use Rattle.rules.specs.Whole.{Whole, view, pack, packed, soundWhole, decline, done, stepWhole}
+use mathlib.Core.List.{List}
+use native.Mathlib.Omega.{arith}
+use lib.Dec.{ltb, leb}
+use lib.ListN.{length, drop}
+use lib.Seq.{length-take-le}
+use borrow.Author.Tests.{lt-ltb, le-ltb, leb-true}
+use Rattle.lists.specs.Line.{tidy}
+use Rattle.lists.specs.Lists.{every}
+use Rattle.rules.specs.State.{created, taskOf, running, isCompleted}
+use Rattle.rules.specs.Step.{Outcome, refused, took, takeCall, roomAfter, SHORT-ROOM, BAD-STATE}
+use Rattle.rules.specs.Sound.{sound}
+use Rattle.rules.specs.Whole.{view, pack, Whole, packed, soundWhole, decline, done, stepWhole, steppedOf, unused}
+use Rattle.rules.specs.declared.Task.{Task}
 use Rattle.rules.specs.declared.Supervisor.{Supervisor}
-use Rattle.calls.specs.declared.Call as C
-use Rattle.calls.specs.declared.Call.the-variants.{Create, Delay, Select}
-use Rattle.calls.specs.declared.SelectMode.{SelectMode}
-use Rattle.calls.specs.declared.SelectMode.the-variants.{Plain, Else}
-use Rattle.calls.specs.declared.SelectMode.the-variants as S
-use Rattle.lists.proofs.ListLaws.{by-test}
+use Rattle.calls.specs.declared.Call.the-variants.{Call}
+use Rattle.rules.proofs.Members.{and-true, and-first}
 use Rattle.rules.proofs.StepSound.{Kept, call-sound}
 use Rattle.rules.proofs.WholeLaws.{view-pack, whole-packed}
-use Rattle.rules.proofs.SoundTest.{sound-props}
-use Rattle.rules.proofs.Members.{and-first, and-true}
-use Rattle.rules.specs.Whole.{steppedOf}
-use Rattle.rules.specs.declared.Stepped.{Stepped}
 use Rattle.supervisor.specs.Taken.{Stands, takenOf, endedBy}
-use Rattle.supervisor.specs.declared.Taken.{Taken}
+use Rattle.supervisor.specs.declared.answers.Taken.{Taken}
+use Rattle.rules.proofs.SoundTest.{sound-props}
+use Rattle.rules.specs.declared.Stepped.{Stepped}
 use Rattle.rules.specs.declared.Known.{Known}
 use Rattle.rules.specs.Questions.{callableWhole}
-use Rattle.rules.specs.declared.Task.{Task}
-use Rattle.lists.specs.Lists.{every}
-use Rattle.rules.specs.State.{isCompleted}
-use Rattle.rules.specs.Whole.{unused}
-use Rattle.lists.specs.Line.{tidy}
-use lib.ListN.{drop}
-use lib.Seq.{length-take-le}
-use borrow.Author.Tests.{leb-true}
-use native.Mathlib.Omega.{arith}
-
--- ---- calls that end no wait
-
-abbrev Quiet : Outcome → Type 0
-Quiet o = endedBy o ≡ []
-
-quiet-runner : (t : ℕ) (f : ℕ → Outcome) → ((t : ℕ) → Quiet (f t)) → Quiet (ofRunning t f)
-quiet-runner zero f h = refl
-quiet-runner (suc t) f h = h (suc t)
-
-pub quiet-create : (v : State) (p n : ℕ) → Quiet (takeCall v (Create p n))
-quiet-create v p n = by-test Quiet (not (inRange p n)) (λ _. refl) λ _. by-test Quiet (leb 31 (created v)) (λ _. refl) (λ _. refl)
-
-pub quiet-delay : (v : State) (d : ℤ) → Quiet (takeCall v (Delay d))
-quiet-delay v d = quiet-runner (running v) (λ t. delayFor v t (ticks d)) (λ t. go t (ticks d))
-  where
-    go : (t n : ℕ) → Quiet (delayFor v t n)
-    go t zero = refl
-    go t (suc n) = refl
-
-pub quiet-select : (v : State) (o : ℕ) (m : SelectMode) → Quiet (takeCall v (Select o m))
-quiet-select v o m = quiet-runner (running v) (λ t. select v t o m) (λ t. by-test Quiet (leb (2 ^ (taskOf v t .entries)) o) (λ _. refl) (λ _. at t m (openEntry v t o)))
-  where
-    late : (t n : ℕ) → Quiet (selectDelay v t o n)
-    late t zero = refl
-    late t (suc n) = refl
-
-    none : (t : ℕ) (m : SelectMode) → Quiet (selectNone v t o m)
-    none t Plain = by-test Quiet (eqb o 0) (λ _. refl) (λ _. refl)
-    none t (S.Delay d) = late t (ticks d)
-    none t Else = refl
-
-    at : (t : ℕ) (m : SelectMode) (e : ℕ) → Quiet (selectAt v t o m e)
-    at t m zero = none t m
-    at t m (suc e) = refl
-
--- ---- the step
+use Rattle.calls.specs.declared.Call as C
 
 pub stands-of : (s : Supervisor) → s .clock < 4294967296 → length (s .tasks) ≡ 31 → length (s .ready) ≡ 31 → length (s .callers) ≡ 31 → length (s .held) ≡ 31 → length (s .delays) ≡ 31 → soundWhole s ≡ true → Stands s
 stands-of s k l1 l2 l3 l4 l5 h = record {

@@ -7,7 +7,7 @@ use Rattle.rules.specs.Step.{takeCall, roomAfter}
 use Rattle.rules.specs.Whole.{view}
 use Rattle.table.proofs.LeafLaws.{mapped-long}
 use Rattle.supervisor.specs.Taken.{Stands}
-use Rattle.supervisor.proofs.TopLaws as T
+use Rattle.supervisor.proofs.TopLaws.{by-whole, ended-is, kept, next-is, stands-of, step-short, step-sound, step-unsound}
 use Rattle.supervisor.proofs.step.Statement.{statement}
 use Rattle.supervisor.proofs.step.Tie as tie
 
@@ -21,17 +21,17 @@ stands-here c =
     let l4 : length (s .held) ≡ 31 = search (needs, mapped-long) in
     let l5 : length (s .delays) ≡ 31 = search (needs, mapped-long) in
     let k : s .clock < 4294967296 = search needs in
-    T.stands-of s k l1 l2 l3 l4 l5 (sym (c .before .is-sound .ensures) ∙ not-false _ (c .if2 .left))
+    stands-of s k l1 l2 l3 l4 l5 (sym (c .before .is-sound .ensures) ∙ not-false _ (c .if2 .left))
 
 returns : tie.Need-returns
 returns c =
     let a = c .before .before .before .args in
-    T.by-whole _ _ (T.step-short (a .s) (a .c) (length (a .room .now)) (c .before .if1 .taken)) (c .declined .ensures) refl
+    by-whole _ _ (step-short (a .s) (a .c) (length (a .room .now)) (c .before .if1 .taken)) (c .declined .ensures) refl
 
 returns-2 : tie.Need-returns-2
 returns-2 c =
     let a = c .before .before .before .before .before .args in
-    T.by-whole _ _ (T.step-unsound (a .s) (a .c) (length (a .room .now)) (c .before .before .before .if1 .left) (sym (c .before .before .is-sound .ensures) ∙ not-true _ (c .before .if2 .taken))) (c .declined2 .ensures) refl
+    by-whole _ _ (step-unsound (a .s) (a .c) (length (a .room .now)) (c .before .before .before .if1 .left) (sym (c .before .before .is-sound .ensures) ∙ not-true _ (c .before .if2 .taken))) (c .declined2 .ensures) refl
 
 take-call-requires : tie.Need-take-call-requires
 take-call-requires c κs = (stands-here (c .before), c .before .before .before .if1 .left)
@@ -42,9 +42,9 @@ returns-3 c =
     let q = sym (c .before .before .before .before .before .before .before .before .is-sound .ensures) ∙ not-false _ (c .before .before .before .before .before .before .before .if2 .left) in
     let h = stands-here (c .before .before .before .before .before .before .before) in
     let o = takeCall (view s) (a .c) in
-    T.by-whole _ _ (T.step-sound s (a .c) (length (a .room .now)) (c .before .before .before .before .before .before .before .before .before .if1 .left) q)
-    (T.next-is s o (c .before .before .before .before .before .take-call .result) (c .running-of .result) (T.kept s (a .c) h) (c .before .before .before .before .before .take-call .ensures .0) (c .running-of .ensures))
-    (c .before .before .before .before .before .take-call .ensures .1 ∙ ap (roomAfter (a .room .now)) (T.ended-is s o))
+    by-whole _ _ (step-sound s (a .c) (length (a .room .now)) (c .before .before .before .before .before .before .before .before .before .if1 .left) q)
+    (next-is s o (c .before .before .before .before .before .take-call .result) (c .running .result) (kept s (a .c) h) (c .before .before .before .before .before .take-call .ensures .0) (c .running .ensures))
+    (c .before .before .before .before .before .take-call .ensures .1 ∙ ap (roomAfter (a .room .now)) (ended-is s o))
 
 pub step-spec : {M : Type 1} → statement M
 step-spec =

@@ -7,8 +7,10 @@ use Rattle.rules.specs.Step.{takeCall}
 use Rattle.calls.specs.declared.Call.the-variants.{Delay}
 use Rattle.supervisor.specs.Taken.{takenOf}
 use Rattle.rules.specs.Whole.{view}
-use Rattle.supervisor.proofs.StepLaws.{quiet-room}
-use Rattle.supervisor.proofs.TopLaws.{quiet-create, quiet-delay, quiet-select}
+use Rattle.supervisor.proofs.AnswerLaws.{quiet-room}
+use Rattle.supervisor.proofs.CreateLaws.{quiet-create}
+use Rattle.supervisor.proofs.DelayLaws.{quiet-delay}
+use Rattle.supervisor.proofs.SelectLaws.{quiet-select}
 use Rattle.supervisor.proofs.take_call.Statement.{statement}
 use Rattle.supervisor.proofs.take_call.Tie as tie
 
@@ -25,13 +27,13 @@ returns-3 : tie.Need-returns-3
 returns-3 c = rw (c .before .before .before .before .before .c3 .given .1) (c .before .before .call .ensures)
 
 returns-4 : tie.Need-returns-4
-returns-4 c = rw (c .before .before .c4 .given .1) (c .select-from .ensures, quiet-room _ (quiet-select (view (c .before .before .before .before .before .args .s)) (c .before .before .c4 .given .0 .0) (c .before .before .c4 .given .0 .1 .0)))
+returns-4 c = rw (c .before .before .c4 .given .1) (c .select .ensures, quiet-room _ (quiet-select (view (c .before .before .before .before .before .args .s)) (c .before .before .c4 .given .0 .0) (c .before .before .c4 .given .0 .1 .0)))
 
 returns-5 : tie.Need-returns-5
-returns-5 c = rw (c .before .before .before .before .enum-told .given .1) (c .before .before .end-last .ensures)
+returns-5 c = rw (c .before .before .before .before .enum-told .given .1) (c .before .before .end .ensures)
 
 returns-6 : tie.Need-returns-6
-returns-6 c = rw (c .before .before .before .before .enum-told2 .given .1) (c .before .before .finish-task .ensures)
+returns-6 c = rw (c .before .before .before .before .enum-told2 .given .1) (c .before .before .finish .ensures)
 
 returns-7 : tie.Need-returns-7
 returns-7 c = rw (c .before .before .before .before .enum-told3 .given .1) (c .before .before .tick .ensures)

@@ -1,0 +1,14 @@
+-- A queue can hold 31 callers.
+-- Assumes nothing.
+use mathlib.Core.Path.{_≡_, refl}
+use Rattle.lists.specs.Line.{pad, padTo}
+use Rattle.rules.specs.State.{running}
+use Rattle.rules.specs.Sound.{sound}
+use Rattle.rules.specs.Step.{openEntry, queuedOn}
+use Rattle.rules.specs.Whole.{stepWhole}
+use Rattle.rules.specs.Questions.{countWhole}
+use Rattle.cases.specs.Cases.{crowd, crowdCount}
+
+pub full-queue : crowdCount ≡ record { refusal = 0; count = 31 }
+unfolding crowd sound stepWhole running openEntry queuedOn pad padTo countWhole
+full-queue = refl

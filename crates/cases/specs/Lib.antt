@@ -1,0 +1,2 @@
+-- The starred cases and the sample.
+pub mod Cases

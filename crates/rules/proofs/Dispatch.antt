@@ -1,0 +1,123 @@
+-- What holds of each step and each question: a refusal changes nothing, the dispatched task, a queue has room, COUNT.
+-- Assumes nothing.
+use Prim.Native.Nat.{ℕ, zero, suc, _≤_, _<_}
+use mathlib.Core.Path.{_≡_, refl, sym, _∙_, ap, subst}
+use mathlib.Core.Logic.{_⊎_, inl, inr}
+use mathlib.Core.Bool.{Bool, true, false, not, _&&_}
+use mathlib.Core.List.{List, [], _∷_}
+use native.Mathlib.Omega.{arith}
+use lib.ListN.{length}
+use lib.Dec.{T, eqb, ltb, leb}
+use borrow.Author.Tests.{eqb-true, eq-eqb, le-ltb, not-false}
+use Rattle.lists.specs.Lists.{bit, count, filter, downFrom}
+use Rattle.rules.specs.State.{State, taskOf, placeOf, priorityOf, created, isReady, isQueued, partnerOf, entryOf, level, atLevel, headUpTo, running, queue, waitsOn}
+use Rattle.rules.specs.Sound.{sound}
+use Rattle.rules.specs.Step.{Outcome, refused, took, SHORT-ROOM, BAD-STATE, Refusal, roomAfter, takeCall}
+use Rattle.rules.specs.Whole.{Whole, view, pack, packed, soundWhole, decline, done, stepWhole}
+use Rattle.rules.specs.Questions.{countWhole}
+use Rattle.rules.specs.EachStep.{Untouched, Heads, Dispatched, waitingOn, EachStep}
+use Rattle.rules.specs.declared.Item.{Item}
+use Rattle.rules.specs.declared.Supervisor.{Supervisor}
+use Rattle.rules.specs.declared.Place.{Place}
+use Rattle.rules.specs.declared.Place.the-variants.{Ready}
+use Rattle.calls.specs.declared.Call as C
+use Rattle.lists.proofs.ListLaws.{by-eq, by-bool, by-test, and-r, true-T, is-true, count-filter-yes, count-filter-no, same-length, down-once}
+use Rattle.rules.proofs.Invariant.{Sound}
+use Rattle.rules.proofs.Members.{in-filter, there, ready-is, bit-true, not-blank, runs, queued-is, queued-there, and-first}
+use Rattle.rules.proofs.SoundTest.{sound-props}
+use Rattle.rules.proofs.SoundSaid.{nobody}
+use Rattle.rules.proofs.StepSound.{Kept, call-sound}
+use Rattle.rules.proofs.WholeLaws.{view-pack}
+use Rattle.rules.proofs.Bounds.{queue-has-room}
+
+-- ── a refused step ──
+
+declined : (s : Supervisor) (r : Refusal) (n : ℕ) → Untouched s (decline s r n)
+declined s r n = record { state = refl; ended = refl; room = λ b. refl; answer = refl }
+
+untouched : (s : Supervisor) (c : C.Call) (room : ℕ) → 0 < stepWhole s c room .refusal → Untouched s (stepWhole s c room)
+unfolding stepWhole
+untouched s c room =
+    by-test P (ltb room 124) (λ _ k. declined s SHORT-ROOM 0) λ _.
+    by-test P (not (soundWhole s)) (λ _ k. declined s BAD-STATE 0) λ _. go (takeCall (view s) c)
+  where
+    P : Whole → Type 0
+    P w = 0 < w .refusal → Untouched s w
+
+    go : (o : Outcome) → P (done s o)
+    go (refused r) k = declined s r (running (view s))
+    go (took st a l) k = absurd (omega arith)
+
+-- ── the dispatched task ──
+
+-- whoever stands in the ready line was created, and has a priority in range
+ready-there : (s : State) (u : ℕ) → Sound s → 0 < count u (s .ready) → (0 < u) × (0 < priorityOf s u) × (priorityOf s u ≤ 15)
+ready-there s u h k =
+    let p : placeOf s u ≡ Ready = ready-is (placeOf s u) (bit-true (isReady (placeOf s u)) (omega (arith, k, h .ready u))) in
+    let i = there (s .tasks) u (not-blank (placeOf s u) p) in
+    let g = h .good u (i .0) (i .1) .numbers in
+    (i .0, g .low, g .high)
+
+pub dispatched : (s : State) → Sound s → Dispatched s (running s)
+unfolding running
+dispatched s h = up-to 15 above
+  where
+    in-level : (u p : ℕ) → 0 < count u (level s p) → (priorityOf s u ≡ p) × (0 < count u (s .ready))
+    in-level u p k = let i = in-filter (atLevel s p) u (s .ready) k in (eqb-true (priorityOf s u) p (i .0), i .1)
+
+    above : (p : ℕ) → 15 < p → level s p ≡ []
+    above p k = nobody (level s p) (λ u j. let i = in-level u p j in omega (arith, k, i .0, ready-there s u h (i .1) .2))
+
+    -- nobody is ready where every level is empty
+    none : ((p : ℕ) → 0 < p → level s p ≡ []) → s .ready ≡ []
+    none e = nobody (s .ready) (λ u k. let p = priorityOf s u in
+        omega (arith, k, count-filter-yes (atLevel s p) u (s .ready) (eq-eqb p p refl), ap (count u) (e p (ready-there s u h k .1))))
+
+    up-to : (p : ℕ) → ((q : ℕ) → p < q → level s q ≡ []) → Dispatched s (headUpTo s p)
+    up-to zero e = inl (refl, none e)
+    up-to (suc p) e = go (level s (suc p)) refl (up-to p)
+      where
+        go : (l : List ℕ) → level s (suc p) ≡ l → (((q : ℕ) → p < q → level s q ≡ []) → Dispatched s (headUpTo s p)) → Dispatched s (elim l as (λ _. ℕ) [ [] ↦ headUpTo s p | t ∷ ts ↦ t ])
+        go [] q f = f (λ r k. by-eq r (suc p) (λ z. ap (level s) z ∙ q) (λ n. e r (omega (arith, k, n))))
+        go (t ∷ ts) q f =
+            inr (ready-there s t h (in-level t (suc p) (rw q (rw (eq-eqb t t refl) (omega arith))) .1) .0, record { priority = suc p; behind = ts; heads = q; highest = e })
+
+-- ── a sound struct ──
+
+sound-view : (s : Supervisor) → s .clock < 4294967296 → soundWhole s ≡ true → Sound (view s)
+sound-view s k e = sound-props (view s) k (is-true (sound (view s)) (and-r (packed s) (sound (view s)) (true-T e)))
+
+dispatched-after : (s : Supervisor) → s .clock < 4294967296 → soundWhole s ≡ true → (c : C.Call) (room : ℕ) → 124 ≤ room → Dispatched (view (stepWhole s c room .state)) (stepWhole s c room .next)
+unfolding stepWhole
+dispatched-after s k e c room j = rw (le-ltb room 124 j, e) (go (takeCall (view s) c) (call-sound (view s) c (sound-view s k e)))
+  where
+    go : (o : Outcome) → Kept o → Dispatched (view (done s o .state)) (done s o .next)
+    go (refused r) h = dispatched (view s) (sound-view s k e)
+    go (took st a l) h = subst (λ (x : State). Dispatched x (running st)) (sym (view-pack st h)) (dispatched st h)
+
+has-room : (s : Supervisor) → s .clock < 4294967296 → soundWhole s ≡ true → 0 < running (view s) → (g e : ℕ) → length (queue (view s) g e) ≤ 30
+has-room s k e r g n = go (running (view s)) refl r
+  where
+    go : (t : ℕ) → running (view s) ≡ t → 0 < t → length (queue (view s) g n) ≤ 30
+    go zero q j = absurd (omega arith)
+    go (suc t) q j = let h = sound-view s k e in queue-has-room (view s) (suc t) g n h (runs (view s) t h q)
+
+-- ── COUNT ──
+
+queue-counts : (s : State) (t e : ℕ) → Sound s → length (queue s t e) ≡ length (waitingOn s t e)
+queue-counts s t e h = same-length (length (queue s t e)) (queue s t e) (waitingOn s t e) (omega arith) each
+  where
+    each : (u : ℕ) → count u (queue s t e) ≡ count u (waitingOn s t e)
+    each u =
+        by-bool (waitsOn s t e u)
+        (λ y. let q = queued-is (placeOf s u) t e y in
+        let i = queued-there s u (q .0) (q .1) in
+        count-filter-yes (waitsOn s t e) u (s .callers) y ∙ h .callers u ∙ rw (q .1) (sym (count-filter-yes (waitsOn s t e) u (downFrom (created s)) y ∙ down-once u (created s) (i .0) (i .1))))
+        (λ y. count-filter-no (waitsOn s t e) u (s .callers) y ∙ sym (count-filter-no (waitsOn s t e) u (downFrom (created s)) y))
+
+counted : (s : Supervisor) → s .clock < 4294967296 → soundWhole s ≡ true → (t e : ℕ) → countWhole s t e .count ≡ length (waitingOn (view s) t e)
+unfolding countWhole
+counted s k e t n = rw e (queue-counts (view s) t n (sound-view s k e))
+
+pub each-step : EachStep
+each-step = record { refused = untouched; dispatched = dispatched-after; queue-has-room = has-room; counted = counted }

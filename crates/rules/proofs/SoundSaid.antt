@@ -1,0 +1,270 @@
+-- The facts of specs/SoundFacts.antt hold exactly where the tests of soundness pass.
+-- Assumes nothing.
+use Prim.Native.Nat.{ℕ, zero, suc, _+_, _≤_, _<_, _^_}
+use mathlib.Core.Path.{_≡_, refl, sym, _∙_, ap}
+use mathlib.Core.Logic.{_↔_}
+use mathlib.Core.Bool.{Bool, true, false, _&&_}
+use mathlib.Core.List.{List, [], _∷_}
+use native.Mathlib.Omega.{arith}
+use lib.ListN.{length, getD, drop}
+use lib.Dec.{T, eqb, ltb, leb}
+use borrow.Author.Tests.{eqb-true, eq-eqb, ltb-true, ltb-false, leb-true, le-leb}
+use Rattle.lists.specs.Lists.{bit, count, every, filter}
+use Rattle.lists.specs.Line.{line, tidy, blanks}
+use Rattle.rules.specs.State.{State, blank, taskOf, placeOf, timerOf, priorityOf, created, isReady, isQueued, isHeld, isCompleted, partnerOf, hasTime, opens, accepts, queue, heldBy, level, left, ticksLeft, waitsOn, holds, atLevel}
+use Rattle.rules.specs.Sound.{sound}
+use Rattle.rules.specs.Whole.{view, isBlank, unused, packed, soundWhole}
+use Rattle.rules.specs.SoundFacts.{Created, HasEntry, mayBeTimed, DueLater, noLater, SoundFacts, BlankBehind, SoundStruct, SoundnessSaid}
+use Rattle.rules.specs.declared.Task.{Task}
+use Rattle.rules.specs.declared.Timer.{Timer}
+use Rattle.rules.specs.declared.Timer.the-variants.{Off, Due}
+use Rattle.rules.specs.declared.Waiting.{Waiting}
+use Rattle.rules.specs.declared.Meeting.{Meeting}
+use Rattle.rules.specs.declared.Offer.{Offer}
+use Rattle.rules.specs.declared.Place.{Place}
+use Rattle.rules.specs.declared.Place.the-variants.{Blank, Ready, Delayed, Queued, Held, Accepting, Completed}
+use Rattle.rules.specs.declared.Supervisor.{Supervisor}
+use Rattle.lists.proofs.ListLaws.{clash, by-bool, and-l, and-r, both, is-true, true-T, count-filter-yes, count-filter-no, ordered-of, in-order}
+use Rattle.rules.proofs.Invariant.{Calls, Fits, InTime, Good, Sound}
+use Rattle.rules.proofs.Members.{of-queue, of-held, queued-good, timed-there, there}
+use Rattle.rules.proofs.Passes.{in-time}
+use Rattle.rules.proofs.SoundTest.{sound-test, sound-props}
+use Rattle.rules.proofs.Fate.{accepts-is}
+use Rattle.rules.proofs.OverRuns.{no}
+use Rattle.rules.proofs.WholeLaws.{blank-is}
+
+-- ── members ──
+
+-- a list in which nobody stands
+pub nobody : (l : List ℕ) → ((u : ℕ) → 0 < count u l → ⊥) → l ≡ []
+nobody [] h = refl
+nobody (x ∷ xs) h = absurd (h x (rw (eq-eqb x x refl) (omega arith)))
+
+-- nobody stands in an empty list
+someone : (u : ℕ) (l : List ℕ) → l ≡ [] → 0 < count u l → ⊥
+someone u l e k = omega (arith, rw e at k)
+
+completed-is : (p : Place) → isCompleted p ≡ true → p ≡ Completed
+completed-is Completed e = refl
+completed-is Blank e = cc
+completed-is Ready e = cc
+completed-is Delayed e = cc
+completed-is (Queued q) e = cc
+completed-is (Held m) e = cc
+completed-is (Accepting o) e = cc
+
+-- ── from soundness to the facts ──
+
+module _ (s : State) (h : Sound s) where
+  fits-at : (t : ℕ) (p : Place) → placeOf s t ≡ p → (p ≡ Blank → ⊥) → Fits (taskOf s t) (taskOf s (partnerOf p)) p (timerOf s t)
+  fits-at t p e n = let i = there (s .tasks) t (λ b. n (sym e ∙ b)) in rw e at (h .good t (i .0) (i .1) .place)
+
+  held-good : (c : ℕ) (m : Meeting) → placeOf s c ≡ Held m → Calls (taskOf s (m .holder)) (m .entry)
+  held-good c m e = fits-at c (Held m) e (λ b. no (cc)) .0
+
+  six : (t : ℕ) → Created s t → (p : Place) → Fits (taskOf s t) (taskOf s (partnerOf p)) p (timerOf s t) → isBlank p ≡ false
+  six t c Blank f = absurd f
+  six t c Ready f = refl
+  six t c Delayed f = refl
+  six t c (Queued q) f = refl
+  six t c (Held m) f = refl
+  six t c (Accepting o) f = refl
+  six t c Completed f = refl
+
+  timed : (t : ℕ) (p : Place) → placeOf s t ≡ p → hasTime (timerOf s t) ≡ true → mayBeTimed p ≡ true
+  timed t Blank e w = let i = timed-there s t w in absurd (rw e at (h .good t (i .0) (i .1) .place))
+  timed t Ready e w = clash w (fits-at t Ready e (λ b. no (cc)))
+  timed t Delayed e w = refl
+  timed t (Queued q) e w = refl
+  timed t (Held m) e w = clash w (fits-at t (Held m) e (λ b. no (cc)) .1)
+  timed t (Accepting o) e w = refl
+  timed t Completed e w = clash w (fits-at t Completed e (λ b. no (cc)))
+
+  at-level : (t p : ℕ) → count t (level s p) ≡ bit (isReady (placeOf s t) && eqb (priorityOf s t) p)
+  at-level t p =
+      by-bool (atLevel s p t)
+      (λ e. count-filter-yes (atLevel s p) t (s .ready) e ∙ h .ready t ∙ by-bool (isReady (placeOf s t)) (λ r. rw (r, e)) (λ r. rw r))
+      (λ e. count-filter-no (atLevel s p) t (s .ready) e ∙ by-bool (isReady (placeOf s t)) (λ r. rw (r, e)) (λ r. rw r))
+
+  pub facts-of : SoundFacts s
+  facts-of = record {
+    at-most-31 = h .few;
+    priorities = λ t c. (h .good t (c .0) (c .1) .numbers .low, h .good t (c .0) (c .1) .numbers .high);
+    entry-counts = λ t c. h .good t (c .0) (c .1) .numbers .few;
+    one-of-six = λ t c. six t c (placeOf s t) (h .good t (c .0) (c .1) .place);
+    ready = h .ready;
+    queued = h .callers;
+    held = h .held;
+    own-level = at-level;
+    holds-nobody = λ t e. nobody (heldBy s t) (λ u k. let q = of-held s u t k in clash (rw (ap (placeOf s) (q .2), e)) (held-good u (q .0) (q .1) .alive));
+    nobody-queued = λ t e z. nobody (queue s t e) (λ u k. let q = of-queue s u t e k in clash (rw (ap (placeOf s) (q .2), z)) (queued-good s u (q .0) h (q .1) .alive));
+    queued-entry = λ c q e. let k = queued-good s c q h e in (k .low, k .high);
+    held-entry = λ c m e. let k = held-good c m e in (k .low, k .high);
+    delays = h .delays;
+    delayed-timed = λ t e. fits-at t Delayed e (λ b. no (cc));
+    none-else = λ t w. timed t (placeOf s t) refl w;
+    due = λ t d e. let i = in-time s t d h e in (i .2, i .0, i .1);
+    in-order = is-true _ (in-order (λ u. ticksLeft (s .clock) (timerOf s u)) (s .delays) (h .order));
+    own-entries = λ t o e. fits-at t (Accepting o) e (λ b. no (cc)) .0;
+    not-empty = λ t o e z. fits-at t (Accepting o) e (λ b. no (cc)) .1 z;
+    no-caller = λ t e o z y. nobody (queue s t e) (λ u k. let q = of-queue s u t e k in
+        clash (rw (ap (placeOf s) (q .2), z, q .3) y) (fits-at u (Queued (q .0)) (q .1) (λ b. no (cc)) .1));
+  }
+
+-- ── from the facts to soundness ──
+
+module _ (s : State) (f : SoundFacts s) where
+  queued-in : (c : ℕ) (q : Waiting) → placeOf s c ≡ Queued q → 0 < count c (queue s (q .target) (q .entry))
+  queued-in c q e =
+      omega (
+        arith,
+        count-filter-yes (waitsOn s (q .target) (q .entry)) c (s .callers) (rw (e, eq-eqb (q .target) (q .target) refl, eq-eqb (q .entry) (q .entry) refl)),
+        rw e at (f .queued c),
+      )
+
+  held-in : (c : ℕ) (m : Meeting) → placeOf s c ≡ Held m → 0 < count c (heldBy s (m .holder))
+  held-in c m e = omega (arith, count-filter-yes (holds s (m .holder)) c (s .held) (rw (e, eq-eqb (m .holder) (m .holder) refl)), rw e at (f .held c))
+
+  untimed : (t : ℕ) (p : Place) → placeOf s t ≡ p → mayBeTimed p ≡ false → hasTime (timerOf s t) ≡ false
+  untimed t p e m = by-bool (hasTime (timerOf s t)) (λ w. clash (rw e at (f .none-else t w)) m) (λ w. w)
+
+  shut : (c : ℕ) (q : Waiting) → placeOf s c ≡ Queued q → accepts (placeOf s (q .target)) (q .entry) ≡ false
+  shut c q e = by-bool (accepts (placeOf s (q .target)) (q .entry)) open-there (λ a. a)
+    where
+      open-there : accepts (placeOf s (q .target)) (q .entry) ≡ true → accepts (placeOf s (q .target)) (q .entry) ≡ false
+      open-there a =
+          let o = accepts-is (placeOf s (q .target)) (q .entry) a in
+          absurd (someone c (queue s (q .target) (q .entry)) (f .no-caller (q .target) (q .entry) (o .0) (o .1) (rw (o .1) at a)) (queued-in c q e))
+
+  alive-queued : (c : ℕ) (q : Waiting) → placeOf s c ≡ Queued q → isCompleted (placeOf s (q .target)) ≡ false
+  alive-queued c q e =
+      by-bool (isCompleted (placeOf s (q .target)))
+      (λ z. absurd (someone c (queue s (q .target) (q .entry)) (f .nobody-queued (q .target) (q .entry) (completed-is _ z)) (queued-in c q e)))
+      (λ z. z)
+
+  alive-held : (c : ℕ) (m : Meeting) → placeOf s c ≡ Held m → isCompleted (placeOf s (m .holder)) ≡ false
+  alive-held c m e =
+      by-bool (isCompleted (placeOf s (m .holder)))
+      (λ z. absurd (someone c (heldBy s (m .holder)) (f .holds-nobody (m .holder) (completed-is _ z)) (held-in c m e)))
+      (λ z. z)
+
+  fits-fact : (t : ℕ) → Created s t → (p : Place) → placeOf s t ≡ p → Fits (taskOf s t) (taskOf s (partnerOf p)) p (timerOf s t)
+  fits-fact t c Blank e = clash (rw e refl) (f .one-of-six t c)
+  fits-fact t c Ready e = untimed t Ready e refl
+  fits-fact t c Delayed e = f .delayed-timed t e
+  fits-fact t c (Queued q) e = let k = f .queued-entry t q e in (record { low = k .0; high = k .1; alive = alive-queued t q e }, shut t q e)
+  fits-fact t c (Held m) e = let k = f .held-entry t m e in (record { low = k .0; high = k .1; alive = alive-held t m e }, untimed t (Held m) e refl)
+  fits-fact t c (Accepting o) e = (f .own-entries t o e, f .not-empty t o e)
+  fits-fact t c Completed e = untimed t Completed e refl
+
+  in-time-fact : (t : ℕ) (w : Timer) → timerOf s t ≡ w → InTime (s .clock) w
+  in-time-fact t Off e = tt
+  in-time-fact t (Due d) e = let i = f .due t d e in (i .1, i .2, i .0)
+
+  pub sound-of : s .clock < 4294967296 → Sound s
+  sound-of k = record {
+    clock = k;
+    few = f .at-most-31;
+    good = λ u a b. record {
+      numbers = record { low = f .priorities u (a, b) .0; high = f .priorities u (a, b) .1; few = f .entry-counts u (a, b) };
+      place = fits-fact u (a, b) (placeOf s u) refl;
+      time = in-time-fact u (timerOf s u) refl;
+    };
+    ready = f .ready;
+    callers = f .queued;
+    held = f .held;
+    delays = f .delays;
+    order = ordered-of (λ u. ticksLeft (s .clock) (timerOf s u)) (s .delays) (true-T (f .in-order));
+  }
+
+-- ── unused places ──
+
+blanks-at : (a : List ℕ) → T (blanks a) → (i : ℕ) → getD a i 0 ≡ 0
+blanks-at [] h i = refl
+blanks-at (x ∷ xs) h zero = eqb-true x 0 (is-true (eqb x 0) (and-l (eqb x 0) (blanks xs) h))
+blanks-at (x ∷ xs) h (suc i) = blanks-at xs (and-r (eqb x 0) (blanks xs) h) i
+
+blanks-of : (a : List ℕ) → ((i : ℕ) → getD a i 0 ≡ 0) → T (blanks a)
+blanks-of [] h = tt
+blanks-of (x ∷ xs) h = both (eqb x 0) (blanks xs) (true-T (eq-eqb x 0 (h 0))) (blanks-of xs (λ i. h (suc i)))
+
+tidy-at : (a : List ℕ) → T (tidy a) → BlankBehind a
+tidy-at [] h i k = refl
+tidy-at (zero ∷ xs) h zero k = refl
+tidy-at (zero ∷ xs) h (suc i) k = blanks-at xs h i
+tidy-at (suc n ∷ xs) h zero k = absurd (omega arith)
+tidy-at (suc n ∷ xs) h (suc i) k = tidy-at xs h i (omega arith)
+
+tidy-of : (a : List ℕ) → BlankBehind a → T (tidy a)
+tidy-of [] h = tt
+tidy-of (zero ∷ xs) h = blanks-of xs (λ i. h (suc i) (omega arith))
+tidy-of (suc n ∷ xs) h = tidy-of xs (λ i k. h (suc i) (omega (arith, k)))
+
+unused-at : (n : ℕ) (ts : List Task) → T (every unused (drop n ts)) → (i : ℕ) → n ≤ i → getD ts i blank ≡ blank
+unused-at n [] h i k = refl
+unused-at zero (x ∷ xs) h zero k = blank-is x (is-true (unused x) (and-l (unused x) (every unused xs) h))
+unused-at zero (x ∷ xs) h (suc i) k = unused-at zero xs (and-r (unused x) (every unused xs) h) i (omega arith)
+unused-at (suc n) (x ∷ xs) h zero k = absurd (omega arith)
+unused-at (suc n) (x ∷ xs) h (suc i) k = unused-at n xs h i (omega arith)
+
+unused-of : (n : ℕ) (ts : List Task) → ((i : ℕ) → n ≤ i → getD ts i blank ≡ blank) → T (every unused (drop n ts))
+unused-of zero [] h = tt
+unused-of (suc n) [] h = tt
+unused-of zero (x ∷ xs) h = both (unused x) (every unused xs) (true-T (ap unused (h 0 (omega arith)))) (unused-of zero xs (λ i k. h (suc i) (omega arith)))
+unused-of (suc n) (x ∷ xs) h = unused-of n xs (λ i k. h (suc i) (omega arith))
+
+-- ── both ways ──
+
+module _ (s : Supervisor) where
+  abbrev f0 : Bool
+  f0 = leb (s .created) 31
+
+  abbrev f1 : Bool
+  f1 = every unused (drop (s .created) (s .tasks))
+
+  abbrev x1 : Bool
+  x1 = tidy (s .ready)
+
+  abbrev x2 : Bool
+  x2 = tidy (s .callers)
+
+  abbrev x3 : Bool
+  x3 = tidy (s .held)
+
+  abbrev x4 : Bool
+  x4 = tidy (s .delays)
+
+  struct-of : s .clock < 4294967296 → soundWhole s ≡ true → SoundStruct s
+  struct-of k e =
+      let t = true-T e in
+      let p = and-l (packed s) (sound (view s)) t in
+      let p3 = and-l (f0 && f1 && x1 && x2 && x3) x4 p in
+      let p2 = and-l (f0 && f1 && x1 && x2) x3 p3 in
+      let p1 = and-l (f0 && f1 && x1) x2 p2 in
+      let p0 = and-l (f0 && f1) x1 p1 in
+      record {
+        few = leb-true (s .created) 31 (is-true f0 (and-l f0 f1 p0));
+        tasks = unused-at (s .created) (s .tasks) (and-r f0 f1 p0);
+        ready = tidy-at (s .ready) (and-r (f0 && f1) x1 p1);
+        callers = tidy-at (s .callers) (and-r (f0 && f1 && x1) x2 p2);
+        held = tidy-at (s .held) (and-r (f0 && f1 && x1 && x2) x3 p3);
+        delays = tidy-at (s .delays) (and-r (f0 && f1 && x1 && x2 && x3) x4 p);
+        state = facts-of (view s) (sound-props (view s) k (is-true (sound (view s)) (and-r (packed s) (sound (view s)) t)));
+      }
+
+  of-struct : s .clock < 4294967296 → SoundStruct s → soundWhole s ≡ true
+  of-struct k f =
+      rw (
+        le-leb (s .created) 31 (f .few),
+        is-true f1 (unused-of (s .created) (s .tasks) (f .tasks)),
+        is-true x1 (tidy-of (s .ready) (f .ready)),
+        is-true x2 (tidy-of (s .callers) (f .callers)),
+        is-true x3 (tidy-of (s .held) (f .held)),
+        is-true x4 (tidy-of (s .delays) (f .delays)),
+      ) (sound-test (view s) (sound-of (view s) (f .state) k))
+
+pub soundness-said : SoundnessSaid
+soundness-said = record {
+  of-state = λ s k. (λ e. facts-of s (sound-props s k e), λ f. sound-test s (sound-of s f k));
+  of-struct = λ s k. (struct-of s k, of-struct s k);
+}

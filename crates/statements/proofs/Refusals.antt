@@ -1,0 +1,147 @@
+-- The step's refusal is the number of the first row of the table that applies.
+-- Assumes nothing.
+use Prim.Native.Nat.{ℕ, zero, suc, _+_, _≤_, _<_, _^_}
+use mathlib.Core.Path.{_≡_, refl, sym, _∙_, ap, subst}
+use mathlib.Core.Bool.{Bool, true, false, not, _&&_}
+use mathlib.Core.List.{List, [], _∷_}
+use native.Mathlib.Omega.{arith}
+use lib.Dec.{eqb, ltb, leb}
+use lib.ListN.{length}
+use borrow.Author.Tests.{eqb-true, eqb-false, eq-eqb, ne-eqb, lt-ltb, le-ltb, ltb-true, ltb-false, le-leb, lt-leb}
+use Rattle.lists.specs.Lists.{if_then_else_, count, last}
+use Rattle.lists.proofs.ListLaws.{by-bool}
+use Rattle.rules.specs.State.{State, created, taskOf, placeOf, isTask, isCompleted, accepts, heldBy, queue, running}
+use Rattle.rules.specs.Sound.{inRange, sound}
+use Rattle.rules.specs.Step.{Outcome, refused, took, Refusal, number, BAD-STATE, SHORT-ROOM, ticks, create, delayFor, enqueue, timedCall, callBusy, call, selectAt, selectNone, selectDelay, select, openEntry, endLast, end, finish, ofRunning, takeCall}
+use Rattle.rules.specs.Whole.{view, packed, soundWhole, done, decline, stepWhole}
+use Rattle.rules.specs.declared.Supervisor.{Supervisor}
+use Rattle.calls.specs.declared.Call as C
+use Rattle.calls.specs.declared.Call.the-variants.{Create, Delay, Call, Select, End, Finish, Tick}
+use Rattle.calls.specs.declared.CallMode.{CallMode}
+use Rattle.calls.specs.declared.CallMode.the-variants.{Simple, Timed, Conditional}
+use Rattle.calls.specs.declared.SelectMode.{SelectMode}
+use Rattle.calls.specs.declared.SelectMode.the-variants.{Plain, Else}
+use Rattle.calls.specs.declared.SelectMode.the-variants as S
+use Rattle.rules.proofs.Invariant.{Sound}
+use Rattle.rules.proofs.Members.{Runs, runs, and-first, and-true, of-held, held-there}
+use Rattle.rules.proofs.Bounds.{queue-has-room}
+use Rattle.rules.proofs.SoundTest.{sound-props}
+use Rattle.statements.specs.Refusals.{badField, needsTask, noTask, noTarget, noEntry, notServing, stillServing, full, Row, row, rows, firstRow}
+
+-- the refusal of an outcome, 0 if the call is taken
+abbrev refusalOf : Outcome → ℕ
+refusalOf (refused r) = number r
+refusalOf (took s a l) = 0
+
+-- the last of a list that has no 0 is 0 exactly where the list is empty
+last-some : (l : List ℕ) → count 0 l ≡ 0 → eqb (last l) 0 ≡ eqb (length l) 0
+last-some [] h = refl
+last-some (x ∷ []) h = by-bool (eqb x 0) (λ e. absurd (omega (arith, rw e at h))) (λ e. e ∙ sym (ne-eqb 1 0 (λ z. omega arith)))
+last-some (x ∷ y ∷ ys) h =
+    last-some (y ∷ ys) (omega (arith, h)) ∙ ne-eqb (length (y ∷ ys)) 0 (λ z. omega arith) ∙ sym (ne-eqb (length (x ∷ y ∷ ys)) 0 (λ z. omega arith))
+
+-- nobody whom a task holds has the number 0
+held-named : (v : State) (t : ℕ) → count 0 (heldBy v t) ≡ 0
+held-named v t =
+    by-bool (ltb 0 (count 0 (heldBy v t)))
+    (λ b. let q = of-held v 0 t (ltb-true 0 (count 0 (heldBy v t)) b) in absurd (omega (arith, held-there v 0 (q .0) (q .1) .0)))
+    (λ b. omega (arith, ltb-false 0 (count 0 (heldBy v t)) b))
+
+-- a call of the running task t, where there is one
+runner : (t : ℕ) (f : ℕ → Outcome) (x : ℕ) → ((t ≡ 0 → ⊥) → refusalOf (f t) ≡ x) → refusalOf (ofRunning t f) ≡ (if eqb t 0 then 4 else x)
+runner zero f x h = refl
+runner (suc t) f x h = let n : suc t ≡ 0 → ⊥ = λ z. omega arith in rw (ne-eqb (suc t) 0 n) (h n)
+
+delays : (v : State) (t n : ℕ) → refusalOf (delayFor v t n) ≡ 0
+delays v t zero = refl
+delays v t (suc n) = refl
+
+creates : (v : State) (p n : ℕ) → refusalOf (create v p n) ≡ (if not (inRange p n) then 3 else if leb 31 (created v) then 9 else 0)
+creates v p n = by-bool (not (inRange p n)) (λ e. rw e) (λ e. by-bool (leb 31 (created v)) (λ f. rw (e, f)) (λ f. rw (e, f)))
+
+module _ (v : State) (h : Sound v) (t : ℕ) (runs-now : Runs v t) (g e : ℕ) where
+  queues : (w : _) → refusalOf (enqueue v t g e w) ≡ 0
+  queues w = rw (lt-leb 31 (length (queue v g e)) (omega (arith, queue-has-room v t g e h runs-now)))
+
+  waits : (n : ℕ) → refusalOf (timedCall v t g e n) ≡ 0
+  waits zero = refl
+  waits (suc n) = queues _
+
+  busy : (m : CallMode) → refusalOf (callBusy v t g e m) ≡ 0
+  busy Simple = queues _
+  busy (Timed d) = waits (ticks d)
+  busy Conditional = refl
+
+  called : (m : CallMode) → refusalOf (call v t g e m) ≡ (if not (isTask v g) then 5 else if not (ltb 0 e && leb e (taskOf v g .entries)) then 6 else 0)
+  called m =
+      by-bool (not (isTask v g)) (λ a. rw a) λ a.
+      by-bool (not (ltb 0 e && leb e (taskOf v g .entries))) (λ b. rw (a, b)) λ b.
+      by-bool (isCompleted (placeOf v g)) (λ c. rw (a, b, c)) λ c.
+      by-bool (accepts (placeOf v g) e) (λ d. rw (a, b, c, d)) λ d. rw (a, b, c, d) (busy m)
+
+module _ (v : State) (t o : ℕ) where
+  elapses : (n : ℕ) → refusalOf (selectDelay v t o n) ≡ 0
+  elapses zero = refl
+  elapses (suc n) = refl
+
+  accepts-none : (m : SelectMode) → refusalOf (selectNone v t o m) ≡ 0
+  accepts-none Plain = by-bool (eqb o 0) (λ e. rw e) (λ e. rw e)
+  accepts-none (S.Delay d) = elapses (ticks d)
+  accepts-none Else = refl
+
+  selects-at : (m : SelectMode) (e : ℕ) → refusalOf (selectAt v t o m e) ≡ 0
+  selects-at m zero = accepts-none m
+  selects-at m (suc e) = refl
+
+  selects : (m : SelectMode) → refusalOf (select v t o m) ≡ (if leb (2 ^ (taskOf v t .entries)) o then 6 else 0)
+  selects m = by-bool (leb (2 ^ (taskOf v t .entries)) o) (λ e. rw e) (λ e. rw e (selects-at m (openEntry v t o)))
+
+ends-at : (v : State) (t k : ℕ) → refusalOf (endLast v t k) ≡ (if eqb k 0 then 7 else 0)
+ends-at v t zero = refl
+ends-at v t (suc k) = rw (ne-eqb (suc k) 0 (λ z. omega arith))
+
+ends : (v : State) (t : ℕ) → refusalOf (end v t) ≡ (if eqb (length (heldBy v t)) 0 then 7 else 0)
+ends v t = ends-at v t (last (heldBy v t)) ∙ ap (λ (b : Bool). if b then 7 else 0) (last-some (heldBy v t) (held-named v t))
+
+finishes : (v : State) (t : ℕ) → refusalOf (finish v t) ≡ (if ltb 0 (length (heldBy v t)) then 8 else 0)
+finishes v t = by-bool (ltb 0 (length (heldBy v t))) (λ e. rw e) (λ e. rw e)
+
+-- the running task's record of soundness
+runs-of : (v : State) → Sound v → (running v ≡ 0 → ⊥) → Runs v (running v)
+runs-of v h n = go (running v) refl n
+  where
+    go : (t : ℕ) → running v ≡ t → (t ≡ 0 → ⊥) → Runs v t
+    go zero e n = absurd (n refl)
+    go (suc t) e n = runs v t h e
+
+-- the rows of a sound state, with room
+tableOf : State → C.Call → List Row
+tableOf v c =
+    row 3 (badField c)
+    ∷ row 4 (noTask v c)
+    ∷ row 5 (noTarget v c)
+    ∷ row 6 (noEntry v c)
+    ∷ row 7 (notServing v c)
+    ∷ row 8 (stillServing v c)
+    ∷ row 9 (full v c)
+    ∷ []
+
+taken : (v : State) (c : C.Call) → Sound v → refusalOf (takeCall v c) ≡ firstRow (tableOf v c)
+unfolding tableOf
+taken v (Create p n) h = creates v p n
+taken v (Delay d) h = runner (running v) (λ t. delayFor v t (ticks d)) 0 (λ _. delays v (running v) (ticks d))
+taken v (Call g e m) h = runner (running v) (λ t. call v t g e m) _ (λ n. called v h (running v) (runs-of v h n) g e m)
+taken v (Select o m) h = runner (running v) (λ t. select v t o m) _ (λ _. selects v (running v) o m)
+taken v End h = runner (running v) (λ t. end v t) _ (λ _. ends v (running v))
+taken v Finish h = runner (running v) (λ t. finish v t) _ (λ _. finishes v (running v))
+taken v Tick h = refl
+
+done-refusal : (s : Supervisor) (o : Outcome) → done s o .refusal ≡ refusalOf o
+done-refusal s (refused r) = refl
+done-refusal s (took st a l) = refl
+
+pub by-table : (s : Supervisor) (c : C.Call) (n : ℕ) → s .clock < 4294967296 → stepWhole s c n .refusal ≡ firstRow (rows s c n)
+unfolding stepWhole tableOf
+by-table s c n k =
+    by-bool (ltb n 124) (λ e. rw e) λ e.
+    by-bool (soundWhole s) (λ f. rw (e, f) (done-refusal s (takeCall (view s) c) ∙ taken (view s) c (sound-props (view s) k (and-true (packed s) (sound (view s)) f)))) (λ f. rw (e, f))

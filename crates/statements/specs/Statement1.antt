@@ -1,0 +1,66 @@
+-- Statement 1. Each public operation ends and does nothing undefined on every input, a damaged supervisor state or a garbled
+-- call record included. Bad input gets its refusal number. A refused step returns the state it was given, an empty list of
+-- ended waits, and lent room untouched.
+-- Assumes nothing.
+use Prim.Native.Nat.{ℕ, _≤_, _<_}
+use mathlib.Core.Path.{_≡_}
+use mathlib.Core.Logic.{_↔_, _⊎_}
+use mathlib.Core.Bool.{Bool, true, false}
+use mathlib.Core.List.{List, [], _∷_}
+use lib.ListN.{length}
+use Rattle.rules.specs.State as state
+use Rattle.rules.specs.State.{queue}
+use Rattle.rules.specs.Whole.{view, soundWhole, stepWhole}
+use Rattle.rules.specs.EachStep.{Untouched}
+use Rattle.rules.specs.Questions.{countWhole, callableWhole}
+use Rattle.rules.specs.declared.Supervisor.{Supervisor}
+use Rattle.calls.specs.Record.{encode}
+use Rattle.calls.specs.Reading.{readOf, refusalOf, faulty}
+use Rattle.calls.specs.Writing.{writtenOf}
+use Rattle.calls.specs.declared.Call as C
+use Rattle.calls.proofs.read_record.Statement as read-record
+use Rattle.calls.proofs.write_record.Statement as write-record
+use Rattle.supervisor.proofs.empty.Statement as empty
+use Rattle.supervisor.proofs.running.Statement as running
+use Rattle.supervisor.proofs.step.Statement as step
+use Rattle.supervisor.proofs.count.Statement as count
+use Rattle.supervisor.proofs.callable.Statement as callable
+use Rattle.supervisor.proofs.sound.Statement as sound
+use Rattle.statements.specs.Refusals.{Row, rows}
+
+-- row k is the first of the rows that applies
+abbrev pub RowGiven : ℕ → List Row → Type 0
+RowGiven k [] = ⊥
+RowGiven k (r ∷ rs) = ((r .applies ≡ true) × (r .number ≡ k)) ⊎ ((r .applies ≡ false) × RowGiven k rs)
+
+-- a struct whose clock is a 32-bit number, as its type says
+abbrev pub Typed : Supervisor → Type 0
+Typed s = s .clock < 4294967296
+
+pub record Statement1 : Type 2 where
+  -- "ends and does nothing undefined on every input": what the gate proves of each public operation, under its name
+  pub read-record : {M : Type 1} → read-record.statement M
+  pub write-record : {M : Type 1} → write-record.statement M
+  pub empty : {M : Type 1} → empty.statement M
+  pub sound : {M : Type 1} → sound.statement M
+  pub running : {M : Type 1} → running.statement M
+  pub step : {M : Type 1} → step.statement M
+  pub count : {M : Type 1} → count.statement M
+  pub callable : {M : Type 1} → callable.statement M
+  -- "bad input gets the refusal number": number k is given exactly when row k of the table is the first that applies
+  pub step-refused : (s : Supervisor) (c : C.Call) (n k : ℕ) → Typed s → 0 < k → (stepWhole s c n .refusal ≡ k) ↔ RowGiven k (rows s c n)
+  -- a question is refused, with 2, exactly when the state is not sound
+  pub count-refused : (s : Supervisor) (t e : ℕ) → (countWhole s t e .refusal ≡ 2) ↔ (soundWhole s ≡ false)
+  pub callable-refused : (s : Supervisor) (t : ℕ) → (callableWhole s t .refusal ≡ 2) ↔ (soundWhole s ≡ false)
+  -- a refused question answers 0 or no
+  pub count-zero : (s : Supervisor) (t e : ℕ) → soundWhole s ≡ false → countWhole s t e .count ≡ 0
+  pub callable-no : (s : Supervisor) (t : ℕ) → soundWhole s ≡ false → callableWhole s t .yes ≡ false
+  -- "a refused step returns the state it was given, an empty list of ended waits, and lent room untouched"
+  pub refused-untouched : (s : Supervisor) (c : C.Call) (n : ℕ) → 0 < stepWhole s c n .refusal → Untouched s (stepWhole s c n)
+  -- the reader: BAD_RECORD exactly when bytes are left and one of six faults is there, END_OF_LOG exactly when none is left
+  pub bad-record : (s : List ℕ) → (refusalOf (readOf s) ≡ 11) ↔ ((0 < length s) × (faulty s ≡ true))
+  pub end-of-log : (s : List ℕ) → (refusalOf (readOf s) ≡ 12) ↔ (length s ≡ 0)
+  -- the writer: SHORT_ROOM exactly when the room is below the record
+  pub short-room : (c : C.Call) (room : List ℕ) → (writtenOf (encode c) room .refusal ≡ 1) ↔ (length room < length (encode c))
+  -- QUEUE_FULL is never given: a queue that the running task would join has at most 30 callers
+  pub no-overflow : (s : Supervisor) → Typed s → soundWhole s ≡ true → 0 < state.running (view s) → (g e : ℕ) → length (queue (view s) g e) ≤ 30

@@ -1,0 +1,1 @@
+// The three statements, in specs/, with their proofs in proofs/: no code.

@@ -1,0 +1,94 @@
+-- From what the small functions answer to the rules' outcomes: what every call needs.
+-- Assumes nothing.
+use Prim.Native.Nat.{ℕ, zero, suc, _≤_}
+use mathlib.Core.Path.{_≡_, refl, sym, ap, _∙_}
+use mathlib.Core.Bool.{Bool}
+use mathlib.Core.List.{List, [], map}
+use lib.ListN.{length, length-map}
+use Rattle.rules.specs.State.{State, taskOf, move, running, meet, part}
+use Rattle.rules.specs.Step.{Outcome, refused, took, NO-TASK, ofRunning, roomAfter}
+use Rattle.rules.specs.Sound.{sound}
+use Rattle.rules.specs.Whole.{view, pack}
+use Rattle.rules.specs.declared.Item.{Item}
+use Rattle.rules.specs.declared.Task.{Task}
+use Rattle.rules.specs.declared.Supervisor.{Supervisor}
+use Rattle.rules.specs.declared.Place.{Place}
+use Rattle.rules.specs.declared.Timer.{Timer}
+use Rattle.rules.proofs.Members.{Runs, runs}
+use Rattle.table.specs.Moved.{movedOf, metOf, partedOf}
+use Rattle.supervisor.specs.Taken.{Stands, takenOf, endedBy}
+use Rattle.supervisor.specs.declared.answers.Taken.{Taken}
+use Rattle.supervisor.proofs.MoveLaws.{moved-packed, met-packed, parted-packed}
+
+-- ---- the running task
+
+pub runner : (s : Supervisor) (t : ℕ) → Stands s → t ≡ running (view s) → (t ≡ 0 → ⊥) → Runs (view s) t
+runner s zero h e z = absurd (z refl)
+runner s (suc t) h e z = runs (view s) t (h .sound) (sym e)
+
+pub no-runner : (st : State) (t : ℕ) (f : ℕ → Outcome) → t ≡ running st → t ≡ 0 → ofRunning (running st) f ≡ refused NO-TASK
+no-runner st t f e z = rw (← e, z)
+
+pub of-runner : (st : State) (t : ℕ) (f : ℕ → Outcome) → t ≡ running st → (t ≡ 0 → ⊥) → ofRunning (running st) f ≡ f t
+of-runner st zero f e z = absurd (z refl)
+of-runner st (suc t) f e z = rw (← e)
+
+-- ---- answers
+
+-- the outcome is another one
+pub by-outcome : (s : Supervisor) {o q : Outcome} {r : Taken} → o ≡ q → r ≡ takenOf s q → r ≡ takenOf s o
+by-outcome s e h = h ∙ sym (ap (takenOf s) e)
+
+pub by-both : (s : Supervisor) {o q : Outcome} {r : Taken} (x y : List ℕ) → o ≡ q → r ≡ takenOf s q → x ≡ roomAfter y (endedBy q) → (r ≡ takenOf s o) × (x ≡ roomAfter y (endedBy o))
+by-both s x y e h k = (h ∙ sym (ap (takenOf s) e), k ∙ sym (ap (λ (o : Outcome). roomAfter y (endedBy o)) e))
+
+-- the state of an answer
+pub answers : (s m : Supervisor) (st : State) (a : Item) (l : List Item) {r : Taken} → r ≡ record { state = m; refusal = 0; answer = a; ended = length l } → m ≡ pack st → r ≡ takenOf s (took st a l)
+answers s m st a l e q = e ∙ ap (λ (x : Supervisor). record { state = x; refusal = 0; answer = a; ended = length l }) q
+
+-- an answer after one move, and one that leaves the state as it is
+pub move-answers : (s m : Supervisor) (t : ℕ) (p : Place) (w : Timer) (a : Item) (l : List Item) {r : Taken} → Stands s → t ≤ length (view s .tasks)
+    → r ≡ record { state = m; refusal = 0; answer = a; ended = length l } → m ≡ movedOf s t p w → r ≡ takenOf s (took (move (view s) t p w) a l)
+move-answers s m t p w a l h k e q = answers s m (move (view s) t p w) a l e (q ∙ moved-packed s t p w h k)
+
+-- answers that come with them
+module _ (g c e : ℕ) where
+  pub meet-answers : (s m : Supervisor) (a : Item) (l : List Item) {r : Taken} → Stands s → g ≤ length (view s .tasks) → c ≤ length (view s .tasks)
+      → r ≡ record { state = m; refusal = 0; answer = a; ended = length l } → m ≡ metOf s g c e → r ≡ takenOf s (took (meet (view s) g c e) a l)
+  meet-answers s m a l h i k y q = answers s m (meet (view s) g c e) a l y (q ∙ met-packed g c e s h i k)
+
+  pub part-answers : (s m : Supervisor) (a : Item) (l : List Item) {r : Taken} → Stands s → g ≤ length (view s .tasks) → c ≤ length (view s .tasks)
+      → r ≡ record { state = m; refusal = 0; answer = a; ended = length l } → m ≡ partedOf s g c → r ≡ takenOf s (took (part (view s) g c) a l)
+  part-answers s m a l h i k y q = answers s m (part (view s) g c) a l y (q ∙ parted-packed g c e s h i k)
+
+pub stay-answers : (s : Supervisor) (a : Item) (l : List Item) {r : Taken} → Stands s → r ≡ record { state = s; refusal = 0; answer = a; ended = length l } → r ≡ takenOf s (took (view s) a l)
+stay-answers s a l h e = answers s s (view s) a l e (h .packs)
+
+-- an answer with a list
+pub many-answers : (s m : Supervisor) (st : State) (a : Item) (f : ℕ → Item) (l xs : List ℕ) (n : ℕ) {r : Taken} → r ≡ record { state = m; refusal = 0; answer = a; ended = n } → m ≡ pack st → n ≡ length l → l ≡ xs
+    → r ≡ takenOf s (took st a (map f xs))
+many-answers s m st a f l xs n e q k z =
+    e ∙ ap (λ (x : Supervisor). record { state = x; refusal = 0; answer = a; ended = n }) q
+    ∙ ap (λ (j : ℕ). record { state = pack st; refusal = 0; answer = a; ended = j }) (k ∙ ap length z ∙ sym (length-map xs f))
+
+-- a test of the called task, made on its record
+pub of-task : (v : State) (g : ℕ) (x : Task) (f : Task → Bool) (b c : Bool) → x ≡ taskOf v g → b ≡ f x → b ≡ c → f (taskOf v g) ≡ c
+of-task v g x f b c ex e z = sym (ap f ex) ∙ sym e ∙ z
+
+-- ---- the room
+
+-- nothing is listed: the room stays
+pub quiet-room : (x : List ℕ) {l : List Item} → l ≡ [] → x ≡ roomAfter x l
+quiet-room x e = sym (ap (roomAfter x) e)
+
+-- the room, where the list that was woken is another's name
+pub room-of : (x y : List ℕ) (f : ℕ → Item) (l xs : List ℕ) → y ≡ roomAfter x (map f l) → l ≡ xs → y ≡ roomAfter x (map f xs)
+room-of x y f l xs e q = e ∙ ap (λ (z : List ℕ). roomAfter x (map f z)) q
+
+-- a call that ends no wait
+abbrev pub Quiet : Outcome → Type 0
+Quiet o = endedBy o ≡ []
+
+pub quiet-runner : (t : ℕ) (f : ℕ → Outcome) → ((t : ℕ) → Quiet (f t)) → Quiet (ofRunning t f)
+quiet-runner zero f h = refl
+quiet-runner (suc t) f h = h (suc t)

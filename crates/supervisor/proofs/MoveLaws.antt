@@ -1,0 +1,93 @@
+-- The struct of a sound state: a move in it is the rules' move, and its lines read back.
+-- Assumes nothing.
+use Prim.Native.Nat.{ℕ, zero, suc, _-_, _≤_}
+use mathlib.Core.Path.{_≡_, refl, sym, ap, subst, _∙_}
+use mathlib.Core.List.{List, _++_}
+use native.Mathlib.Omega.{arith}
+use lib.ListN.{length, replicate}
+use lib.Seq.{set-append-left}
+use Rattle.lists.proofs.LineLaws.{length-pad, line-picked}
+use Rattle.lists.specs.Line.{line, pad}
+use Rattle.lists.specs.Lists.{filter}
+use Rattle.rules.specs.State.{State, blank, setNth, created, move, meeting, meet, part}
+use Rattle.rules.specs.Sound.{sound}
+use Rattle.rules.specs.Whole.{view, pack}
+use Rattle.rules.specs.declared.Task.{Task}
+use Rattle.rules.specs.declared.Supervisor.{Supervisor}
+use Rattle.rules.specs.declared.Place.{Place}
+use Rattle.rules.specs.declared.Place.the-variants.{Ready, Held}
+use Rattle.rules.specs.declared.Timer.the-variants.{Off}
+use Rattle.rules.specs.declared.Timer.{Timer}
+use Rattle.rules.proofs.Invariant.{Sound}
+use Rattle.rules.proofs.MoveLaws.{length-setNth, moved}
+use Rattle.rules.proofs.WholeLaws.{view-pack}
+use Rattle.table.specs.Moved.{movedOf, metOf, partedOf, passesOf}
+use Rattle.table.specs.declared.queues.Test.{Test}
+use Rattle.supervisor.specs.Taken.{Stands}
+
+pub stands-pack : (st : State) → Sound st → Stands (pack st)
+stands-pack st h = record { packs = ap pack (sym (view-pack st h)); sound = subst Sound (sym (view-pack st h)) h }
+
+set-first : (xs ys : List Task) (t : ℕ) (x : Task) → t ≤ length xs → setNth (xs ++ ys) t x ≡ setNth xs t x ++ ys
+set-first xs ys zero x h = refl
+set-first xs ys (suc t) x h = set-append-left xs ys t x (omega arith)
+
+pub moved-packed : (s : Supervisor) (t : ℕ) (p : Place) (w : Timer) → Stands s → t ≤ length (view s .tasks) → movedOf s t p w ≡ pack (move (view s) t p w)
+unfolding movedOf
+moved-packed s t p w h k =
+    let v = view s .tasks in
+    let x = moved (view s) t p w in
+    let e : s .tasks ≡ v ++ replicate (31 - length v) blank = ap (λ (r : Supervisor). r .tasks) (h .packs) in
+    let n : s .created ≡ length v = ap (λ (r : Supervisor). r .created) (h .packs) in
+    λ i. record {
+      clock = s .clock;
+      created = (n ∙ sym (length-setNth v t x)) i;
+      tasks = (ap (λ (l : List Task). setNth l t x) e ∙ set-first v (replicate (31 - length v) blank) t x k ∙ ap (λ (m : ℕ). setNth v t x ++ replicate (31 - m) blank) (sym (length-setNth v t x))) i;
+      ready = pad (move (view s) t p w .ready);
+      callers = pad (move (view s) t p w .callers);
+      held = pad (move (view s) t p w .held);
+      delays = pad (move (view s) t p w .delays);
+    }
+
+-- the same where the struct is known to be that of a sound state: the form for the second move and for loops
+pub moved-state : (n : Supervisor) (st : State) (t : ℕ) (p : Place) (w : Timer) → n ≡ pack st → Sound st → t ≤ length (st .tasks) → movedOf n t p w ≡ pack (move st t p w)
+moved-state n st t p w e h k =
+    let v = view-pack st h in
+    ap (λ (z : Supervisor). movedOf z t p w) e
+    ∙ moved-packed (pack st) t p w (stands-pack st h) (subst (λ (z : State). t ≤ length (z .tasks)) (sym v) k)
+    ∙ ap (λ (z : State). pack (move z t p w)) v
+
+-- the events in the struct are the rules' events
+module _ (g c e : ℕ) where
+  pub met-packed : (s : Supervisor) → Stands s → g ≤ length (view s .tasks) → c ≤ length (view s .tasks) → metOf s g c e ≡ pack (meet (view s) g c e)
+  met-packed s h i k = moved-packed s c (Held (meeting (view s) g e)) Off h k
+
+  pub met-state : (n : Supervisor) (st : State) → n ≡ pack st → Sound st → g ≤ length (st .tasks) → c ≤ length (st .tasks) → metOf n g c e ≡ pack (meet st g c e)
+  met-state n st q h i k =
+      let v = view-pack st h in
+      ap (λ (m : Supervisor). metOf m g c e) q
+      ∙ met-packed (pack st) (stands-pack st h) (subst (λ (z : State). g ≤ length (z .tasks)) (sym v) i) (subst (λ (z : State). c ≤ length (z .tasks)) (sym v) k)
+      ∙ ap (λ (z : State). pack (meet z g c e)) v
+
+  pub parted-packed : (s : Supervisor) → Stands s → g ≤ length (view s .tasks) → c ≤ length (view s .tasks) → partedOf s g c ≡ pack (part (view s) g c)
+  parted-packed s h i k = moved-packed s c Ready Off h k
+
+module _ (s : Supervisor) (h : Stands s) where
+  pub long-ready : length (s .ready) ≡ 31
+  long-ready = ap (λ (r : Supervisor). length (r .ready)) (h .packs) ∙ length-pad (line (s .ready))
+
+  pub long-callers : length (s .callers) ≡ 31
+  long-callers = ap (λ (r : Supervisor). length (r .callers)) (h .packs) ∙ length-pad (line (s .callers))
+
+  pub long-held : length (s .held) ≡ 31
+  long-held = ap (λ (r : Supervisor). length (r .held)) (h .packs) ∙ length-pad (line (s .held))
+
+  pub long-delays : length (s .delays) ≡ 31
+  long-delays = ap (λ (r : Supervisor). length (r .delays)) (h .packs) ∙ length-pad (line (s .delays))
+
+  pub created-is : s .created ≡ created (view s)
+  created-is = ap (λ (r : Supervisor). r .created) (h .packs)
+
+-- a queue that was picked out of a line, read back
+pub picked-line : (s : Supervisor) (a : List ℕ) (q : Test) (l : List ℕ) → length a ≡ 31 → l ≡ pad (filter (passesOf (view s) q) (line a)) → line l ≡ filter (passesOf (view s) q) (line a)
+picked-line s a q l k e = ap line e ∙ line-picked (passesOf (view s) q) a k

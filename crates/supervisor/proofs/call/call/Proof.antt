@@ -1,0 +1,81 @@
+use borrow.Author.Needs.{needs}
+use mathlib.Core.Path.{_≡_, _∙_, refl}
+use mathlib.Core.Bool.{true, false, _&&_}
+use mathlib.Core.List.{[], _∷_}
+use lib.Dec.{ltb, leb}
+use borrow.Author.Tests.{not-true, not-false}
+use Rattle.rules.specs.Step.{takeCall, item}
+use Rattle.rules.specs.Step as rules
+use Rattle.rules.specs.State.{meet, wake, accepts, isCompleted, isTask, taskOf, placeOf}
+use Rattle.rules.specs.Whole.{view}
+use Rattle.calls.specs.declared.Call.the-variants.{Call}
+use Rattle.rules.proofs.Members.{Runs}
+use Rattle.supervisor.proofs.CallLaws.{a-task, call-dead, call-entry, call-goes, call-meets, call-target, enter-none, enter-one, no-task, quiet-busy, woken-met}
+use Rattle.supervisor.proofs.AnswerLaws.{answers, by-both, of-task, quiet-room, runner, stay-answers}
+use Rattle.supervisor.proofs.call.call.Statement.{statement}
+use Rattle.supervisor.proofs.call.call.Tie as tie
+
+-- What is known behind each test that has been passed.
+runs-here : (c : tie.Else1) → Runs (view (c .before .before .before .args .s)) (c .before .running .result)
+runs-here c = runner (c .before .before .before .args .s) (c .before .running .result) (c .before .before .before .pre .0) (c .before .running .ensures) (c .if1 .left)
+
+call-here : (c : tie.Else1) → let a = c .before .before .before .args in takeCall (view (a .s)) (Call (a .g) (a .e) (a .m)) ≡ rules.call (view (a .s)) (c .before .running .result) (a .g) (a .e) (a .m)
+call-here c = let a = c .before .before .before .args in enter-one (view (a .s)) (c .before .running .result) (a .g) (a .e) (a .m) (c .before .running .ensures) (c .if1 .left)
+
+task-here : (c : tie.Else2) → let a = c .before .before .before .before .before .args in isTask (view (a .s)) (a .g) ≡ true
+task-here c = let a = c .before .before .before .before .before .args in a-task (a .s) _ (a .g) (c .before .before .before .before .before .pre .0) (c .before .is-between .ensures) (c .if2 .left)
+
+entry-here : (c : tie.Else3) → let a = c .before .before .before .before .before .before .before .before .args in (ltb 0 (a .e) && leb (a .e) (taskOf (view (a .s)) (a .g) .entries)) ≡ true
+entry-here c = let a = c .before .before .before .before .before .before .before .before .args in of-task (view (a .s)) (a .g) _ (λ x. ltb 0 (a .e) && leb (a .e) (x .entries)) _ _ (c .before .before .task-of .ensures) (c .before .is-between2 .ensures) (not-false _ (c .if3 .left))
+
+alive-here : (c : tie.Else4) → let a = c .before .before .before .before .before .before .before .before .before .before .args in isCompleted (placeOf (view (a .s)) (a .g)) ≡ false
+alive-here c = let a = c .before .before .before .before .before .before .before .before .before .before .args in of-task (view (a .s)) (a .g) _ (λ x. isCompleted (x .place)) _ _ (c .before .before .before .before .task-of .ensures) (c .before .is-completed .ensures) (c .if4 .left)
+
+returns : tie.Need-returns
+returns c =
+    let a = c .before .before .before .before .args in let s = a .s in
+    by-both s _ _ (enter-none (view s) (c .before .before .running .result) (a .g) (a .e) (a .m) (c .before .before .running .ensures) (c .before .if1 .taken)) (c .refused-by .ensures) refl
+
+returns-2 : tie.Need-returns-2
+returns-2 c =
+    let a = c .before .before .before .before .before .before .args in let s = a .s in let e1 = c .before .before .before in
+    by-both s _ _ (call-here e1 ∙ call-target (view s) _ (a .g) (a .e) (a .m) (no-task s _ (a .g) (c .before .before .before .before .before .before .pre .0) (c .before .before .is-between .ensures) (c .before .if2 .taken))) (c .refused-by2 .ensures) refl
+
+returns-3 : tie.Need-returns-3
+returns-3 c =
+    let a = c .before .before .before .before .before .before .before .before .before .args in let s = a .s in let e2 = c .before .before .before .before in
+    let none = of-task (view s) (a .g) _ (λ x. ltb 0 (a .e) && leb (a .e) (x .entries)) _ _ (c .before .before .before .task-of .ensures) (c .before .before .is-between2 .ensures) (not-true _ (c .before .if3 .taken)) in
+    by-both s _ _ (call-here (e2 .before .before) ∙ call-entry (view s) _ (a .g) (a .e) (a .m) (task-here e2) none) (c .refused-by3 .ensures) refl
+
+returns-4 : tie.Need-returns-4
+returns-4 c =
+    let a = c .before .before .before .before .before .before .before .before .before .before .before .args in let s = a .s in let e3 = c .before .before .before in let e2 = e3 .before .before .before in
+    let dead = of-task (view s) (a .g) _ (λ x. isCompleted (x .place)) _ _ (c .before .before .before .before .before .task-of .ensures) (c .before .before .is-completed .ensures) (c .before .if4 .taken) in
+    by-both s _ _ (call-here (e2 .before .before) ∙ call-dead (view s) _ (a .g) (a .e) (a .m) (task-here e2) (entry-here e3) dead) (stay-answers s _ [] (c .before .before .before .before .before .before .before .before .before .before .before .pre .0) (c .answered .ensures)) refl
+
+returns-5 : tie.Need-returns-5
+returns-5 c =
+    let a = c .before .before .before .before .before .before .before .before .before .before .before .before .before .before .before .before .before .before .before .args in let s = a .s in let v = view s in let t = c .before .before .before .before .before .before .before .before .before .before .before .before .before .before .before .before .before .running .result in
+    let e4 = c .before .before .before .before .before .before .before .before .before in let e3 = e4 .before .before in let e2 = e3 .before .before .before in let e1 = e2 .before .before in
+    let meets = of-task v (a .g) _ (λ x. accepts (x .place) (a .e)) _ _ (c .before .before .before .before .before .before .before .before .before .before .before .before .before .task-of .ensures) (c .before .before .before .before .before .before .before .before .accepts-at .ensures) (c .before .before .before .before .before .before .before .if5 .taken) in
+    by-both s _ _ (call-here e1 ∙ call-meets v t (a .g) (a .e) (a .m) (task-here e2) (entry-here e3) (alive-here e4) meets)
+    (answers s _ (meet (wake v (a .g)) (a .g) t (a .e)) _ (item (a .g) 5 (a .e) t ∷ []) (c .answered2 .ensures) (woken-met s _ _ (a .g) t (a .e) (c .before .before .before .before .before .before .before .before .before .before .before .before .before .before .before .before .before .before .before .pre .0) (task-here e2) (runs-here e1 .high) (c .before .before .moved .ensures) (c .before .met .ensures)))
+    (c .before .before .before .before .before .put .ensures)
+
+call-busy-requires : tie.Need-call-busy-requires
+call-busy-requires c κs = (c .before .before .before .before .before .before .before .before .before .before .before .before .pre .0, runs-here (c .before .before .before .before .before .before .before .before .before) .high)
+
+returns-6 : tie.Need-returns-6
+returns-6 c =
+    let a = c .before .before .before .before .before .before .before .before .before .before .before .before .before .args in let s = a .s in let v = view s in let t = c .before .before .before .before .before .before .before .before .before .before .before .running .result in
+    let e4 = c .before .before .before in let e3 = e4 .before .before in let e2 = e3 .before .before .before in let e1 = e2 .before .before in
+    let busy = of-task v (a .g) _ (λ x. accepts (x .place) (a .e)) _ _ (c .before .before .before .before .before .before .before .task-of .ensures) (c .before .before .accepts-at .ensures) (c .before .if5 .left) in
+    by-both s _ _ (call-here e1 ∙ call-goes v t (a .g) (a .e) (a .m) (task-here e2) (entry-here e3) (alive-here e4) busy) (c .call-busy .ensures) (quiet-room _ (quiet-busy v t (a .g) (a .e) (a .m)))
+
+pub call-spec : {M : Type 1} → statement M
+call-spec =
+    tie.close
+    (tie.spec (λ c κs. search needs) (λ c κs. search needs) returns (λ c κs. search needs) (λ c κs. search needs)
+    returns-2 (λ c κs. search needs) (λ c κs. search needs) (λ c κs. search needs) returns-3 (λ c κs. search needs)
+    (λ c κs. search needs) returns-4 (λ c κs. search needs) (λ c κs. search needs) (λ c κs. search needs)
+    (λ c κs. search needs) (λ c κs. search needs) (λ c. search needs) returns-5 call-busy-requires returns-6)

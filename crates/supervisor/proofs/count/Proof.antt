@@ -1,0 +1,27 @@
+use borrow.Author.Needs.{needs}
+use mathlib.Core.Path.{_≡_, _∙_, ap, sym}
+use lib.ListN.{length}
+use Rattle.rules.specs.Questions.{countWhole}
+use Rattle.table.specs.declared.queues.Test.the-variants.{QueuedOn}
+use Rattle.table.proofs.LeafLaws.{mapped-long}
+use Rattle.supervisor.proofs.MoveLaws.{picked-line}
+use Rattle.supervisor.proofs.count.Statement.{statement}
+use Rattle.supervisor.proofs.count.Tie as tie
+
+returns : tie.Need-returns
+unfolding countWhole
+returns c =
+    let a = c .before .before .before .before .before .args in
+    let k : length (a .s .callers) ≡ 31 = search (needs, mapped-long) in
+    let n = c .len .ensures ∙ ap length (picked-line (a .s) (a .s .callers) (QueuedOn (a .t) (a .e)) (c .before .picked .result) k (c .before .picked .ensures)) in
+    let q = sym (c .before .before .before .before .is-sound .ensures) ∙ c .before .before .before .if1 .taken in
+    rw (q, n)
+
+returns-2 : tie.Need-returns-2
+unfolding countWhole
+returns-2 c = let q = sym (c .before .is-sound .ensures) ∙ c .if1 .left in rw q
+
+pub count-spec : {M : Type 1} → statement M
+count-spec =
+    tie.close
+    (tie.spec (λ c κs. search needs) (λ c κs. search needs) (λ c κs. search needs) returns returns-2)

@@ -1,0 +1,52 @@
+// What a call gave, and the ticks of a duration.
+ghost use mathlib.Core.Path.{_≡_};
+ghost use Rattle.rules.specs.Step.{item, none, ticks};
+use rules::Item;
+use rules::Supervisor;
+
+// What a call gave: the state, a refusal (0 if none), the answer, and the number of ended waits.
+pub struct Taken {
+    pub state: Supervisor,
+    pub refusal: u8,
+    pub answer: Item,
+    pub ended: u8,
+}
+
+pub fn refused_by(s: Supervisor, n: u8) -> Taken
+    ensures { λ r. ⌜ r ≡ record { state = s; refusal = n; answer = none; ended = 0 } ⌝ }
+{
+    Taken {
+        state: s,
+        refusal: n,
+        answer: Item {
+            task: 0,
+            result: 0,
+            entry: 0,
+            partner: 0,
+        },
+        ended: 0,
+    }
+}
+
+pub fn answered(s: Supervisor, t: u8, result: u8, entry: u8, partner: u8, ended: u8) -> Taken
+    ensures { λ r. ⌜ r ≡ record { state = s; refusal = 0; answer = item t result entry partner; ended = ended } ⌝ }
+{
+    Taken {
+        state: s,
+        refusal: 0,
+        answer: Item {
+            task: t,
+            result,
+            entry,
+            partner,
+        },
+        ended,
+    }
+}
+
+// The ticks to wait for a duration: zero and below mean the same.
+pub fn ticks_of(d: i32) -> u32
+    ensures { λ r. ⌜ r ≡ ticks d ⌝ }
+{
+    if d > 0 { d as u32 } else { 0 }
+}

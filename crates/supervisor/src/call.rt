@@ -1,0 +1,114 @@
+// CALL.
+ghost use Prim.Native.Nat.{_≤_};
+ghost use lib.ListN.{length};
+ghost use mathlib.Core.Path.{_≡_};
+ghost use Rattle.calls.specs.declared.Call.the-variants.{Call};
+ghost use Rattle.rules.specs.Step.{takeCall, roomAfter, enqueue, callBusy};
+ghost use Rattle.rules.specs.Whole.{view};
+ghost use Rattle.supervisor.specs.Taken.{Stands, takenOf, endedBy};
+use super::answers::Taken;
+use super::answers::answered;
+use super::answers::refused_by;
+use super::answers::ticks_of;
+use super::ended::put;
+use calls::CallMode;
+use rules::Item;
+use rules::Place;
+use rules::Supervisor;
+use rules::Timer;
+use rules::Waiting;
+use table::dispatch::running;
+use table::moves::met;
+use table::moves::moved;
+use table::place::accepts_at;
+use table::place::is_between;
+use table::place::is_completed;
+use table::queues::Test;
+use table::queues::picked;
+use table::tasks::task_of;
+
+// Task t, which is running, queues on entry e of task g.
+fn enqueued(s: Supervisor, t: u8, g: u8, e: u8, w: Timer) -> Taken
+    requires { ⌜ Stands s × (t ≤ length (view s .tasks)) ⌝ }
+    ensures { λ r. ⌜ r ≡ takenOf s (enqueue (view s) t g e w) ⌝ }
+{
+    let callers = s.callers;
+    let q = picked(
+        s,
+        callers,
+        Test::QueuedOn {
+            target: g,
+            entry: e,
+        },
+    );
+    let n = lines::len(q);
+    if n >= 31 {
+        return refused_by(s, 10);
+    }
+    let m = moved(
+        s,
+        t,
+        Place::Queued(Waiting {
+            target: g,
+            entry: e,
+        }),
+        w,
+    );
+    answered(m, t, 0, 0, 0, 0)
+}
+
+// The target is not there to accept: the caller waits, or not, as the mode says.
+fn call_busy(s: Supervisor, t: u8, g: u8, e: u8, m: CallMode) -> Taken
+    requires { ⌜ Stands s × (t ≤ length (view s .tasks)) ⌝ }
+    ensures { λ r. ⌜ r ≡ takenOf s (callBusy (view s) t g e m) ⌝ }
+{
+    match m {
+        CallMode::Simple => enqueued(s, t, g, e, Timer::Off),
+        CallMode::Timed(d) => {
+            let n = ticks_of(d);
+            if n == 0 {
+                return answered(s, t, 3, e, g, 0);
+            }
+            let w = Timer::Due(std::num::wrapping_add_u32(s.clock, n));
+            enqueued(s, t, g, e, w)
+        }
+        CallMode::Conditional => answered(s, t, 8, e, g, 0),
+    }
+}
+
+pub fn call(s: Supervisor, g: u8, e: u8, m: CallMode, room: &mut [u8]) -> Taken
+    requires { ⌜ Stands s × (124 ≤ length (now room)) ⌝ }
+    ensures { λ r. ⌜ r ≡ takenOf s (takeCall (view s) (Call g e m)) ⌝ }
+    ensures room { λ r. ⌜ now (room .exit) ≡ roomAfter (now (room .entry)) (endedBy (takeCall (view s) (Call g e m))) ⌝ }
+{
+    let t = running(s);
+    if t == 0 {
+        return refused_by(s, 4);
+    }
+    if !is_between(g, s.created) {
+        return refused_by(s, 5);
+    }
+    let x = task_of(s, g);
+    if !is_between(e, x.entries) {
+        return refused_by(s, 6);
+    }
+    let p = x.place;
+    if is_completed(p) {
+        return answered(s, t, 4, e, g, 0);
+    }
+    if accepts_at(p, e) {
+        put(
+            room,
+            Item {
+                task: g,
+                result: 5,
+                entry: e,
+                partner: t,
+            },
+        );
+        let n = moved(s, g, Place::Ready, Timer::Off);
+        let k = met(n, g, t, e);
+        return answered(k, t, 0, 0, 0, 1);
+    }
+    call_busy(s, t, g, e, m)
+}

@@ -1,0 +1,34 @@
+// CREATE.
+ghost use mathlib.Core.Path.{_≡_};
+ghost use Rattle.calls.specs.declared.Call.the-variants.{Create};
+ghost use Rattle.rules.specs.Step.{takeCall};
+ghost use Rattle.rules.specs.Whole.{view};
+ghost use Rattle.supervisor.specs.Taken.{Stands, takenOf};
+use super::answers::Taken;
+use super::answers::answered;
+use super::answers::refused_by;
+use rules::Supervisor;
+use table::place::in_range;
+use table::tasks::fresh_task;
+use table::tasks::with_task;
+
+pub fn create(s: Supervisor, priority: u8, entries: u8) -> Taken
+    requires { ⌜ Stands s ⌝ }
+    ensures { λ r. ⌜ r ≡ takenOf s (takeCall (view s) (Create priority entries)) ⌝ }
+{
+    if !in_range(priority, entries) {
+        return refused_by(s, 3);
+    }
+    if s.created >= 31 {
+        return refused_by(s, 9);
+    }
+    let t = s.created + 1;
+    let ready = s.ready;
+    let ready_now = lines::joined(ready, t);
+    let mut n = s;
+    n.created = t;
+    n.ready = ready_now;
+    let x = fresh_task(priority, entries);
+    let m = with_task(n, t, x);
+    answered(m, t, 10, 0, 0, 0)
+}

@@ -1,0 +1,33 @@
+// DELAY.
+ghost use mathlib.Core.Path.{_≡_};
+ghost use Rattle.calls.specs.declared.Call.the-variants.{Delay};
+ghost use Rattle.rules.specs.Step.{takeCall};
+ghost use Rattle.rules.specs.Whole.{view};
+ghost use Rattle.supervisor.specs.Taken.{Stands, takenOf};
+use super::answers::Taken;
+use super::answers::answered;
+use super::answers::refused_by;
+use super::answers::ticks_of;
+use rules::Place;
+use rules::Supervisor;
+use rules::Timer;
+use table::dispatch::running;
+use table::moves::moved;
+
+pub fn delay(s: Supervisor, d: i32) -> Taken
+    requires { ⌜ Stands s ⌝ }
+    ensures { λ r. ⌜ r ≡ takenOf s (takeCall (view s) (Delay d)) ⌝ }
+{
+    let t = running(s);
+    if t == 0 {
+        return refused_by(s, 4);
+    }
+    let n = ticks_of(d);
+    if n == 0 {
+        let left = moved(s, t, Place::Ready, Timer::Off);
+        return answered(left, t, 1, 0, 0, 0);
+    }
+    let w = Timer::Due(std::num::wrapping_add_u32(s.clock, n));
+    let left = moved(s, t, Place::Delayed, w);
+    answered(left, t, 0, 0, 0, 0)
+}

@@ -1,0 +1,50 @@
+// END.
+ghost use Prim.Native.Nat.{_≤_};
+ghost use lib.ListN.{length};
+ghost use mathlib.Core.Path.{_≡_};
+ghost use Rattle.calls.specs.declared.Call.the-variants.{End};
+ghost use Rattle.rules.specs.Step.{takeCall, roomAfter};
+ghost use Rattle.rules.specs.Whole.{view};
+ghost use Rattle.supervisor.specs.Taken.{Stands, takenOf, endedBy};
+use super::answers::Taken;
+use super::answers::answered;
+use super::answers::refused_by;
+use super::ended::put;
+use rules::Item;
+use rules::Supervisor;
+use table::dispatch::running;
+use table::moves::parted;
+use table::place::entry_of;
+use table::queues::Test;
+use table::queues::picked;
+use table::tasks::task_of;
+
+pub fn end(s: Supervisor, room: &mut [u8]) -> Taken
+    requires { ⌜ Stands s × (124 ≤ length (now room)) ⌝ }
+    ensures { λ r. ⌜ r ≡ takenOf s (takeCall (view s) End) ⌝ }
+    ensures room { λ r. ⌜ now (room .exit) ≡ roomAfter (now (room .entry)) (endedBy (takeCall (view s) End)) ⌝ }
+{
+    let t = running(s);
+    if t == 0 {
+        return refused_by(s, 4);
+    }
+    let held = s.held;
+    let l = picked(s, held, Test::HeldBy { holder: t });
+    let k = lines::last_of(l);
+    if k == 0 {
+        return refused_by(s, 7);
+    }
+    let x = task_of(s, k);
+    let p = x.place;
+    put(
+        room,
+        Item {
+            task: k,
+            result: 2,
+            entry: entry_of(p),
+            partner: t,
+        },
+    );
+    let n = parted(s, t, k);
+    answered(n, t, 10, 0, 0, 1)
+}

@@ -1,0 +1,86 @@
+// Ended waits: their items in the lent room, and the tasks that wake.
+ghost use Prim.Native.Nat.{_≤_};
+ghost use lib.ListN.{length};
+ghost use mathlib.Core.List.{[], _∷_};
+ghost use mathlib.Core.Path.{_≡_};
+ghost use Rattle.lists.specs.Line.{line};
+ghost use Rattle.rules.specs.Step.{roomAfter};
+ghost use Rattle.rules.specs.Whole.{view};
+ghost use Rattle.supervisor.specs.Taken.{Stands, reasonOf, itemAt, AllThere, WokenAs};
+use rules::Item;
+use rules::Place;
+use rules::Supervisor;
+use rules::Timer;
+use table::moves::moved;
+use table::place::entry_of;
+use table::place::expiry_of;
+use table::place::partner_of;
+use table::tasks::index_of;
+use table::tasks::shown;
+
+// The item's four bytes at the front of the room.
+pub fn put(room: &mut [u8], w: Item)
+    requires { ⌜ 4 ≤ length (now room) ⌝ }
+    ensures { λ _. ⌜ now (room .exit) ≡ roomAfter (now (room .entry)) (w ∷ []) ⌝ }
+{
+    room[0] = w.task;
+    room[1] = w.result;
+    room[2] = w.entry;
+    room[3] = w.partner;
+}
+
+// Why a wait ends: by FINISH of the called task, or by time.
+fn reason(failed: bool, p: Place) -> u8
+    ensures { λ r. ⌜ r ≡ reasonOf failed p ⌝ }
+{
+    if failed { 4 } else { expiry_of(p) }
+}
+
+// The item of a wait that ends: task k waited in place p.
+fn item_of(failed: bool, k: u8, p: Place) -> Item
+    ensures { λ r. ⌜ r ≡ itemAt failed k p ⌝ }
+{
+    Item {
+        task: k,
+        result: reason(failed, p),
+        entry: entry_of(p),
+        partner: partner_of(p),
+    }
+}
+
+// What is left when a line of tasks was woken: the state, and how many they were.
+pub struct Woken {
+    pub state: Supervisor,
+    pub count: u8,
+}
+
+// Each task of the line becomes ready, and its item is written directly behind the one before.
+pub fn wake_all(s: Supervisor, l: [u8; 31], failed: bool, room: &mut [u8]) -> Woken
+    requires { ⌜ Stands s × (124 ≤ length (now room)) × AllThere (view s) (line l) ⌝ }
+    ensures { λ r. ⌜ WokenAs (view s) failed (line l) (r .state) (r .count) (now (room .entry)) (now (room .exit)) ⌝ }
+{
+    let mut n = s;
+    let mut i: usize = 0;
+    while i < 31 {
+        let t = l[i];
+        if t == 0 {
+            return Woken {
+                state: n,
+                count: i as u8,
+            };
+        }
+        let at = index_of(t);
+        let k = s.tasks[at];
+        let x = shown(s.created, t, k);
+        let p = x.place;
+        let w = item_of(failed, t, p);
+        let from = i * 4;
+        put(&mut room[from..], w);
+        n = moved(n, t, Place::Ready, Timer::Off);
+        i += 1;
+    }
+    Woken {
+        state: n,
+        count: 31,
+    }
+}

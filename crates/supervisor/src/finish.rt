@@ -1,0 +1,65 @@
+// FINISH.
+ghost use Prim.Native.Nat.{_≤_};
+ghost use lib.ListN.{length};
+ghost use mathlib.Core.Path.{_≡_};
+ghost use Rattle.calls.specs.declared.Call.the-variants.{Finish};
+ghost use Rattle.lists.specs.Line.{pad};
+ghost use Rattle.rules.specs.Step.{takeCall, roomAfter, queuedOn};
+ghost use Rattle.rules.specs.Whole.{view};
+ghost use Rattle.supervisor.specs.Taken.{Stands, takenOf, endedBy};
+use super::answers::Taken;
+use super::answers::answered;
+use super::answers::refused_by;
+use super::ended::wake_all;
+use rules::Place;
+use rules::Supervisor;
+use rules::Timer;
+use table::dispatch::running;
+use table::moves::moved;
+use table::queues::Test;
+use table::queues::picked;
+
+// All callers queued on task t, entry 1 first, each queue from its head.
+fn queued_on(s: Supervisor, t: u8) -> [u8; 31]
+    ensures { λ r. ⌜ r ≡ pad (queuedOn (view s) t) ⌝ }
+{
+    let callers = s.callers;
+    let mut r = [0u8; 31];
+    let mut e: u8 = 1;
+    while e < 9 {
+        let q = picked(
+            s,
+            callers,
+            Test::QueuedOn {
+                target: t,
+                entry: e,
+            },
+        );
+        let next = lines::joined_all(r, q);
+        r = next;
+        e += 1;
+    }
+    r
+}
+
+pub fn finish(s: Supervisor, room: &mut [u8]) -> Taken
+    requires { ⌜ Stands s × (124 ≤ length (now room)) ⌝ }
+    ensures { λ r. ⌜ r ≡ takenOf s (takeCall (view s) Finish) ⌝ }
+    ensures room { λ r. ⌜ now (room .exit) ≡ roomAfter (now (room .entry)) (endedBy (takeCall (view s) Finish)) ⌝ }
+{
+    let t = running(s);
+    if t == 0 {
+        return refused_by(s, 4);
+    }
+    let held = s.held;
+    let h = picked(s, held, Test::HeldBy { holder: t });
+    let k = lines::len(h);
+    if k > 0 {
+        return refused_by(s, 8);
+    }
+    let l = queued_on(s, t);
+    let w = wake_all(s, l, true, room);
+    let n = w.state;
+    let m = moved(n, t, Place::Completed, Timer::Off);
+    answered(m, t, 10, 0, 0, w.count)
+}
