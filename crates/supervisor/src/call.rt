@@ -23,8 +23,6 @@ use table::moves::moved;
 use table::place::accepts_at;
 use table::place::is_between;
 use table::place::is_completed;
-use table::queues::Test;
-use table::queues::picked;
 use table::tasks::task_of;
 
 // Task t, which is running, queues on entry e of task g.
@@ -32,19 +30,6 @@ fn enqueued(s: Supervisor, t: u8, g: u8, e: u8, w: Timer) -> Taken
     requires { ⌜ Stands s × (t ≤ length (view s .tasks)) ⌝ }
     ensures { λ r. ⌜ r ≡ takenOf s (enqueue (view s) t g e w) ⌝ }
 {
-    let callers = s.callers;
-    let q = picked(
-        s,
-        callers,
-        Test::QueuedOn {
-            target: g,
-            entry: e,
-        },
-    );
-    let n = lines::len(q);
-    if n >= 31 {
-        return refused_by(s, 10);
-    }
     let m = moved(
         s,
         t,
