@@ -63,6 +63,20 @@ pub fn cases(seed: u64, count: usize) -> Vec<u8> {
     bytes
 }
 
+/// One full state with each of its bytes set to each value.
+pub fn each_byte(seed: u64) -> Vec<u8> {
+    let state = damage::full_state(seed);
+    let mut bytes = Vec::new();
+    for at in 0..STATE {
+        for value in 0..=255 {
+            let mut other = state.clone();
+            other[at] = value;
+            bytes.extend(plain_case(&other, &Call::Tick));
+        }
+    }
+    bytes
+}
+
 /// A case in which enough is lent.
 pub fn plain_case(state: &[u8], call: &Call) -> Vec<u8> {
     case(state, &ENOUGH, &calls::record(call))

@@ -38,6 +38,7 @@ const USAGE: &str = "the reference of the supervisor; it reads standard input wh
   damage SEED N              writes N states of 439 bytes, sound ones and damaged ones
   verdicts                   prints for each state whether it is sound
   cases SEED N               writes N cases of a state, a call, a length of room and a question
+  each-byte SEED             writes the cases of one state of 31 tasks with each of its bytes set to each value
   explore N                  writes the cases of the first N states of a small world, each with every call of it
   judge CASES WRITTEN        fails, with the first difference, if the answers in WRITTEN are not the reference's
   tally-states               prints how many states break each rule; fails if a rule is never broken
@@ -156,6 +157,7 @@ fn run(words: &[&str]) -> Result<(), String> {
         ["verdicts"] => output(states::verdicts(&input()?).as_bytes()),
         ["tally-states"] => tally_states(),
         ["cases", seed, count] => output(&judge::cases(number(seed)?, number(count)? as usize)),
+        ["each-byte", seed] => output(&judge::each_byte(number(seed)?)),
         ["explore", states] => explore(number(states)? as usize),
         ["judge", cases, written] => judge(cases, written),
         _ => Err(USAGE.to_string()),

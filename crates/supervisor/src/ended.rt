@@ -7,6 +7,7 @@ ghost use Rattle.lists.specs.Line.{line};
 ghost use Rattle.rules.specs.Step.{roomAfter};
 ghost use Rattle.rules.specs.Whole.{view};
 ghost use Rattle.supervisor.specs.Taken.{Stands, reasonOf, itemAt, AllThere, WokenAs};
+use super::numbers::TASKING_ERROR;
 use rules::Item;
 use rules::Place;
 use rules::Supervisor;
@@ -33,7 +34,7 @@ pub fn put(room: &mut [u8], w: Item)
 fn reason(failed: bool, p: Place) -> u8
     ensures { λ r. ⌜ r ≡ reasonOf failed p ⌝ }
 {
-    if failed { 4 } else { expiry_of(p) }
+    if failed { TASKING_ERROR } else { expiry_of(p) }
 }
 
 // The item of a wait that ends: task k waited in place p.

@@ -12,6 +12,13 @@ use super::answers::Taken;
 use super::answers::answered;
 use super::answers::refused_by;
 use super::answers::ticks_of;
+use super::numbers::ACCEPTED;
+use super::numbers::DELAY_TAKEN;
+use super::numbers::ELSE_TAKEN;
+use super::numbers::NO_ENTRY;
+use super::numbers::NO_TASK;
+use super::numbers::PROGRAM_ERROR;
+use super::numbers::WAITS;
 use calls::SelectMode;
 use rules::Offer;
 use rules::Place;
@@ -86,21 +93,21 @@ fn select_none(s: Supervisor, t: u8, o: u8, m: SelectMode) -> Taken
     match m {
         SelectMode::Plain => {
             if o == 0 {
-                return answered(s, t, 9, 0, 0, 0);
+                return answered(s, t, PROGRAM_ERROR, 0, 0, 0);
             }
             let n = moved(s, t, Place::Accepting(Offer { opens: o }), Timer::Off);
-            answered(n, t, 0, 0, 0, 0)
+            answered(n, t, WAITS, 0, 0, 0)
         }
         SelectMode::Delay(d) => {
             let k = ticks_of(d);
             if k == 0 {
-                return answered(s, t, 6, 0, 0, 0);
+                return answered(s, t, DELAY_TAKEN, 0, 0, 0);
             }
             let w = Timer::Due(std::num::wrapping_add_u32(s.clock, k));
             let n = moved(s, t, Place::Accepting(Offer { opens: o }), w);
-            answered(n, t, 0, 0, 0, 0)
+            answered(n, t, WAITS, 0, 0, 0)
         }
-        SelectMode::Else => answered(s, t, 7, 0, 0, 0),
+        SelectMode::Else => answered(s, t, ELSE_TAKEN, 0, 0, 0),
     }
 }
 
@@ -111,16 +118,16 @@ pub fn select(s: Supervisor, o: u8, m: SelectMode) -> Taken
 {
     let t = running(s);
     if t == 0 {
-        return refused_by(s, 4);
+        return refused_by(s, NO_TASK);
     }
     let x = task_of(s, t);
     if is_too_wide(o, x.entries) {
-        return refused_by(s, 6);
+        return refused_by(s, NO_ENTRY);
     }
     let b = lowest(s, t, o);
     if b.entry == 9 {
         return select_none(s, t, o, m);
     }
     let n = met(s, t, b.task, b.entry);
-    answered(n, t, 5, b.entry, b.task, 0)
+    answered(n, t, ACCEPTED, b.entry, b.task, 0)
 }

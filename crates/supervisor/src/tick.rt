@@ -9,10 +9,12 @@ ghost use Rattle.supervisor.specs.Taken.{Stands, takenOf, endedBy};
 use super::answers::Taken;
 use super::answers::answered;
 use super::ended::wake_all;
+use super::numbers::DONE;
 use rules::Supervisor;
 use table::queues::Test;
 use table::queues::picked;
 
+// The clock goes on by one, and those due now become ready in delay-queue order.
 pub fn tick(s: Supervisor, room: &mut [u8]) -> Taken
     requires { ⌜ Stands s × (124 ≤ length (now room)) ⌝ }
     ensures { λ r. ⌜ r ≡ takenOf s (takeCall (view s) Tick) ⌝ }
@@ -21,8 +23,14 @@ pub fn tick(s: Supervisor, room: &mut [u8]) -> Taken
     let now = std::num::wrapping_add_u32(s.clock, 1);
     let delays = s.delays;
     let l = picked(s, delays, Test::DueAt { now: now });
+    let k = lines::first_of(l);
+    if k == 0 {
+        let mut still = s;
+        still.clock = now;
+        return answered(still, 0, DONE, 0, 0, 0);
+    }
     let w = wake_all(s, l, false, room);
     let mut n = w.state;
     n.clock = now;
-    answered(n, 0, 10, 0, 0, w.count)
+    answered(n, 0, DONE, 0, 0, w.count)
 }
