@@ -77,7 +77,7 @@ impl Supervisor {
         if entry < 1 || entry as usize > self.task(target).queues.len() {
             return Some(refusal::NO_ENTRY);
         }
-        (self.count(target, entry) as usize >= TASKS).then_some(refusal::QUEUE_FULL)
+        None
     }
 
     fn perform(&mut self, call: &Call, running: u8, ended: &mut Ended) -> Outcome {

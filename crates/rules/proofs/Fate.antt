@@ -97,7 +97,7 @@ delay-fate s d u t (suc n) e r = wait-fate s (Delay d) u t Delayed (Due (after (
 -- ── CALL ──
 
 enqueue-fate : (s : State) (u t g e : ℕ) (m : CallMode) (w : Timer) → Runs s t → w ≡ timerIn (s .clock) (duration (Call g e m)) → FateOf s (Call g e m) u (enqueue s t g e w)
-enqueue-fate s u t g e m w r f = by-test (FateOf s (Call g e m) u) (leb 31 (length (queue s g e))) (λ _. tt) (λ _. wait-fate s (Call g e m) u t (Queued (waiting s g e)) w r refl refl f)
+enqueue-fate s u t g e m w r f = wait-fate s (Call g e m) u t (Queued (waiting s g e)) w r refl refl f
 
 busy-fate : (s : State) (u t g e : ℕ) (m : CallMode) → Runs s t → FateOf s (Call g e m) u (callBusy s t g e m)
 busy-fate s u t g e Simple r = enqueue-fate s u t g e Simple Off r refl
@@ -283,7 +283,7 @@ clock-of s (Call g e m) h = by-runner P s (λ t. call s t g e m) h tt (λ t z r.
     P = ClockOf s (Call g e m)
 
     queues : (t : ℕ) (w : Timer) → P (enqueue s t g e w)
-    queues t w = by-test P (leb 31 (length (queue s g e))) (λ _. tt) (λ _. refl)
+    queues t w = refl
 
     timed : (t n : ℕ) → P (timedCall s t g e n)
     timed t zero = refl

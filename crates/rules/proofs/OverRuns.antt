@@ -13,7 +13,7 @@ use borrow.Author.Tests.{eqb-true, eqb-false, eq-eqb, ne-eqb, ltb-true, ltb-fals
 use Rattle.lists.specs.Lists.{if_then_else_, bit, count, every, last}
 use Rattle.rules.specs.State.{State, empty, nth, taskOf, placeOf, timerOf, blank, isReady, isQueued, isHeld, heldBy, running, after, left, ticksLeft, hasTime, partnerOf}
 use Rattle.rules.specs.Sound.{sound}
-use Rattle.rules.specs.Step.{Refusal, SHORT-ROOM, BAD-STATE, BAD-FIELD, NO-TASK, NO-TARGET, NO-ENTRY, NOT-SERVING, STILL-SERVING, FULL, QUEUE-FULL, number, Outcome, refused, took, item, takeCall, expiry, WAITS, SERVED}
+use Rattle.rules.specs.Step.{Refusal, SHORT-ROOM, BAD-STATE, BAD-FIELD, NO-TASK, NO-TARGET, NO-ENTRY, NOT-SERVING, STILL-SERVING, FULL, number, Outcome, refused, took, item, takeCall, expiry, WAITS, SERVED}
 use Rattle.rules.specs.declared.Item.{Item}
 use Rattle.rules.specs.Runs.{Ask, Given, Entry, duration, isWaiting, begins, begun, reasons, ended}
 use Rattle.rules.specs.OverRuns.{WaitsCounted, EndsOnce, WereWaiting, isReason, SixReasons, FewEnds, Stays, Released, HeldTillEnd}
@@ -114,7 +114,6 @@ number-pos NO-ENTRY = refl
 number-pos NOT-SERVING = refl
 number-pos STILL-SERVING = refl
 number-pos FULL = refl
-number-pos QUEUE-FULL = refl
 
 -- nobody else has a time than those who wait in one of three places
 timed-place : (me g : Task) (p : Place) (w : Timer) → Fits me g p w → hasTime w ≡ true → (isWaiting p ≡ true) × (isReason (expiry p) ≡ true) × (isHeld p ≡ false)

@@ -59,7 +59,7 @@ delay-kept s t (suc d) h r k = delay-sound s t (after (s .clock) (suc d)) (r .lo
 -- ── CALL ──
 
 enqueue-kept : (s : State) (t g e : ℕ) (w : Timer) → Sound s → Runs s t → Calls (taskOf s g) e → accepts (placeOf s g) e ≡ false → InTime (s .clock) w → Kept (enqueue s t g e w)
-enqueue-kept s t g e w h r c a i = by-test Kept (leb 31 (length (queue s g e))) (λ _. tt) (λ _. queue-sound s t (waiting s g e) w (r .low) (r .high) h c a i)
+enqueue-kept s t g e w h r c a i = queue-sound s t (waiting s g e) w (r .low) (r .high) h c a i
 
 busy-kept : (s : State) (t g e : ℕ) (m : CallMode) → Sound s → Runs s t → Calls (taskOf s g) e → accepts (placeOf s g) e ≡ false → Kept (callBusy s t g e m)
 busy-kept s t g e Simple h r c a = enqueue-kept s t g e Off h r c a tt

@@ -33,9 +33,9 @@ none = item 0 0 0 0
 
 -- the refusals of a step, in order of checking
 pub data Refusal : Type 0 where
-  SHORT-ROOM BAD-STATE BAD-FIELD NO-TASK NO-TARGET NO-ENTRY NOT-SERVING STILL-SERVING FULL QUEUE-FULL : Refusal
+  SHORT-ROOM BAD-STATE BAD-FIELD NO-TASK NO-TARGET NO-ENTRY NOT-SERVING STILL-SERVING FULL : Refusal
 
--- their numbers in document 01
+-- their numbers in document 01 (10 is retired and given to nothing)
 abbrev pub number : Refusal → ℕ
 number SHORT-ROOM = 1
 number BAD-STATE = 2
@@ -46,7 +46,6 @@ number NO-ENTRY = 6
 number NOT-SERVING = 7
 number STILL-SERVING = 8
 number FULL = 9
-number QUEUE-FULL = 10
 
 -- a call is refused, or taken: the next state, the answer and the ended waits in order
 pub data Outcome : Type 0 where
@@ -117,9 +116,7 @@ delayFor s t (suc d) = took (move s t Delayed (Due (after (s .clock) (suc d)))) 
 
 -- t waits in the queue of entry e of task g, at the tail, with a time or none
 abbrev pub enqueue : State → ℕ → ℕ → ℕ → Timer → Outcome
-enqueue s t g e w =
-    if leb 31 (length (queue s g e)) then refused QUEUE-FULL
-    else took (move s t (Queued (waiting s g e)) w) (item t WAITS 0 0) []
+enqueue s t g e w = took (move s t (Queued (waiting s g e)) w) (item t WAITS 0 0) []
 
 -- timed with d above 0 waits with a time; with d zero or below it gives CALL_EXPIRED
 abbrev pub timedCall : State → ℕ → ℕ → ℕ → ℕ → Outcome

@@ -96,7 +96,7 @@ abbrev pub row : ℕ → Bool → Row
 row n b = record { number = n; applies = b }
 
 -- the rows for a step with a room of so many bytes, in order of checking
--- (10 QUEUE_FULL would stand at the end, but never applies: `Statement1.no-overflow`)
+-- (10 is retired: `no-overflow` of statement 1 says why it could never be given)
 abbrev pub rows : Supervisor → C.Call → ℕ → List Row
 rows s c room =
     row 1 (ltb room 124)

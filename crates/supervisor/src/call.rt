@@ -17,7 +17,6 @@ use super::numbers::NO_ENTRY;
 use super::numbers::NO_TARGET;
 use super::numbers::NO_TASK;
 use super::numbers::NOT_NOW;
-use super::numbers::QUEUE_FULL;
 use super::numbers::TASKING_ERROR;
 use super::numbers::WAITS;
 use calls::CallMode;
@@ -32,8 +31,6 @@ use table::moves::moved;
 use table::place::accepts_at;
 use table::place::is_between;
 use table::place::is_completed;
-use table::queues::Test;
-use table::queues::picked;
 use table::tasks::task_of;
 
 // Task t, which is running, queues on entry e of task g.
@@ -41,19 +38,6 @@ fn enqueued(s: Supervisor, t: u8, g: u8, e: u8, w: Timer) -> Taken
     requires { ⌜ Stands s × (t ≤ length (view s .tasks)) ⌝ }
     ensures { λ r. ⌜ r ≡ takenOf s (enqueue (view s) t g e w) ⌝ }
 {
-    let callers = s.callers;
-    let q = picked(
-        s,
-        callers,
-        Test::QueuedOn {
-            target: g,
-            entry: e,
-        },
-    );
-    let n = lines::len(q);
-    if n >= 31 {
-        return refused_by(s, QUEUE_FULL);
-    }
     let m = moved(
         s,
         t,

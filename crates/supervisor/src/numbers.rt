@@ -1,4 +1,4 @@
-// The numbers of the refusals and of the results.
+// The numbers of the refusals (10 is retired) and of the results.
 pub const SHORT_ROOM: u8 = 1;
 
 pub const BAD_STATE: u8 = 2;
@@ -16,8 +16,6 @@ pub const NOT_SERVING: u8 = 7;
 pub const STILL_SERVING: u8 = 8;
 
 pub const FULL: u8 = 9;
-
-pub const QUEUE_FULL: u8 = 10;
 
 pub const WAITS: u8 = 0;
 
