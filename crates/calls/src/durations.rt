@@ -9,6 +9,13 @@ pub fn ticks(d: i32) -> u32
     if d < 0 { 0 } else { d as u32 }
 }
 
+// Four bytes as a number, high byte first.
+pub fn word(a: u8, b: u8, c: u8, d: u8) -> u32
+    ensures { λ r. ⌜ r ≡ D.four a b c d ⌝ }
+{
+    (a as u32) * 16777216 + (b as u32) * 65536 + (c as u32) * 256 + (d as u32)
+}
+
 // The duration that 32 bits stand for, two's complement.
 pub(crate) fn duration(n: u32) -> i32
     ensures { λ r. ⌜ r ≡ D.signed n ⌝ }

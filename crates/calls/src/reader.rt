@@ -3,7 +3,6 @@ ghost use mathlib.Core.Path.{_≡_};
 ghost use mathlib.Core.Bool.{true, false};
 ghost use Prim.Native.Nat.{_+_, _*_, _≤_};
 ghost use lib.ListN.{length};
-ghost use Rattle.calls.specs.Duration.{four};
 ghost use Rattle.calls.specs.Record.{fourFrom, lengthOf, isUnknown};
 ghost use Rattle.calls.specs.Reading.{callModeOf, selectModeOf, readOf, refusalOf, countOf, refusalFor, countFor};
 ghost use Rattle.calls.specs.Parts.{badFrame, badMode, bodyRead};
@@ -12,13 +11,7 @@ use super::CallMode;
 use super::Read;
 use super::SelectMode;
 use super::durations::duration;
-
-// Four bytes as a number, high byte first.
-fn word(a: u8, b: u8, c: u8, d: u8) -> u32
-    ensures { λ r. ⌜ r ≡ four a b c d ⌝ }
-{
-    (a as u32) * 16777216 + (b as u32) * 65536 + (c as u32) * 256 + (d as u32)
-}
+use super::durations::word;
 
 // The four bytes of s from index i.
 fn four_from(s: &[u8], i: usize) -> u32
