@@ -16,7 +16,7 @@ items-back : (is : List Item) (room : List ℕ) → itemsIn (length is) (roomAft
 items-back [] room = refl
 items-back (i ∷ is) room = ap (λ (l : List Item). i ∷ l) (items-back is (drop 4 room))
 
-entry-back : (s : Supervisor) (u : Use) → Keeps s u → readEntry s u ≡ entryWhole s (asked u)
+pub entry-back : (s : Supervisor) (u : Use) → Keeps s u → readEntry s u ≡ entryWhole s (asked u)
 entry-back s u k = go (u .gave) (u .wrote) (k .answer) (k .room)
   where
     w : Whole

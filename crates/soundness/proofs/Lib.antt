@@ -1,1 +1,5 @@
-pub mod CheckLaws
+mod MarkLaws
+mod TaskLaws
+mod Turns
+mod LineLaws
+mod WholeLaws

@@ -1,25 +1,77 @@
 -- What the parts of the soundness check answer.
 -- Assumes nothing.
-use Prim.Native.Nat.{ℕ, zero, suc, _-_, _<_, _≤_}
-use mathlib.Core.Path.{_≡_}
-use mathlib.Core.Bool.{Bool, true, false, _&&_}
+use Prim.Native.Nat.{ℕ, zero, suc, _+_, _-_}
+use mathlib.Core.Bool.{Bool, true, false, not, _&&_}
 use mathlib.Core.List.{List, [], _∷_}
-use lib.Dec.{ltb, leb}
-use lib.ListN.{length, getD}
-use Rattle.lists.specs.Lists.{count}
-use Rattle.rules.specs.State.{State, timerOf, ticksLeft}
+use lib.Dec.{eqb, ltb, leb}
+use Rattle.lists.specs.Line.{line, blanks, tidy}
+use Rattle.lists.specs.Lists.{if_then_else_, bit, count, every, downFrom}
+use Rattle.rules.specs.Sound.{goodTask}
+use Rattle.rules.specs.State.{State, taskOf, placeOf, timerOf, partnerOf, isReady, isQueued, isHeld, hasTime, ticksLeft}
+use Rattle.rules.specs.Whole.{view}
+use Rattle.rules.specs.declared.Supervisor.{Supervisor}
+use Rattle.rules.specs.declared.Task.{Task}
+use Rattle.soundness.specs.Marks.{Marks, noMarks, hasMark, withMark, withoutMark, isNone}
+use Rattle.soundness.specs.declared.stand.Line.{Line}
+use Rattle.soundness.specs.declared.stand.Line.the-variants.{Ready, Callers, Held, Delays}
 
+-- x is one of 1..most
 abbrev pub named : ℕ → ℕ → Bool
 named most x = ltb 0 x && leb x most
 
+-- where task t stands in the table; 0 for a number that no task has
+abbrev pub indexOf : ℕ → ℕ
+indexOf t = if named 31 t then t - 1 else 0
+
+-- task t is good, beside the task that it has called
+abbrev pub goodIn : State → ℕ → Bool
+goodIn v t = goodTask (v .clock) (taskOf v t) (taskOf v (partnerOf (placeOf v t)))
+
+-- ── the delay queue ──
+
 abbrev pub leftOf : State → ℕ → ℕ
-leftOf s x = ticksLeft (s .clock) (timerOf s x)
+leftOf v x = ticksLeft (v .clock) (timerOf v x)
 
 -- a is at most the first key, and each key at most the next
 abbrev pub ascending : (ℕ → ℕ) → ℕ → List ℕ → Bool
 ascending k a [] = true
 ascending k a (x ∷ xs) = leb a (k x) && ascending k (k x) xs
 
--- the counter of task t, at t - 1, says how often it stands in the list
-abbrev pub Counts : List ℕ → List ℕ → Type 0
-Counts l r = (t : ℕ) → 0 < t → t ≤ 31 → getD r (t - 1) 0 ≡ count t l
+-- ── a line ──
+
+-- a task that stands in the line: by its place, or by its time
+abbrev pub belongs : Line → Task → Bool
+belongs Ready x = isReady (x .place)
+belongs Callers x = isQueued (x .place)
+belongs Held x = isHeld (x .place)
+belongs Delays x = hasTime (x .timer)
+
+abbrev pub arrayOf : Supervisor → Line → List ℕ
+arrayOf s Ready = s .ready
+arrayOf s Callers = s .callers
+arrayOf s Held = s .held
+arrayOf s Delays = s .delays
+
+-- the array is task numbers 1..n and blanks behind, and has each of 1..n once if it passes the test, and else not
+unfoldable pub lineHas : ℕ → (ℕ → Bool) → List ℕ → Bool
+lineHas n f a = (tidy a && every (named n) (line a)) && every (λ t. eqb (count t (line a)) (bit (f t))) (downFrom n)
+
+abbrev pub standsIn : Supervisor → Line → Bool
+standsIn s l = lineHas (s .created) (λ t. belongs l (taskOf (view s) t)) (arrayOf s l)
+
+-- ── how the code finds out ──
+
+-- how many places of an array are not blank
+abbrev pub full : List ℕ → ℕ
+full [] = 0
+full (x ∷ xs) = bit (not (eqb x 0)) + full xs
+
+-- of 1..n those that pass the test are to be met
+abbrev pub wanted : (ℕ → Bool) → ℕ → Marks
+wanted f zero = noMarks
+wanted f (suc n) = withMark (wanted f n) (suc n) (f (suc n))
+
+-- each in the array, up to the blanks, is still to be met as the walk comes to it, and at the end none is
+abbrev pub emptied : Marks → List ℕ → Bool
+emptied m [] = isNone m
+emptied m (x ∷ xs) = if eqb x 0 then blanks xs && isNone m else (hasMark m x && emptied (withoutMark m x) xs)

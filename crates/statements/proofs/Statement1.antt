@@ -1,20 +1,24 @@
 -- Statement 1, proved.
 -- Assumes nothing.
-use Prim.Native.Nat.{ℕ, zero, suc, _<_}
+use Prim.Native.Nat.{ℕ, _<_}
 use mathlib.Core.Path.{_≡_, refl, sym, _∙_, ap, subst}
 use mathlib.Core.Logic.{_↔_, _⊎_, inl, inr}
 use mathlib.Core.Bool.{Bool, true, false, not}
 use mathlib.Core.List.{List, [], _∷_}
 use native.Mathlib.Omega.{arith}
 use lib.Dec.{ltb}
+use borrow.Author.Tests.{ltb-true, ltb-false}
 use lib.ListN.{length}
 use Rattle.lists.specs.Lists.{if_then_else_}
 use Rattle.lists.proofs.ListLaws.{by-bool, clash}
-use Rattle.rules.specs.Step.{Outcome, refused, took, roomAfter, takeCall}
-use Rattle.rules.specs.Whole.{Whole, view, soundWhole, done, stepWhole}
+use Rattle.rules.specs.Whole.{soundWhole, stepWhole}
+use Rattle.rules.proofs.Dispatch.{each-step}
 use Rattle.rules.specs.Questions.{countWhole, callableWhole}
 use Rattle.rules.specs.declared.Supervisor.{Supervisor}
+use Rattle.calls.specs.Record.{encode}
+use Rattle.calls.specs.Writing.{writtenOf}
 use Rattle.calls.specs.declared.Call as C
+use Rattle.calls.proofs.Exactly.{bad-record-exactly, end-of-log-exactly}
 use Rattle.calls.proofs.read_record.Met as read-record
 use Rattle.calls.proofs.write_record.Met as write-record
 use Rattle.supervisor.proofs.empty.Met as empty
@@ -24,7 +28,7 @@ use Rattle.supervisor.proofs.count.Met as count
 use Rattle.supervisor.proofs.callable.Met as callable
 use Rattle.supervisor.proofs.sound.Met as sound
 use Rattle.statements.specs.Refusals.{Row, rows, firstRow}
-use Rattle.statements.specs.Statement1.{RowGiven, Typed, Unchanged, Statement1}
+use Rattle.statements.specs.Statement1.{RowGiven, Typed, Statement1}
 use Rattle.statements.proofs.Refusals.{by-table}
 
 -- the first row that applies, as a number and as a proposition
@@ -64,26 +68,11 @@ callable-no : (s : Supervisor) (t : ℕ) → soundWhole s ≡ false → callable
 unfolding callableWhole
 callable-no s t b = rw b
 
--- what a refused outcome leaves
-Left : Supervisor → Whole → Type 0
-Left s w = 0 < w .refusal → (w .state ≡ s) × (w .ended ≡ [])
-
-left-done : (s : Supervisor) (o : Outcome) → Left s (done s o)
-unfolding Left
-left-done s (refused r) h = (refl, refl)
-left-done s (took st a l) h = absurd (omega (arith, h))
-
-left : (s : Supervisor) (c : C.Call) (n : ℕ) → Left s (stepWhole s c n)
-unfolding Left stepWhole
-left s c n =
-    by-bool (ltb n 124) (λ e. rw e (λ h. (refl, refl))) λ e.
-    by-bool (soundWhole s) (λ f. rw (e, f) (left-done s (takeCall (view s) c))) (λ f. rw (e, f) (λ h. (refl, refl)))
-
-refused-unchanged : (s : Supervisor) (c : C.Call) (room : List ℕ) → 0 < stepWhole s c (length room) .refusal → Unchanged s c room
-unfolding Left
-refused-unchanged s c room h =
-    let l = left s c (length room) h in
-    record { state = l .0; ended = l .1; lent = ap (roomAfter room) (l .1) }
+short-room : (c : C.Call) (room : List ℕ) → (writtenOf (encode c) room .refusal ≡ 1) ↔ (length room < length (encode c))
+short-room c room =
+    by-bool (ltb (length room) (length (encode c)))
+    (λ b. (λ e. ltb-true (length room) (length (encode c)) b, λ h. rw b))
+    (λ b. (λ e. absurd (omega (arith, rw b at e)), λ h. absurd (omega (arith, ltb-false (length room) (length (encode c)) b))))
 
 pub statement1 : Statement1
 statement1 = record {
@@ -100,5 +89,9 @@ statement1 = record {
   callable-refused = callable-refused;
   count-zero = count-zero;
   callable-no = callable-no;
-  refused-unchanged = refused-unchanged;
+  refused-untouched = each-step .refused;
+  bad-record = bad-record-exactly;
+  end-of-log = end-of-log-exactly;
+  short-room = short-room;
+  no-overflow = each-step .queue-has-room;
 }

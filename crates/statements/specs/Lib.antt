@@ -1,2 +1,6 @@
+-- What the assessor signs, after the rules (crate rules). Read in this order.
+-- the table of refusals, row by row
 pub mod Refusals
 pub mod Statement1
+pub mod Statement2
+pub mod Statement3

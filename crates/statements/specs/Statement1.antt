@@ -2,16 +2,21 @@
 -- call record included. Bad input gets its refusal number. A refused step returns the state it was given, an empty list of
 -- ended waits, and lent room untouched.
 -- Assumes nothing.
-use Prim.Native.Nat.{ℕ, zero, suc, _<_}
+use Prim.Native.Nat.{ℕ, _≤_, _<_}
 use mathlib.Core.Path.{_≡_}
 use mathlib.Core.Logic.{_↔_, _⊎_}
 use mathlib.Core.Bool.{Bool, true, false}
 use mathlib.Core.List.{List, [], _∷_}
 use lib.ListN.{length}
-use Rattle.rules.specs.Step.{roomAfter}
-use Rattle.rules.specs.Whole.{soundWhole, stepWhole}
+use Rattle.rules.specs.State as state
+use Rattle.rules.specs.State.{queue}
+use Rattle.rules.specs.Whole.{view, soundWhole, stepWhole}
+use Rattle.rules.specs.EachStep.{Untouched}
 use Rattle.rules.specs.Questions.{countWhole, callableWhole}
 use Rattle.rules.specs.declared.Supervisor.{Supervisor}
+use Rattle.calls.specs.Record.{encode}
+use Rattle.calls.specs.Reading.{readOf, refusalOf, faulty}
+use Rattle.calls.specs.Writing.{writtenOf}
 use Rattle.calls.specs.declared.Call as C
 use Rattle.calls.proofs.read_record.Statement as read-record
 use Rattle.calls.proofs.write_record.Statement as write-record
@@ -32,12 +37,6 @@ RowGiven k (r ∷ rs) = ((r .applies ≡ true) × (r .number ≡ k)) ⊎ ((r .ap
 abbrev pub Typed : Supervisor → Type 0
 Typed s = s .clock < 4294967296
 
--- a step leaves the state as it was, lists no ended wait, and leaves every byte of a lent room as it was
-pub record Unchanged (s : Supervisor) (c : C.Call) (room : List ℕ) : Type 0 where
-  pub state : stepWhole s c (length room) .state ≡ s
-  pub ended : stepWhole s c (length room) .ended ≡ []
-  pub lent : roomAfter room (stepWhole s c (length room) .ended) ≡ room
-
 pub record Statement1 : Type 2 where
   -- "ends and does nothing undefined on every input": what the gate proves of each public operation, under its name
   pub read-record : {M : Type 1} → read-record.statement M
@@ -57,4 +56,11 @@ pub record Statement1 : Type 2 where
   pub count-zero : (s : Supervisor) (t e : ℕ) → soundWhole s ≡ false → countWhole s t e .count ≡ 0
   pub callable-no : (s : Supervisor) (t : ℕ) → soundWhole s ≡ false → callableWhole s t .yes ≡ false
   -- "a refused step returns the state it was given, an empty list of ended waits, and lent room untouched"
-  pub refused-unchanged : (s : Supervisor) (c : C.Call) (room : List ℕ) → 0 < stepWhole s c (length room) .refusal → Unchanged s c room
+  pub refused-untouched : (s : Supervisor) (c : C.Call) (n : ℕ) → 0 < stepWhole s c n .refusal → Untouched s (stepWhole s c n)
+  -- the reader: BAD_RECORD exactly when bytes are left and one of six faults is there, END_OF_LOG exactly when none is left
+  pub bad-record : (s : List ℕ) → (refusalOf (readOf s) ≡ 11) ↔ ((0 < length s) × (faulty s ≡ true))
+  pub end-of-log : (s : List ℕ) → (refusalOf (readOf s) ≡ 12) ↔ (length s ≡ 0)
+  -- the writer: SHORT_ROOM exactly when the room is below the record
+  pub short-room : (c : C.Call) (room : List ℕ) → (writtenOf (encode c) room .refusal ≡ 1) ↔ (length room < length (encode c))
+  -- QUEUE_FULL is never given: a queue that the running task would join has at most 30 callers
+  pub no-overflow : (s : Supervisor) → Typed s → soundWhole s ≡ true → 0 < state.running (view s) → (g e : ℕ) → length (queue (view s) g e) ≤ 30

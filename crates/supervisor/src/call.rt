@@ -17,7 +17,7 @@ use rules::Place;
 use rules::Supervisor;
 use rules::Timer;
 use rules::Waiting;
-use table::dispatch::running_of;
+use table::dispatch::running;
 use table::moves::met;
 use table::moves::moved;
 use table::place::accepts_at;
@@ -81,7 +81,7 @@ pub fn call(s: Supervisor, g: u8, e: u8, m: CallMode, room: &mut [u8]) -> Taken
     ensures { λ r. ⌜ r ≡ takenOf s (takeCall (view s) (Call g e m)) ⌝ }
     ensures room { λ r. ⌜ now (room .exit) ≡ roomAfter (now (room .entry)) (endedBy (takeCall (view s) (Call g e m))) ⌝ }
 {
-    let t = running_of(s);
+    let t = running(s);
     if t == 0 {
         return refused_by(s, 4);
     }

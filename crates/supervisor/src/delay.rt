@@ -11,14 +11,14 @@ use super::answers::ticks_of;
 use rules::Place;
 use rules::Supervisor;
 use rules::Timer;
-use table::dispatch::running_of;
+use table::dispatch::running;
 use table::moves::moved;
 
 pub fn delay(s: Supervisor, d: i32) -> Taken
     requires { ⌜ Stands s ⌝ }
     ensures { λ r. ⌜ r ≡ takenOf s (takeCall (view s) (Delay d)) ⌝ }
 {
-    let t = running_of(s);
+    let t = running(s);
     if t == 0 {
         return refused_by(s, 4);
     }

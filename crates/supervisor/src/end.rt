@@ -12,7 +12,7 @@ use super::answers::refused_by;
 use super::ended::put;
 use rules::Item;
 use rules::Supervisor;
-use table::dispatch::running_of;
+use table::dispatch::running;
 use table::moves::parted;
 use table::place::entry_of;
 use table::queues::Test;
@@ -24,7 +24,7 @@ pub fn end(s: Supervisor, room: &mut [u8]) -> Taken
     ensures { λ r. ⌜ r ≡ takenOf s (takeCall (view s) End) ⌝ }
     ensures room { λ r. ⌜ now (room .exit) ≡ roomAfter (now (room .entry)) (endedBy (takeCall (view s) End)) ⌝ }
 {
-    let t = running_of(s);
+    let t = running(s);
     if t == 0 {
         return refused_by(s, 4);
     }

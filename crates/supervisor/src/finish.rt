@@ -14,7 +14,7 @@ use super::ended::wake_all;
 use rules::Place;
 use rules::Supervisor;
 use rules::Timer;
-use table::dispatch::running_of;
+use table::dispatch::running;
 use table::moves::moved;
 use table::queues::Test;
 use table::queues::picked;
@@ -47,7 +47,7 @@ pub fn finish(s: Supervisor, room: &mut [u8]) -> Taken
     ensures { λ r. ⌜ r ≡ takenOf s (takeCall (view s) Finish) ⌝ }
     ensures room { λ r. ⌜ now (room .exit) ≡ roomAfter (now (room .entry)) (endedBy (takeCall (view s) Finish)) ⌝ }
 {
-    let t = running_of(s);
+    let t = running(s);
     if t == 0 {
         return refused_by(s, 4);
     }

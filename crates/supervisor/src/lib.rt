@@ -25,7 +25,6 @@ use rules::Known;
 use rules::Stepped;
 use rules::Supervisor;
 use soundness::is_sound;
-use table::dispatch::running_of;
 use table::place::is_between;
 use table::place::is_completed;
 use table::queues::Test;
@@ -84,7 +83,7 @@ pub fn step(s: Supervisor, c: Call, room: &mut [u8]) -> Stepped
     let k = take_call(s, c, room);
     let after = k.state;
     let answer = k.answer;
-    let next = running_of(after);
+    let next = running(after);
     Stepped {
         state: after,
         answer: Answer {
@@ -127,7 +126,7 @@ pub fn sound(s: Supervisor) -> bool
 pub fn running(s: Supervisor) -> u8
     ensures { λ r. ⌜ r ≡ state.running (view s) ⌝ }
 {
-    running_of(s)
+    table::dispatch::running(s)
 }
 
 // COUNT: how many are queued on entry e of task t.

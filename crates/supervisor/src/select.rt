@@ -18,7 +18,7 @@ use rules::Offer;
 use rules::Place;
 use rules::Supervisor;
 use rules::Timer;
-use table::dispatch::running_of;
+use table::dispatch::running;
 use table::moves::met;
 use table::moves::moved;
 use table::place::is_open;
@@ -86,7 +86,7 @@ pub fn select(s: Supervisor, o: u8, m: SelectMode) -> Taken
     requires { ⌜ Stands s ⌝ }
     ensures { λ r. ⌜ r ≡ takenOf s (takeCall (view s) (Select o m)) ⌝ }
 {
-    let t = running_of(s);
+    let t = running(s);
     if t == 0 {
         return refused_by(s, 4);
     }

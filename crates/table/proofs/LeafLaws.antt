@@ -6,11 +6,13 @@ use mathlib.Core.Bool.{Bool, true, false, not}
 use mathlib.Core.List.{List, [], _∷_, _++_, map}
 use native.Mathlib.Numerals.{unary-clauses}
 use native.Mathlib.Omega.{arith}
-use lib.Dec.{eqb, ltb}
+use lib.Dec.{ltb, leb}
 use lib.ListN.{length, getD, set, take, length-map}
-use lib.Seq.{getD-take, set-out}
+use lib.Seq.{getD-take, set-out, set-getD}
+use borrow.Author.Tests.{ltb-true, ltb-false, leb-true, leb-false}
 use Rattle.lists.specs.Line.{line, pad, insertAt, slotOf}
-use Rattle.lists.proofs.Tests.{cases}
+use Rattle.lists.proofs.ListLaws.{by-bool}
+use Rattle.lists.proofs.Tests.{and-first, and-second}
 use Rattle.lists.proofs.LineLaws.{left-over, insert-slot}
 use Rattle.lists.specs.Lists.{if_then_else_, filter, remove, insert, first, last, rejoin}
 use Rattle.rules.specs.State.{blank, nth, setNth, taskOf, isReady, isQueued, isHeld, retime, ticksLeft, placed}
@@ -22,6 +24,7 @@ use Rattle.rules.specs.declared.Timer.the-variants.{Due}
 use Rattle.rules.specs.declared.Task.{Task}
 use Rattle.rules.proofs.Members.{nth-beyond}
 use Rattle.table.specs.Moved.{withTask, movedOf}
+use Rattle.table.specs.Numbers.{isNumber, indexOf, shownOf}
 
 -- ---- the table
 
@@ -58,6 +61,32 @@ module _ (ts : List Task) (x : Task) where
   set-beyond zero h = refl
   set-beyond (suc k) h = sym (set-out ts k x (omega arith))
 
+pub number-range : (t : ℕ) → isNumber t ≡ true → (1 ≤ t) × (t ≤ 31)
+number-range t e = (ltb-true 0 t (and-first (ltb 0 t) (leb t 31) e), leb-true t 31 (and-second (ltb 0 t) (leb t 31) e))
+
+-- what stands at the place of t is task t, where t is the number of one
+pub shown-is : (ts : List Task) (n t : ℕ) → length ts ≡ 31 → shownOf n t (getD ts (indexOf t) blank) ≡ nth (take n ts) t
+shown-is ts n t l =
+    by-bool (ltb 0 t)
+    (λ p. by-bool (leb t 31)
+    (λ r. by-bool (leb t n)
+    (λ q. rw (p, q, r) (task-in ts n t (λ z. omega (arith, ltb-true 0 t p)) (leb-true t n q)))
+    (λ q. rw (p, q, r) (task-past ts n t (leb-false t n q))))
+    (λ r. rw (p, r) (task-out ts n t (omega (arith, leb-false t 31 r, l)))))
+    (λ p. let z : t ≡ 0 = omega (arith, ltb-false 0 t p) in rw (p, z))
+
+pub shown-at : (s : Supervisor) (t at : ℕ) (x : Task) → length (s .tasks) ≡ 31 → at ≡ indexOf t → x ≡ shownOf (s .created) t (getD (s .tasks) at blank) → x ≡ taskOf (view s) t
+shown-at s t at x l e q = q ∙ ap (λ (i : ℕ). shownOf (s .created) t (getD (s .tasks) i blank)) e ∙ shown-is (s .tasks) (s .created) t l
+
+-- where t is no task's number, what stood at the place is put back
+pub put-back : (ts : List Task) (t : ℕ) (x : Task) → length ts ≡ 31 → set ts (indexOf t) (if isNumber t then x else getD ts (indexOf t) blank) ≡ setNth ts t x
+put-back ts t x l =
+    by-bool (ltb 0 t)
+    (λ p. by-bool (leb t 31)
+    (λ r. rw (p, r) (set-in ts x t (λ z. omega (arith, ltb-true 0 t p))))
+    (λ r. rw (p, r) (set-getD ts 0 blank ∙ set-beyond ts x t (omega (arith, leb-false t 31 r, l)))))
+    (λ p. let z : t ≡ 0 = omega (arith, ltb-false 0 t p) in rw (p, z) (set-getD ts 0 blank))
+
 -- ---- lines
 
 pub mapped-long : {X Y : Type 0} (f : X → Y) (l : List X) (n : ℕ) → length (map f l) ≡ n → length l ≡ n
@@ -82,9 +111,25 @@ module _ (a : List ℕ) (t : ℕ) (l : List ℕ) (long : length a ≡ 31) (e : l
   retime-due now ts d n at q f = rw (f, q, left-over a t l long e) (sym (ap pad (insert-slot (λ x. ltb (ticksLeft now (Due d)) (ticksLeft now (nth ts x .timer))) t (remove t (line a)))))
 
 pub moved-law :
-    (s : Supervisor) (t : ℕ) (p : Place) (w : Timer) (x y : Task) (b1 b2 b3 : Bool) (r c h d : List ℕ) → x ≡ taskOf (view s) t → y ≡ placed x p w → b1 ≡ isReady p → b2 ≡ isQueued p → b3 ≡ isHeld p
+    (s : Supervisor) (t : ℕ) (p : Place) (w : Timer) (at : ℕ) (x y z : Task) (b b1 b2 b3 : Bool) (r c h d : List ℕ) → length (s .tasks) ≡ 31
+    → at ≡ indexOf t → x ≡ shownOf (s .created) t (getD (s .tasks) at blank) → y ≡ placed x p w → b ≡ isNumber t → z ≡ (if b then y else getD (s .tasks) at blank)
+    → b1 ≡ isReady p → b2 ≡ isQueued p → b3 ≡ isHeld p
     → r ≡ pad (rejoin b1 t (line (s .ready))) → c ≡ pad (rejoin b2 t (line (s .callers))) → h ≡ pad (rejoin b3 t (line (s .held))) → d ≡ pad (retime (s .clock) (view s .tasks) w t (line (s .delays)))
-    → withTask (record { clock = s .clock; created = s .created; tasks = s .tasks; ready = r; callers = c; held = h; delays = d }) t y
+    → record { clock = s .clock; created = s .created; tasks = set (s .tasks) at z; ready = r; callers = c; held = h; delays = d }
     ≡ movedOf s t p w
 unfolding movedOf
-moved-law s t p w x y b1 b2 b3 r c h d ex ey e1 e2 e3 er ec eh ed = rw (er, ec, eh, ed, e1, e2, e3, ey, ex)
+moved-law s t p w at x y z b b1 b2 b3 r c h d l ea ex ey eb ez e1 e2 e3 er ec eh ed =
+    let f : z ≡ (if isNumber t then placed (taskOf (view s) t) p w else getD (s .tasks) at blank) =
+    ez ∙ ap (λ (a : Bool). if a then y else getD (s .tasks) at blank) eb
+    ∙ ap (λ (k : Task). if isNumber t then k else getD (s .tasks) at blank) (ey ∙ ap (λ (k : Task). placed k p w) (shown-at s t at x l ea ex)) in
+    let g : set (s .tasks) at z ≡ setNth (s .tasks) t (placed (taskOf (view s) t) p w) =
+    ap (set (s .tasks) at) f ∙ ap (λ (i : ℕ). set (s .tasks) i (if isNumber t then placed (taskOf (view s) t) p w else getD (s .tasks) i blank)) ea ∙ put-back (s .tasks) t (placed (taskOf (view s) t) p w) l in
+    λ i. record {
+      clock = s .clock;
+      created = s .created;
+      tasks = g i;
+      ready = (er ∙ ap (λ (a : Bool). pad (rejoin a t (line (s .ready)))) e1) i;
+      callers = (ec ∙ ap (λ (a : Bool). pad (rejoin a t (line (s .callers)))) e2) i;
+      held = (eh ∙ ap (λ (a : Bool). pad (rejoin a t (line (s .held)))) e3) i;
+      delays = ed i;
+    }

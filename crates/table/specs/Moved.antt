@@ -6,7 +6,7 @@ use mathlib.Core.List.{List, [], _∷_}
 use lib.Dec.{eqb, ltb}
 use Rattle.lists.specs.Line.{line, pad}
 use Rattle.lists.specs.Lists.{if_then_else_, rejoin}
-use Rattle.rules.specs.State.{State, setNth, taskOf, placeOf, timerOf, isReady, isQueued, isHeld, ticksLeft, retime, placed, waitsOn, holds, meeting}
+use Rattle.rules.specs.State.{State, setNth, taskOf, timerOf, isReady, isQueued, isHeld, ticksLeft, retime, placed, partnerOf, entryOf, meeting}
 use Rattle.rules.specs.declared.Place.the-variants.{Ready, Held}
 use Rattle.rules.specs.declared.Timer.the-variants.{Off}
 use Rattle.rules.specs.Step.{isDue}
@@ -54,7 +54,10 @@ abbrev pub later : Supervisor → ℕ → ℕ → Bool
 later s left x = ltb left (ticksLeft (s .clock) (timerOf (view s) x))
 
 -- the tests by which queues are picked out of lines
+abbrev pub isPicked : Task → Test → Bool
+isPicked x (QueuedOn t e) = isQueued (x .place) && eqb (partnerOf (x .place)) t && eqb (entryOf (x .place)) e
+isPicked x (HeldBy t) = isHeld (x .place) && eqb (partnerOf (x .place)) t
+isPicked x (DueAt now) = isDue now (x .timer)
+
 abbrev pub passesOf : State → Test → ℕ → Bool
-passesOf s (QueuedOn t e) c = waitsOn s t e c
-passesOf s (HeldBy t) c = holds s t c
-passesOf s (DueAt now) c = isDue now (timerOf s c)
+passesOf s q c = isPicked (taskOf s c) q

@@ -1,9 +1,10 @@
 // The running task.
 ghost use mathlib.Core.Path.{_≡_};
-ghost use Rattle.rules.specs.State.{running};
+ghost use Rattle.rules.specs.State as state;
 ghost use Rattle.rules.specs.Whole.{view};
 ghost use Rattle.table.specs.Best.{betterOf};
-use super::tasks::task_of;
+use super::tasks::index_of;
+use super::tasks::shown;
 use rules::Supervisor;
 
 // A task and its priority.
@@ -12,7 +13,8 @@ pub struct Best {
     pub priority: u8,
 }
 
-pub fn better(b: Best, t: u8, p: u8) -> Best
+// The better of one and the next: the first of the highest priority.
+fn better(b: Best, t: u8, p: u8) -> Best
     ensures { λ r. ⌜ r ≡ betterOf b t p ⌝ }
 {
     if (b.priority < p) & (p <= 15) {
@@ -26,20 +28,21 @@ pub fn better(b: Best, t: u8, p: u8) -> Best
 }
 
 // The running task: the head of the highest ready queue that is not empty, 0 where nobody is ready.
-pub fn running_of(s: Supervisor) -> u8
-    ensures { λ r. ⌜ r ≡ running (view s) ⌝ }
+pub fn running(s: Supervisor) -> u8
+    ensures { λ r. ⌜ r ≡ state.running (view s) ⌝ }
 {
-    let ready = s.ready;
     let mut b = Best {
         task: 0,
         priority: 0,
     };
     for i in 0..31 {
-        let t = ready[i];
+        let t = s.ready[i];
         if t == 0 {
             return b.task;
         }
-        let x = task_of(s, t);
+        let at = index_of(t);
+        let k = s.tasks[at];
+        let x = shown(s.created, t, k);
         b = better(b, t, x.priority);
     }
     b.task

@@ -8,25 +8,18 @@ use super::place::is_held;
 use super::place::is_queued;
 use super::place::is_ready;
 use super::place::ticks_left;
+use super::tasks::index_of;
+use super::tasks::is_number;
+use super::tasks::pick_task;
 use super::tasks::placed_at;
-use super::tasks::task_of;
-use super::tasks::with_task;
+use super::tasks::shown;
 use rules::Meeting;
 use rules::Place;
 use rules::Supervisor;
 use rules::Timer;
 
-// Whether task x has more than `left` ticks left.
-pub fn is_later(s: Supervisor, x: u8, left: u32) -> bool
-    ensures { λ r. ⌜ r ≡ later s left x ⌝ }
-{
-    let k = task_of(s, x);
-    let w = k.timer;
-    left < ticks_left(s.clock, w)
-}
-
 // The place of the first of the line that has more than `left` ticks left.
-pub fn slot(s: Supervisor, a: [u8; 31], left: u32) -> usize
+fn slot(s: Supervisor, a: [u8; 31], left: u32) -> usize
     ensures { λ r. ⌜ r ≡ slotOf (later s left) (line a) ⌝ }
 {
     for i in 0..31 {
@@ -34,7 +27,11 @@ pub fn slot(s: Supervisor, a: [u8; 31], left: u32) -> usize
         if x == 0 {
             return i;
         }
-        if is_later(s, x, left) {
+        let at = index_of(x);
+        let k = s.tasks[at];
+        let y = shown(s.created, x, k);
+        let w = y.timer;
+        if left < ticks_left(s.clock, w) {
             return i;
         }
     }
@@ -42,7 +39,7 @@ pub fn slot(s: Supervisor, a: [u8; 31], left: u32) -> usize
 }
 
 // The delay queue without t, and with t in its place if it has a time now.
-pub fn retimed(s: Supervisor, t: u8, w: Timer) -> [u8; 31]
+fn retimed(s: Supervisor, t: u8, w: Timer) -> [u8; 31]
     ensures { λ r. ⌜ r ≡ pad (retime (s .clock) (view s .tasks) w t (line (s .delays))) ⌝ }
 {
     let delays = s.delays;
@@ -60,7 +57,6 @@ pub fn retimed(s: Supervisor, t: u8, w: Timer) -> [u8; 31]
 pub fn moved(s: Supervisor, t: u8, p: Place, w: Timer) -> Supervisor
     ensures { λ r. ⌜ r ≡ movedOf s t p w ⌝ }
 {
-    let x = task_of(s, t);
     let ready = s.ready;
     let callers = s.callers;
     let held = s.held;
@@ -68,13 +64,17 @@ pub fn moved(s: Supervisor, t: u8, p: Place, w: Timer) -> Supervisor
     let callers_now = lines::rejoined(callers, t, is_queued(p));
     let held_now = lines::rejoined(held, t, is_held(p));
     let delays_now = retimed(s, t, w);
-    let y = placed_at(x, p, w);
+    let at = index_of(t);
+    let k = s.tasks[at];
+    let x = shown(s.created, t, k);
+    let y = pick_task(is_number(t), placed_at(x, p, w), k);
     let mut n = s;
     n.ready = ready_now;
     n.callers = callers_now;
     n.held = held_now;
     n.delays = delays_now;
-    with_task(n, t, y)
+    n.tasks[at] = y;
+    n
 }
 
 // A rendezvous of g with its caller c at entry e begins.

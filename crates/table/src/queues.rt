@@ -3,14 +3,16 @@ ghost use mathlib.Core.Path.{_≡_};
 ghost use Rattle.lists.specs.Line.{line, pad};
 ghost use Rattle.lists.specs.Lists.{filter};
 ghost use Rattle.rules.specs.Whole.{view};
-ghost use Rattle.table.specs.Moved.{passesOf};
+ghost use Rattle.table.specs.Moved.{isPicked, passesOf};
 use super::place::entry_of;
 use super::place::is_due;
 use super::place::is_held;
 use super::place::is_queued;
 use super::place::partner_of;
-use super::tasks::task_of;
+use super::tasks::index_of;
+use super::tasks::shown;
 use rules::Supervisor;
+use rules::Task;
 
 // What picks a queue out of a line.
 pub enum Test {
@@ -19,10 +21,10 @@ pub enum Test {
     DueAt { now: u32 },
 }
 
-pub fn passes(s: Supervisor, q: Test, c: u8) -> bool
-    ensures { λ r. ⌜ r ≡ passesOf (view s) q c ⌝ }
+// Whether a task passes.
+fn passes(x: Task, q: Test) -> bool
+    ensures { λ r. ⌜ r ≡ isPicked x q ⌝ }
 {
-    let x = task_of(s, c);
     let p = x.place;
     let w = x.timer;
     match q {
@@ -45,7 +47,10 @@ pub fn picked(s: Supervisor, a: [u8; 31], q: Test) -> [u8; 31]
         if x == 0 {
             return r;
         }
-        if passes(s, q, x) {
+        let at = index_of(x);
+        let k = s.tasks[at];
+        let y = shown(s.created, x, k);
+        if passes(y, q) {
             r[j] = x;
             j += 1;
         }

@@ -1,8 +1,11 @@
 // The table of tasks.
+ghost use Prim.Native.Nat.{_<_};
 ghost use mathlib.Core.Path.{_≡_};
+ghost use Rattle.lists.specs.Lists.{if_then_else_};
 ghost use Rattle.rules.specs.State.{blank, taskOf, fresh, placed};
 ghost use Rattle.rules.specs.Whole.{view};
 ghost use Rattle.table.specs.Moved.{withTask};
+ghost use Rattle.table.specs.Numbers.{isNumber, indexOf, shownOf};
 use rules::Place;
 use rules::Supervisor;
 use rules::Task;
@@ -42,23 +45,43 @@ pub fn placed_at(x: Task, p: Place, w: Timer) -> Task
     }
 }
 
+// Whether t is one of the numbers that tasks have.
+pub fn is_number(t: u8) -> bool
+    ensures { λ r. ⌜ r ≡ isNumber t ⌝ }
+{
+    (0 < t) & (t <= 31)
+}
+
+// Where task t stands in the table; 0 where t is no task's number.
+pub fn index_of(t: u8) -> usize
+    ensures { λ r. ⌜ (r ≡ indexOf t) × (r < 31) ⌝ }
+{
+    if is_number(t) { (t - 1) as usize } else { 0 }
+}
+
+pub fn pick_task(b: bool, x: Task, y: Task) -> Task
+    ensures { λ r. ⌜ r ≡ (if b then x else y) ⌝ }
+{
+    if b { x } else { y }
+}
+
+// Of n tasks, task t, where k is what stands at its place in the table; a blank one where t is the number of none.
+pub fn shown(n: u8, t: u8, k: Task) -> Task
+    ensures { λ r. ⌜ r ≡ shownOf n t k ⌝ }
+{
+    pick_task(is_number(t) & (t <= n), k, blank_task())
+}
+
 // Task t; a blank one where t is the number of none.
 pub fn task_of(s: Supervisor, t: u8) -> Task
     ensures { λ r. ⌜ r ≡ taskOf (view s) t ⌝ }
 {
-    if t == 0 {
-        return blank_task();
-    }
-    if t > s.created {
-        return blank_task();
-    }
-    if t > 31 {
-        return blank_task();
-    }
-    let i = (t - 1) as usize;
-    s.tasks[i]
+    let at = index_of(t);
+    let k = s.tasks[at];
+    shown(s.created, t, k)
 }
 
+// The struct with task t as x.
 pub fn with_task(s: Supervisor, t: u8, x: Task) -> Supervisor
     ensures { λ r. ⌜ r ≡ withTask s t x ⌝ }
 {

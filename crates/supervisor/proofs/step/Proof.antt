@@ -43,7 +43,7 @@ returns-3 c =
     let h = stands-here (c .before .before .before .before .before .before .before) in
     let o = takeCall (view s) (a .c) in
     by-whole _ _ (step-sound s (a .c) (length (a .room .now)) (c .before .before .before .before .before .before .before .before .before .if1 .left) q)
-    (next-is s o (c .before .before .before .before .before .take-call .result) (c .running-of .result) (kept s (a .c) h) (c .before .before .before .before .before .take-call .ensures .0) (c .running-of .ensures))
+    (next-is s o (c .before .before .before .before .before .take-call .result) (c .running .result) (kept s (a .c) h) (c .before .before .before .before .before .take-call .ensures .0) (c .running .ensures))
     (c .before .before .before .before .before .take-call .ensures .1 ∙ ap (roomAfter (a .room .now)) (ended-is s o))
 
 pub step-spec : {M : Type 1} → statement M

@@ -16,11 +16,11 @@ use Rattle.supervisor.proofs.call.call.Statement.{statement}
 use Rattle.supervisor.proofs.call.call.Tie as tie
 
 -- What is known behind each test that has been passed.
-runs-here : (c : tie.Else1) → Runs (view (c .before .before .before .args .s)) (c .before .running-of .result)
-runs-here c = runner (c .before .before .before .args .s) (c .before .running-of .result) (c .before .before .before .pre .0) (c .before .running-of .ensures) (c .if1 .left)
+runs-here : (c : tie.Else1) → Runs (view (c .before .before .before .args .s)) (c .before .running .result)
+runs-here c = runner (c .before .before .before .args .s) (c .before .running .result) (c .before .before .before .pre .0) (c .before .running .ensures) (c .if1 .left)
 
-call-here : (c : tie.Else1) → let a = c .before .before .before .args in takeCall (view (a .s)) (Call (a .g) (a .e) (a .m)) ≡ rules.call (view (a .s)) (c .before .running-of .result) (a .g) (a .e) (a .m)
-call-here c = let a = c .before .before .before .args in enter-one (view (a .s)) (c .before .running-of .result) (a .g) (a .e) (a .m) (c .before .running-of .ensures) (c .if1 .left)
+call-here : (c : tie.Else1) → let a = c .before .before .before .args in takeCall (view (a .s)) (Call (a .g) (a .e) (a .m)) ≡ rules.call (view (a .s)) (c .before .running .result) (a .g) (a .e) (a .m)
+call-here c = let a = c .before .before .before .args in enter-one (view (a .s)) (c .before .running .result) (a .g) (a .e) (a .m) (c .before .running .ensures) (c .if1 .left)
 
 task-here : (c : tie.Else2) → let a = c .before .before .before .before .before .args in isTask (view (a .s)) (a .g) ≡ true
 task-here c = let a = c .before .before .before .before .before .args in a-task (a .s) _ (a .g) (c .before .before .before .before .before .pre .0) (c .before .is-between .ensures) (c .if2 .left)
@@ -34,7 +34,7 @@ alive-here c = let a = c .before .before .before .before .before .before .before
 returns : tie.Need-returns
 returns c =
     let a = c .before .before .before .before .args in let s = a .s in
-    by-both s _ _ (enter-none (view s) (c .before .before .running-of .result) (a .g) (a .e) (a .m) (c .before .before .running-of .ensures) (c .before .if1 .taken)) (c .refused-by .ensures) refl
+    by-both s _ _ (enter-none (view s) (c .before .before .running .result) (a .g) (a .e) (a .m) (c .before .before .running .ensures) (c .before .if1 .taken)) (c .refused-by .ensures) refl
 
 returns-2 : tie.Need-returns-2
 returns-2 c =
@@ -55,7 +55,7 @@ returns-4 c =
 
 returns-5 : tie.Need-returns-5
 returns-5 c =
-    let a = c .before .before .before .before .before .before .before .before .before .before .before .before .before .before .before .before .before .before .before .args in let s = a .s in let v = view s in let t = c .before .before .before .before .before .before .before .before .before .before .before .before .before .before .before .before .before .running-of .result in
+    let a = c .before .before .before .before .before .before .before .before .before .before .before .before .before .before .before .before .before .before .before .args in let s = a .s in let v = view s in let t = c .before .before .before .before .before .before .before .before .before .before .before .before .before .before .before .before .before .running .result in
     let e4 = c .before .before .before .before .before .before .before .before .before in let e3 = e4 .before .before in let e2 = e3 .before .before .before in let e1 = e2 .before .before in
     let meets = of-task v (a .g) _ (λ x. accepts (x .place) (a .e)) _ _ (c .before .before .before .before .before .before .before .before .before .before .before .before .before .task-of .ensures) (c .before .before .before .before .before .before .before .before .accepts-at .ensures) (c .before .before .before .before .before .before .before .if5 .taken) in
     by-both s _ _ (call-here e1 ∙ call-meets v t (a .g) (a .e) (a .m) (task-here e2) (entry-here e3) (alive-here e4) meets)
@@ -67,7 +67,7 @@ call-busy-requires c κs = (c .before .before .before .before .before .before .b
 
 returns-6 : tie.Need-returns-6
 returns-6 c =
-    let a = c .before .before .before .before .before .before .before .before .before .before .before .before .before .args in let s = a .s in let v = view s in let t = c .before .before .before .before .before .before .before .before .before .before .before .running-of .result in
+    let a = c .before .before .before .before .before .before .before .before .before .before .before .before .before .args in let s = a .s in let v = view s in let t = c .before .before .before .before .before .before .before .before .before .before .before .running .result in
     let e4 = c .before .before .before in let e3 = e4 .before .before in let e2 = e3 .before .before .before in let e1 = e2 .before .before in
     let busy = of-task v (a .g) _ (λ x. accepts (x .place) (a .e)) _ _ (c .before .before .before .before .before .before .before .task-of .ensures) (c .before .before .accepts-at .ensures) (c .before .if5 .left) in
     by-both s _ _ (call-here e1 ∙ call-goes v t (a .g) (a .e) (a .m) (task-here e2) (entry-here e3) (alive-here e4) busy) (c .call-busy .ensures) (quiet-room _ (quiet-busy v t (a .g) (a .e) (a .m)))

@@ -1,0 +1,132 @@
+-- The whole check: its parts, line by line, against the rules, which go task by task.
+-- Assumes nothing.
+use Prim.Native.Nat.{ℕ, _≤_, _<_}
+use mathlib.Core.Path.{_≡_, refl, sym, ap, _∙_}
+use mathlib.Core.Bool.{Bool, true, false, _&&_}
+use mathlib.Core.List.{List, [], _∷_, _++_}
+use native.Mathlib.Omega.{arith}
+use lib.Dec.{eqb, leb}
+use lib.ListN.{length, drop}
+use lib.Seq.{length-take-le}
+use borrow.Author.Tests.{le-leb, lt-leb, leb-true}
+use Rattle.lists.specs.Line.{line, tidy}
+use Rattle.lists.specs.Lists.{bit, count, every, inOrder, downFrom}
+use Rattle.lists.proofs.ListLaws.{clash}
+use Rattle.lists.proofs.Tests.{cases}
+use Rattle.rules.specs.State.{created, isTask, taskOf}
+use Rattle.rules.specs.Sound.{standsRight, sound}
+use Rattle.rules.specs.Whole.{view, unused, soundWhole}
+use Rattle.rules.specs.declared.Supervisor.{Supervisor}
+use Rattle.soundness.specs.declared.stand.Line.{Line}
+use Rattle.soundness.specs.declared.stand.Line.the-variants.{Ready, Callers, Held, Delays}
+use Rattle.soundness.specs.Check.{named, goodIn, leftOf, ascending, belongs, arrayOf, standsIn, lineHas}
+use Rattle.soundness.proofs.LineLaws.{and-none}
+
+-- ── order: each at most the next is each at most all behind ──
+
+module _ (k : ℕ → ℕ) where
+  abbrev above : ℕ → List ℕ → Bool
+  above a l = every (λ b. leb a (k b)) l
+
+  lower : (a c : ℕ) (l : List ℕ) → a ≤ c → above c l ≡ true → above a l ≡ true
+  lower a c [] h e = refl
+  lower a c (x ∷ xs) h e =
+      cases (leb c (k x))
+      (λ y. rw (le-leb a (k x) (omega (arith, leb-true c (k x) y))) (lower a c xs h (rw y at e)))
+      (λ y. clash e (rw y))
+
+  order-is : (a : ℕ) (l : List ℕ) → ascending k a l ≡ (above a l && inOrder (λ x y. leb (k x) (k y)) l)
+  order-is a [] = refl
+  order-is a (x ∷ xs) = cases (leb a (k x)) (λ e. rw e (order-is (k x) xs ∙ step e)) (λ e. rw e)
+    where
+      i : Bool
+      i = inOrder (λ x y. leb (k x) (k y)) xs
+
+      step : leb a (k x) ≡ true → (above (k x) xs && i) ≡ (above a xs && (above (k x) xs && i))
+      step e =
+          cases (above (k x) xs)
+          (λ y. rw (y, lower a (k x) xs (leb-true a (k x) e) y))
+          (λ y. rw y (sym (and-none (above a xs))))
+
+  above-zero : (l : List ℕ) → above 0 l ≡ true
+  above-zero [] = refl
+  above-zero (x ∷ xs) = rw (le-leb 0 (k x) (omega arith)) (above-zero xs)
+
+  pub order-whole : (l : List ℕ) → ascending k 0 l ≡ inOrder (λ x y. leb (k x) (k y)) l
+  order-whole l = order-is 0 l ∙ rw (above-zero l)
+
+-- ── tests on all ──
+
+every-append : (f : ℕ → Bool) (a b : List ℕ) → every f (a ++ b) ≡ (every f a && every f b)
+every-append f [] b = refl
+every-append f (x ∷ xs) b = let ih = every-append f xs b in cases (f x) (λ e. rw (e, ih)) (λ e. rw e)
+
+every-both : (f g : ℕ → Bool) (l : List ℕ) → every (λ t. f t && g t) l ≡ (every f l && every g l)
+every-both f g [] = refl
+every-both f g (x ∷ xs) =
+    let ih = every-both f g xs in
+    cases (f x) (λ e. cases (g x) (λ y. rw (e, y, ih)) (λ y. rw (e, y) (sym (and-none (every f xs))))) (λ e. rw e)
+
+-- task t stands in the line as often as it should
+abbrev right : Supervisor → Line → ℕ → Bool
+right s l t = eqb (count t (line (arrayOf s l))) (bit (belongs l (taskOf (view s) t)))
+
+-- all that the rules ask of a task, of all tasks: first that each is good, then line by line
+stand-is : (s : Supervisor) (d : List ℕ)
+    → every (standsRight (view s)) d ≡ ((((every (goodIn (view s)) d && every (right s Ready) d) && every (right s Callers) d) && every (right s Held) d) && every (right s Delays) d)
+stand-is s d =
+    every-both (λ t. (((goodIn (view s) t && right s Ready t) && right s Callers t) && right s Held t)) (right s Delays) d
+    ∙ ap (λ (b : Bool). b && every (right s Delays) d) (every-both (λ t. ((goodIn (view s) t && right s Ready t) && right s Callers t)) (right s Held) d
+    ∙ ap (λ (b : Bool). b && every (right s Held) d) (every-both (λ t. goodIn (view s) t && right s Ready t) (right s Callers) d
+    ∙ ap (λ (b : Bool). b && every (right s Callers) d) (every-both (goodIn (view s)) (right s Ready) d)))
+
+-- ── the whole ──
+
+-- the same fourteen tests and the order, in the code's grouping and in the rules'
+regroup : (u t1 t2 t3 t4 g c1 c2 c3 c4 n1 n2 n3 n4 o : Bool)
+    → (((u && g) && ((((t1 && n1) && c1) && ((t2 && n2) && c2)) && ((t3 && n3) && c3))) && (((t4 && n4) && c4) && o))
+    ≡ (((((u && t1) && t2) && t3) && t4) && ((((((g && c1) && c2) && c3) && c4) && (((n1 && n2) && n3) && n4)) && o))
+regroup u t1 t2 t3 t4 g c1 c2 c3 c4 n1 n2 n3 n4 o = go u t1 t2 t3 t4 g c1 c2 c3 c4 n1 n2 n3 n4
+  where
+    go : (u t1 t2 t3 t4 g c1 c2 c3 c4 n1 n2 n3 n4 : Bool) → (((u && g) && ((((t1 && n1) && c1) && ((t2 && n2) && c2)) && ((t3 && n3) && c3))) && (((t4 && n4) && c4) && o)) ≡ (((((u && t1) && t2) && t3) && t4) && ((((((g && c1) && c2) && c3) && c4) && (((n1 && n2) && n3) && n4)) && o))
+    go false t1 t2 t3 t4 g c1 c2 c3 c4 n1 n2 n3 n4 = refl
+    go true false t2 t3 t4 g c1 c2 c3 c4 n1 n2 n3 n4 = simp and-none
+    go true true false t3 t4 g c1 c2 c3 c4 n1 n2 n3 n4 = simp and-none
+    go true true true false t4 g c1 c2 c3 c4 n1 n2 n3 n4 = simp and-none
+    go true true true true false g c1 c2 c3 c4 n1 n2 n3 n4 = simp and-none
+    go true true true true true false c1 c2 c3 c4 n1 n2 n3 n4 = simp and-none
+    go true true true true true true false c2 c3 c4 n1 n2 n3 n4 = simp and-none
+    go true true true true true true true false c3 c4 n1 n2 n3 n4 = simp and-none
+    go true true true true true true true true false c4 n1 n2 n3 n4 = simp and-none
+    go true true true true true true true true true false n1 n2 n3 n4 = simp and-none
+    go true true true true true true true true true true false n2 n3 n4 = simp and-none
+    go true true true true true true true true true true true false n3 n4 = simp and-none
+    go true true true true true true true true true true true true false n4 = simp and-none
+    go true true true true true true true true true true true true true false = simp and-none
+    go true true true true true true true true true true true true true true = refl
+
+pub unsound-many : (s : Supervisor) → 31 < s .created → false ≡ soundWhole s
+unsound-many s h = rw (lt-leb (s .created) 31 h)
+
+pub sound-is : (s : Supervisor) (u g l1 l2 l3 l4 o : Bool) → s .created ≤ 31 → length (s .tasks) ≡ 31
+    → u ≡ every unused (drop (s .created) (s .tasks)) → g ≡ every (goodIn (view s)) (downFrom (s .created))
+    → l1 ≡ standsIn s Ready → l2 ≡ standsIn s Callers → l3 ≡ standsIn s Held → l4 ≡ standsIn s Delays
+    → o ≡ ascending (leftOf (view s)) 0 (line (s .delays))
+    → (((u && g) && ((l1 && l2) && l3)) && (l4 && o)) ≡ soundWhole s
+unfolding sound lineHas
+sound-is s u g l1 l2 l3 l4 o h k eu eg e1 e2 e3 e4 eo =
+    let n : created (view s) ≡ s .created = length-take-le (s .created) (s .tasks) (omega arith) in
+    let f : ℕ → Bool = named (s .created) in
+    let r = line (s .ready) in let c = line (s .callers) in let d = line (s .held) in let w = line (s .delays) in
+    let all : every (isTask (view s)) (((r ++ c) ++ d) ++ w) ≡ (((every f r && every f c) && every f d) && every f w) =
+    ap (λ (m : ℕ). every (named m) (((r ++ c) ++ d) ++ w)) n
+    ∙ every-append f ((r ++ c) ++ d) w ∙ ap (λ (b : Bool). b && every f w) (every-append f (r ++ c) d ∙ ap (λ (b : Bool). b && every f d) (every-append f r c)) in
+    let t = downFrom (s .created) in
+    let stand = ap (λ (m : ℕ). every (standsRight (view s)) (downFrom m)) n ∙ stand-is s t in
+    let order = sym (order-whole (leftOf (view s)) w) in
+    let p = le-leb (s .created) 31 h in
+    let q : leb (created (view s)) 31 ≡ true = le-leb (created (view s)) 31 (omega arith) in
+    rw (eu, eg, e1, e2, e3, e4, eo, p, q, stand, all, order)
+    (regroup (every unused (drop (s .created) (s .tasks))) (tidy (s .ready)) (tidy (s .callers)) (tidy (s .held)) (tidy (s .delays))
+    (every (goodIn (view s)) t) (every (right s Ready) t) (every (right s Callers) t) (every (right s Held) t) (every (right s Delays) t)
+    (every f r) (every f c) (every f d) (every f w) (ascending (leftOf (view s)) 0 w))

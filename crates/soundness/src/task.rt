@@ -1,0 +1,104 @@
+// Tests on one task, and on the task that it has called.
+ghost use Prim.Native.Nat.{_<_};
+ghost use mathlib.Core.Path.{_≡_};
+ghost use Rattle.lists.specs.Lists.{if_then_else_};
+ghost use Rattle.rules.specs.Sound.{calls, fits, timeInRange, goodTask};
+ghost use Rattle.rules.specs.State.{blank};
+ghost use Rattle.rules.specs.Whole.{isBlank, isOff, unused};
+ghost use Rattle.soundness.specs.Check.{indexOf};
+use rules::Place;
+use rules::Task;
+use rules::Timer;
+use table::place::accepts_at;
+use table::place::has_time;
+use table::place::in_range;
+use table::place::is_between;
+use table::place::is_completed;
+use table::place::is_too_wide;
+
+// Where task t stands in the table; 0 for a number that no task has.
+pub fn index_of(t: u8) -> usize
+    ensures { λ r. ⌜ (r ≡ indexOf t) × (r < 31) ⌝ }
+{
+    if is_between(t, 31) {
+        (t - 1) as usize
+    } else {
+        0
+    }
+}
+
+fn is_blank(p: Place) -> bool
+    ensures { λ r. ⌜ r ≡ isBlank p ⌝ }
+{
+    match p {
+        Place::Blank => true,
+        Place::Ready => false,
+        Place::Delayed => false,
+        Place::Queued(_) => false,
+        Place::Held(_) => false,
+        Place::Accepting(_) => false,
+        Place::Completed => false,
+    }
+}
+
+fn is_off(w: Timer) -> bool
+    ensures { λ r. ⌜ r ≡ isOff w ⌝ }
+{
+    match w {
+        Timer::Off => true,
+        Timer::Due(_) => false,
+    }
+}
+
+pub fn is_unused(x: Task) -> bool
+    ensures { λ r. ⌜ r ≡ unused x ⌝ }
+{
+    let p = x.place;
+    let w = x.timer;
+    (x.priority == 0) & (x.entries == 0) & is_blank(p) & is_off(w)
+}
+
+// Whether e is an entry of the called task, which is g if it is there.
+fn calls_entry(there: bool, g: Task, e: u8) -> bool
+    ensures { λ r. ⌜ r ≡ calls (if there then g else blank) e ⌝ }
+{
+    let p = g.place;
+    there & ((0 < e) & (e <= g.entries) & !is_completed(p))
+}
+
+fn is_fit(me: Task, there: bool, g: Task, p: Place, w: Timer) -> bool
+    ensures { λ r. ⌜ r ≡ fits me (if there then g else blank) p w ⌝ }
+{
+    let q = g.place;
+    let timed = has_time(w);
+    match p {
+        Place::Blank => false,
+        Place::Ready => !timed,
+        Place::Delayed => timed,
+        Place::Queued(a) => calls_entry(there, g, a.entry) & !accepts_at(q, a.entry),
+        Place::Held(m) => calls_entry(there, g, m.entry) & !timed,
+        Place::Accepting(o) => !is_too_wide(o.opens, me.entries) & ((0 < o.opens) | timed),
+        Place::Completed => !timed,
+    }
+}
+
+fn is_in_time(now: u32, w: Timer) -> bool
+    ensures { λ r. ⌜ r ≡ timeInRange now w ⌝ }
+{
+    match w {
+        Timer::Off => true,
+        Timer::Due(d) => {
+            let left = std::num::wrapping_sub_u32(d, now);
+            (0 < left) & (left <= 2147483647)
+        }
+    }
+}
+
+// The task's numbers, its place and its time, where the called task is g if it is there.
+pub fn is_good(now: u32, me: Task, there: bool, g: Task) -> bool
+    ensures { λ r. ⌜ r ≡ goodTask now me (if there then g else blank) ⌝ }
+{
+    let p = me.place;
+    let w = me.timer;
+    in_range(me.priority, me.entries) & is_fit(me, there, g, p, w) & is_in_time(now, w)
+}

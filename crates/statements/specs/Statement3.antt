@@ -1,0 +1,52 @@
+-- Statement 3. Take any sequence of steps from an empty supervisor, refused steps included: soundness, every wait ended once for a
+-- named reason, a caller in rendezvous released only by its end, timed waits exact.
+-- A step here is any use of the function `step` that keeps its contract; all that is said is read off its answers and the bytes it wrote.
+-- Assumes nothing.
+use Prim.Native.Nat.{ℕ, _<_}
+use mathlib.Core.Path.{_≡_}
+use mathlib.Core.Bool.{true}
+use mathlib.Core.List.{List, [], _∷_}
+use Rattle.rules.specs.Whole.{view, soundWhole}
+use Rattle.rules.specs.Runs.{Entry, start}
+use Rattle.rules.specs.OverRuns.{WaitsCounted, EndsOnce, WereWaiting, SixReasons, FewEnds, HeldTillEnd, TimedWaits}
+use Rattle.rules.specs.Uses.{Use, Keeps, Chain, readEntry, readLog}
+use Rattle.rules.specs.declared.Supervisor.{Supervisor}
+
+-- the state that the uses reach
+abbrev pub reached : Supervisor → List Use → Supervisor
+reached s [] = s
+reached s (u ∷ us) = reached (u .gave .state) us
+
+-- a sequence of uses of `step` from an empty supervisor with its clock at n
+pub record Run (n : ℕ) : Type 0 where
+  pub clock : n < 4294967296
+  pub uses : List Use
+  pub kept : Chain (start n) uses
+
+-- the state that a run reaches, and its log
+abbrev pub stateOf : {n : ℕ} → Run n → Supervisor
+stateOf {n} run = reached (start n) (run .uses)
+
+abbrev pub logOf : {n : ℕ} → Run n → List Entry
+logOf {n} run = readLog (start n) (run .uses)
+
+pub record Statement3 : Type 0 where
+  -- "every state reached is sound"
+  pub always-sound : (n : ℕ) (run : Run n) → soundWhole (stateOf run) ≡ true
+  -- "for each task the waits begun equal the waits ended plus one if it is waiting now"
+  pub waits-counted : (n : ℕ) (run : Run n) → WaitsCounted (logOf run) (view (stateOf run))
+  -- "each ended wait ended once": then, and not again in the uses behind it before another has begun
+  pub ends-once : (n : ℕ) (run : Run n) (u : Use) → Keeps (stateOf run) u → (mid : List Use) → Chain (u .gave .state) mid
+      → EndsOnce (readEntry (stateOf run) u) (readLog (u .gave .state) mid)
+  -- what ended was a wait
+  pub were-waiting : (n : ℕ) (run : Run n) (u : Use) → Keeps (stateOf run) u → WereWaiting (readEntry (stateOf run) u)
+  -- "for one of six named reasons"
+  pub six-reasons : (n : ℕ) (run : Run n) (u : Use) → Keeps (stateOf run) u → SixReasons (readEntry (stateOf run) u)
+  -- 124 bytes of room suffice
+  pub few-ends : (n : ℕ) (run : Run n) (u : Use) → Keeps (stateOf run) u → FewEnds (readEntry (stateOf run) u)
+  -- "a caller in rendezvous is released only by the end of that rendezvous"
+  pub held-till-end : (n : ℕ) (run : Run n) (u : Use) → Keeps (stateOf run) u → HeldTillEnd (readEntry (stateOf run) u)
+  -- "a wait with a time of d ticks ends by that time at the d-th tick after it began, exactly when .."
+  pub timed-waits : (n : ℕ) (run : Run n) (u : Use) → Keeps (stateOf run) u → (mid : List Use) → Chain (u .gave .state) mid
+      → (v : Use) → Keeps (reached (u .gave .state) mid) v
+      → TimedWaits (readEntry (stateOf run) u) (readLog (u .gave .state) mid) (readEntry (reached (u .gave .state) mid) v)

@@ -1,0 +1,233 @@
+-- Laws of tables' places: one list laid over another, place by place.
+-- Assumes nothing.
+use mathlib.Core.Path.{_≡_, refl, sym, _∙_, ap}
+use Prim.Native.Nat.{ℕ, zero, suc, _+_, _-_, _<_, _≤_, min, zero-le}
+use native.Mathlib.Nat.{not-suc-le-zero, le-of-suc-le-suc}
+use native.Mathlib.Omega.{arith}
+use native.Mathlib.Numerals.{add-one}
+use mathlib.Core.Bool.{Bool, true, false, _&&_, _||_}
+use mathlib.Core.List.{List, [], _∷_, _++_, map}
+use lib.ListN.{length, getD, set, take, drop, replicate, length-map, drop-of-length-le, List·getD-eq-default}
+use lib.Seq.{take-all, set-out, drop-cons}
+use lib.Dec.{ltb}
+use borrow.Author.Tests.{ltb-true, ltb-false, lt-ltb, le-ltb}
+use Rattle.workspace.specs.declared.Stretch.{Stretch}
+use Rattle.workspace.specs.declared.Table.{Table}
+use Rattle.workspace.proofs.Basics.{cases, and-true}
+use Rattle.workspace.specs.Rules.{if_then_else_, every, none, isNone}
+use Rattle.workspace.specs.Places.{placeOf, startsBy, over, removeAt, insertAt}
+use Rattle.workspace.specs.Seen.{tableOf, noteOf}
+
+pub mapped-long : {A B : Type 0} (f : A → B) (l : List A) (n : ℕ) → length (map f l) ≡ n → length l ≡ n
+mapped-long f l n e = sym (length-map l f) ∙ e
+
+pub over-nil : {A : Type 0} (xs : List A) → over xs [] ≡ xs
+over-nil [] = refl
+over-nil (x ∷ xs) = refl
+
+pub over-length : {A : Type 0} (xs ys : List A) → length (over xs ys) ≡ length xs
+over-length [] ys = refl
+over-length (x ∷ xs) [] = refl
+over-length (x ∷ xs) (y ∷ ys) = ap suc (over-length xs ys)
+
+-- one place more is laid over
+over-suc : {A : Type 0} (xs ys : List A) (i : ℕ) (d : A) → i < length ys → set (over xs (take i ys)) i (getD ys i d) ≡ over xs (take (suc i) ys)
+over-suc xs [] i d h = absurd (not-suc-le-zero h)
+over-suc [] (y ∷ ys) i d h = refl
+over-suc (x ∷ xs) (y ∷ ys) zero d h = ap (λ (l : List _). y ∷ l) (sym (over-nil xs))
+over-suc (x ∷ xs) (y ∷ ys) (suc i) d h = ap (λ (l : List _). y ∷ l) (over-suc xs ys i d (le-of-suc-le-suc h))
+
+pub over-next : {A : Type 0} (xs ys : List A) (i : ℕ) (d : A) → i < length ys → set (over xs (take i ys)) i (getD ys i d) ≡ over xs (take (i + 1) ys)
+over-next xs ys i d h = rw add-one (over-suc xs ys i d h)
+
+pub over-none : {A : Type 0} (xs ys : List A) → over xs (take 0 ys) ≡ xs
+over-none xs ys = over-nil xs
+
+take-nil : {A : Type 0} (i : ℕ) → take {A = A} i [] ≡ []
+take-nil zero = refl
+take-nil (suc i) = refl
+
+drop-nil : {A : Type 0} (i : ℕ) → drop {A = A} i [] ≡ []
+drop-nil zero = refl
+drop-nil (suc i) = refl
+
+-- all that has a place is laid over
+over-full : {A : Type 0} (xs ys : List A) (i : ℕ) → length xs ≤ i → over xs (take i ys) ≡ over xs ys
+over-full [] ys i h = refl
+over-full {A} (x ∷ xs) [] i h = ap (over (x ∷ xs)) (take-nil {A = A} i)
+over-full (x ∷ xs) (y ∷ ys) zero h = absurd (not-suc-le-zero h)
+over-full (x ∷ xs) (y ∷ ys) (suc i) h = ap (λ (l : List _). y ∷ l) (over-full xs ys i (le-of-suc-le-suc h))
+
+pub over-all : {A : Type 0} (xs ys : List A) (i : ℕ) → min (length xs) (length ys) ≤ i → over xs (take i ys) ≡ over xs ys
+over-all xs ys i h =
+    cases (ltb i (length xs))
+    (λ e. ap (over xs) (take-all i ys (let f : i < length xs = ltb-true i (length xs) e in omega (arith, f, h))))
+    (λ e. over-full xs ys i (ltb-false i (length xs) e))
+
+-- ---- all places from the k-th on are unused
+ltb-suc : (i k : ℕ) → ltb (suc i) (suc k) ≡ ltb i k
+ltb-suc i k = cases (ltb i k)
+    (λ e. lt-ltb (suc i) (suc k) (let f : i < k = ltb-true i k e in omega (arith, f)) ∙ sym e)
+    (λ e. le-ltb (suc i) (suc k) (let f : k ≤ i = ltb-false i k e in omega (arith, f)) ∙ sym e)
+
+every-suc : {A : Type 0} (p : A → Bool) (l : List A) (i : ℕ) (d : A) → i < length l → every p (take i l) && p (getD l i d) ≡ every p (take (suc i) l)
+every-suc p [] i d h = absurd (not-suc-le-zero h)
+every-suc p (x ∷ xs) zero d h = sym (and-true (p x))
+every-suc p (x ∷ xs) (suc i) d h = cases (p x) (λ e. simp (e, every-suc p xs i d (le-of-suc-le-suc h))) (λ e. simp e)
+
+clear-suc : {A : Type 0} (p : A → Bool) (k : ℕ) (l : List A) (i : ℕ) (d : A) → i < length l → every p (drop k (take i l)) && (ltb i k || p (getD l i d)) ≡ every p (drop k (take (suc i) l))
+clear-suc p k [] i d h = absurd (not-suc-le-zero h)
+clear-suc p zero (x ∷ xs) i d h = rw (le-ltb i zero zero-le) (every-suc p (x ∷ xs) i d h)
+clear-suc {A} p (suc k) (x ∷ xs) zero d h = rw (lt-ltb 0 (suc k) (omega arith), drop-nil {A = A} k) refl
+clear-suc p (suc k) (x ∷ xs) (suc i) d h = rw (ltb-suc i k) (clear-suc p k xs i d (le-of-suc-le-suc h))
+
+clear-next : {A : Type 0} (p : A → Bool) (k : ℕ) (l : List A) (i : ℕ) (d : A) → i < length l → every p (drop k (take i l)) && (ltb i k || p (getD l i d)) ≡ every p (drop k (take (i + 1) l))
+clear-next p k l i d h = rw add-one (clear-suc p k l i d h)
+
+-- ---- a table that is loaded place by place
+pub load-none : (l : List Stretch) → tableOf [] ≡ tableOf (take 0 l)
+load-none l = refl
+
+pub load-next : (l : List Stretch) (i : ℕ) → i < length l → noteOf (tableOf (take i l)) i (getD l i none) ≡ tableOf (take (i + 1) l)
+unfolding tableOf
+load-next l i h = λ j. record { places = over-next (replicate 32 none) l i none h j; clear = clear-next isNone 32 l i none h j }
+
+pub load-all : (l : List Stretch) (i : ℕ) → length l ≤ i → tableOf (take i l) ≡ tableOf l
+load-all l i h = ap tableOf (take-all i l h)
+
+-- ---- a place is taken out
+getD-snoc : (l : List Stretch) (i : ℕ) → getD (l ++ none ∷ []) i none ≡ getD l i none
+getD-snoc [] zero = refl
+getD-snoc [] (suc i) = refl
+getD-snoc (x ∷ xs) zero = refl
+getD-snoc (x ∷ xs) (suc i) = getD-snoc xs i
+
+remove-suc : (p : ℕ) (l : List Stretch) (i : ℕ) → getD (removeAt p l) i none ≡ (if ltb i p then getD l i none else getD l (suc i) none)
+remove-suc p [] i = cases (ltb i p) (λ e. rw e refl) (λ e. rw e refl)
+remove-suc zero (x ∷ xs) i = rw (le-ltb i 0 zero-le) (getD-snoc xs i)
+remove-suc (suc p) (x ∷ xs) zero = rw (lt-ltb 0 (suc p) (omega arith)) refl
+remove-suc (suc p) (x ∷ xs) (suc i) = rw (ltb-suc i p) (remove-suc p xs i)
+
+pub remove-at : (p : ℕ) (l : List Stretch) (i : ℕ) → getD (removeAt p l) i none ≡ (if ltb i p then getD l i none else getD l (i + 1) none)
+remove-at p l i = rw add-one (remove-suc p l i)
+
+pub remove-before : (p : ℕ) (l : List Stretch) (i : ℕ) → i < p → getD (removeAt p l) i none ≡ getD l i none
+remove-before p l i h = remove-at p l i ∙ ap (λ (b : Bool). if b then getD l i none else getD l (i + 1) none) (lt-ltb i p h)
+
+pub remove-behind : (p : ℕ) (l : List Stretch) (i : ℕ) → p ≤ i → getD (removeAt p l) i none ≡ getD l (i + 1) none
+remove-behind p l i h = remove-at p l i ∙ ap (λ (b : Bool). if b then getD l i none else getD l (i + 1) none) (le-ltb i p h)
+
+snoc-length : (l : List Stretch) → length (l ++ none ∷ []) ≡ suc (length l)
+snoc-length [] = refl
+snoc-length (x ∷ xs) = ap suc (snoc-length xs)
+
+pub remove-length : (p : ℕ) (l : List Stretch) → length (removeAt p l) ≡ length l
+remove-length p [] = refl
+remove-length zero (x ∷ xs) = snoc-length xs
+remove-length (suc p) (x ∷ xs) = ap suc (remove-length p xs)
+
+-- one list laid over another of the same length is that list
+pub over-same : {A : Type 0} (xs ys : List A) → length xs ≡ length ys → over xs ys ≡ ys
+over-same [] [] e = refl
+over-same [] (y ∷ ys) e = absurd (no-suc e)
+  where
+    no-suc : {n : ℕ} → zero ≡ suc n → ⊥
+    no-suc q = omega (arith, q)
+over-same (x ∷ xs) [] e = absurd (no-suc e)
+  where
+    no-suc : {n : ℕ} → suc n ≡ zero → ⊥
+    no-suc q = omega (arith, q)
+over-same (x ∷ xs) (y ∷ ys) e = ap (λ (l : List _). y ∷ l) (over-same xs ys (suc-inj e))
+  where
+    suc-inj : {n m : ℕ} → suc n ≡ suc m → n ≡ m
+    suc-inj q = omega (arith, q)
+
+-- ---- x is put in
+pub insert-length : (p : ℕ) (x : Stretch) (l : List Stretch) → length (insertAt p x l) ≡ length l
+insert-length p x [] = refl
+insert-length zero x (y ∷ ys) = ap suc (insert-length zero y ys)
+insert-length (suc p) x (y ∷ ys) = ap suc (insert-length p x ys)
+
+insert-zero : (x : Stretch) (l : List Stretch) (i : ℕ) → suc i < length l → getD (insertAt zero x l) (suc i) none ≡ getD l i none
+insert-zero x [] i h = absurd (not-suc-le-zero h)
+insert-zero x (y ∷ []) i h = absurd (not-suc-le-zero (le-of-suc-le-suc h))
+insert-zero x (y ∷ z ∷ zs) zero h = refl
+insert-zero x (y ∷ z ∷ zs) (suc i) h = insert-zero y (z ∷ zs) i (le-of-suc-le-suc h)
+
+pub insert-before : (p : ℕ) (x : Stretch) (l : List Stretch) (i : ℕ) → i < p → getD (insertAt p x l) i none ≡ getD l i none
+insert-before p x [] i h = refl
+insert-before zero x (y ∷ ys) i h = absurd (not-suc-le-zero h)
+insert-before (suc p) x (y ∷ ys) zero h = refl
+insert-before (suc p) x (y ∷ ys) (suc i) h = insert-before p x ys i (le-of-suc-le-suc h)
+
+pub insert-here : (p : ℕ) (x : Stretch) (l : List Stretch) → p < length l → getD (insertAt p x l) p none ≡ x
+insert-here p x [] h = absurd (not-suc-le-zero h)
+insert-here zero x (y ∷ ys) h = refl
+insert-here (suc p) x (y ∷ ys) h = insert-here p x ys (le-of-suc-le-suc h)
+
+insert-suc : (p : ℕ) (x : Stretch) (l : List Stretch) (i : ℕ) → p ≤ i → suc i < length l → getD (insertAt p x l) (suc i) none ≡ getD l i none
+insert-suc p x [] i h k = absurd (not-suc-le-zero k)
+insert-suc zero x (y ∷ ys) i h k = insert-zero x (y ∷ ys) i k
+insert-suc (suc p) x (y ∷ ys) zero h k = absurd (not-suc-le-zero h)
+insert-suc (suc p) x (y ∷ ys) (suc i) h k = insert-suc p x ys i (le-of-suc-le-suc h) (le-of-suc-le-suc k)
+
+pub insert-behind : (p : ℕ) (x : Stretch) (l : List Stretch) (i : ℕ) → p < i → i < length l → getD (insertAt p x l) i none ≡ getD l (i - 1) none
+insert-behind p x l zero h k = absurd (not-suc-le-zero h)
+insert-behind p x l (suc i) h k = insert-suc p x l i (le-of-suc-le-suc h) k ∙ ap (λ (j : ℕ). getD l j none) (let e : i ≡ suc i - 1 = omega arith in e)
+
+-- ---- the places used
+pub take-in : (n : ℕ) (l : List Stretch) (i : ℕ) → i < n → getD (take n l) i none ≡ getD l i none
+take-in zero l i h = absurd (not-suc-le-zero h)
+take-in (suc n) [] i h = refl
+take-in (suc n) (x ∷ xs) zero h = refl
+take-in (suc n) (x ∷ xs) (suc i) h = take-in n xs i (le-of-suc-le-suc h)
+
+pub take-out : (n : ℕ) (l : List Stretch) (i : ℕ) → n ≤ i → getD (take n l) i none ≡ none
+take-out zero l i h = refl
+take-out (suc n) [] i h = refl
+take-out (suc n) (x ∷ xs) zero h = absurd (not-suc-le-zero h)
+take-out (suc n) (x ∷ xs) (suc i) h = take-out n xs i (le-of-suc-le-suc h)
+
+-- ---- loops that look at one place after another
+pub rest-cons : (l : List Stretch) (i : ℕ) → i < length l → drop i l ≡ getD l i none ∷ drop (i + 1) l
+rest-cons l i h = rw add-one (drop-cons l i none h)
+
+pub unused-on : (l : List Stretch) (i : ℕ) (x : Stretch) (b : Bool) → i < length l → x ≡ getD l i none → b ≡ isNone x → b ≡ true → every isNone (drop i l) ≡ every isNone (drop (i + 1) l)
+unused-on l i x b h ex eb e = ap (every isNone) (rest-cons l i h) ∙ ap (λ (c : Bool). c && every isNone (drop (i + 1) l)) (ap isNone (sym ex) ∙ sym eb ∙ e)
+
+pub unused-stop : (l : List Stretch) (i : ℕ) (x : Stretch) (b : Bool) → i < length l → x ≡ getD l i none → b ≡ isNone x → b ≡ false → every isNone (drop i l) ≡ false
+unused-stop l i x b h ex eb e = ap (every isNone) (rest-cons l i h) ∙ ap (λ (c : Bool). c && every isNone (drop (i + 1) l)) (ap isNone (sym ex) ∙ sym eb ∙ e)
+
+pub unused-end : (l : List Stretch) (i : ℕ) → length l ≤ i → every isNone (drop i l) ≡ true
+unused-end l i h = ap (every isNone) (drop-of-length-le l h)
+
+place-on : (p : Stretch → Bool) (l : List Stretch) (i : ℕ) (x : Stretch) (b : Bool) → i < length l → x ≡ getD l i none → b ≡ p x → b ≡ false → placeOf p (drop i l) ≡ suc (placeOf p (drop (i + 1) l))
+place-on p l i x b h ex eb e = ap (placeOf p) (rest-cons l i h) ∙ ap (λ (c : Bool). if c then 0 else suc (placeOf p (drop (i + 1) l))) (ap p (sym ex) ∙ sym eb ∙ e)
+
+place-here : (p : Stretch → Bool) (l : List Stretch) (i : ℕ) (x : Stretch) (b : Bool) → i < length l → x ≡ getD l i none → b ≡ p x → b ≡ true → placeOf p (drop i l) ≡ 0
+place-here p l i x b h ex eb e = ap (placeOf p) (rest-cons l i h) ∙ ap (λ (c : Bool). if c then 0 else suc (placeOf p (drop (i + 1) l))) (ap p (sym ex) ∙ sym eb ∙ e)
+
+place-end : (p : Stretch → Bool) (l : List Stretch) (i : ℕ) → length l ≤ i → placeOf p (drop i l) ≡ 0
+place-end p l i h = ap (placeOf p) (drop-of-length-le l h)
+
+-- what is seen of a table, laid over it, is the table
+pub over-own : (k : ℕ) (l : List Stretch) → over l (over (replicate k none) l) ≡ l
+over-own k [] = refl
+over-own zero (x ∷ xs) = refl
+over-own (suc k) (x ∷ xs) = ap (λ (l : List Stretch). x ∷ l) (over-own k xs)
+
+-- ---- the first-fit search, turn by turn: nothing before place i passes the test, so the rest of the search from i is the whole
+abbrev pub Passed : (Stretch → Bool) → List Stretch → ℕ → Type 0
+Passed p l i = placeOf p l ≡ i + placeOf p (drop i l)
+
+pub begin : (p : Stretch → Bool) (l : List Stretch) → Passed p l 0
+begin p l = omega arith
+
+pub pass : (p : Stretch → Bool) (l : List Stretch) (i : ℕ) (x : Stretch) (b : Bool) → i < length l → x ≡ getD l i none → b ≡ p x → b ≡ false → Passed p l i → Passed p l (i + 1)
+pass p l i x b h ex eb e q = let f : placeOf p (drop i l) ≡ suc (placeOf p (drop (i + 1) l)) = place-on p l i x b h ex eb e in omega (arith, q, f)
+
+pub found : (p : Stretch → Bool) (l : List Stretch) (i : ℕ) (x : Stretch) (b : Bool) → i < length l → x ≡ getD l i none → b ≡ p x → b ≡ true → Passed p l i → i ≡ placeOf p l
+found p l i x b h ex eb e q = let f : placeOf p (drop i l) ≡ 0 = place-here p l i x b h ex eb e in omega (arith, q, f)
+
+pub passed-all : (p : Stretch → Bool) (l : List Stretch) (i : ℕ) → length l ≤ i → Passed p l i → i ≡ placeOf p l
+passed-all p l i h q = let f : placeOf p (drop i l) ≡ 0 = place-end p l i h in omega (arith, q, f)

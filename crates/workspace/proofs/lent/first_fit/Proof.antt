@@ -1,0 +1,178 @@
+-- `workspace::first_fit` meets its contract: a walk of its MIR, by hand, with a loop.
+--     Spot, At     the loop's invariant: the search stands at place i, and nothing before it is long enough. Each turn looks into the slice and shuts it again, so that a turn begins and ends with the token and the borrow
+--     leaves       the loop is left at place i, and the rest of the body runs
+--     turns        a turn from the invariant: it goes one place on, or leaves the loop
+-- Assumes nothing.
+use Rattle.workspace.proofs.Prelude.{_≡_, refl, sym, ℕ, _+_, _-_, _*_, _≤_, _<_, _^_, zero-le, lt-of-le-of-lt, add-one-le, add-one-dec, arith, Bool, true, false, not, WellFounded, InvImage·wf, List, [], _∷_, length, getD, Nat·lt-wfRel, T, ltb, leb, ltb→lt, nltb→le, lit<, URA, fullShare, Ty, Body, named, imm, w32, w64, tyInt, tyBool, tyPtr, tyRef, skipᴹ, seq, assign, block, loop, cond, switch, exit, return, call, Val, vint, vptr, SProp, ent, emp, via, fst∗, Lft, GName, Share, Fml, ftrue, fat, froom, fdies, flft, fres, fshr-bor, Memory, Routine, Heap, Out, Env, afterSeq, afterBlock, afterTurn, Calls, Loops, Wp, atReturn, WpFn, Tables, Atoms, Fun, givenOf, tables, tablesOf, Given, Item, ‵, _⊛_, ⋆, runs, anyQ, atRet, Sq, _$_, _∵_, !, qed, by, move, keep, split, join, rewrite, fsplit, fjoin, feqI, fltI, suffices, frame, done, whole, sub, look-in, look, init, store, forget, stop, hop, fld, from, load, lit, of-opd, bin, assigns, assigns-last, first, skips, jumps, blocks, branches, returns, enter, alloc1, alloc0, params1, pass1, pass0, free1, free0, exec, Below, again, loops, arr-parts, WpFn-mono, owns, Is, shows, pointee, shares, uint-vals, uint-tells, uint-makes, usize, u32, RefT, sliceTy, sliceVal, ShrSlice, Room, slice-vals, shr-slice-tells, at-slice, codedHoleys, heres, place-is, elem-out, elem-back, looks-slice, shuts-slice, plain, nothing, owned, Vals, onEntry, Meets, tripleOf, entered, says, Stays, stay-none-slice, stay-none, walkOf, goes-none-slice, goes-none, Walks, ends-at, walked, walk-meets, yes, not-true}
+use denote.Struct.Laws as LL
+use Rattle.workspace.specs.declared.Stretch.{Stretch}
+use Rattle.workspace.specs.Rules.{none}
+use Rattle.workspace.specs.Places.{placeOf, isEnough}
+use Rattle.workspace.proofs.PlaceLaws.{Passed, begin, pass, found, passed-all}
+use Rattle.workspace.proofs.Stretch as T
+use Rattle.workspace.proofs.Stretch.Laws as T′
+use Rattle.workspace.proofs.lent.first_fit.Key.{name as #workspace·first-fit}
+use Rattle.workspace.proofs.lent.first_fit as f
+use Rattle.workspace.proofs.lent.first_fit.Statement as stated
+use Rattle.workspace.proofs.lent.first_fit.Code as code
+use Rattle.workspace.proofs.lent.first_fit.Code.Mir as text
+
+abbrev stayed : Stays (f.ended .signature .params) (f.ended .kept)
+stayed = (stay-none-slice (0 ∷ []) tt (plain (λ _. T.the-row)) yes, (stay-none (λ _. u32) yes, tt))
+
+-- ---- the code's parts
+abbrev tail : Body → Body
+tail skipᴹ = skipᴹ
+tail (seq a b) = b
+tail (assign p v) = skipᴹ
+tail (block a) = skipᴹ
+tail (loop a) = skipᴹ
+tail (cond c a b) = skipᴹ
+tail (switch c arms) = skipᴹ
+tail (exit n) = skipᴹ
+tail return = skipᴹ
+tail (call f xs d) = skipᴹ
+
+-- the turn, behind its first test and behind its second
+abbrev inside : Body
+inside = tail (tail (tail text.turn-1))
+
+abbrev onward : Body
+onward = tail (tail (tail (tail (tail inside))))
+
+abbrev word : Ty
+word = tyInt w64
+
+abbrev slice : Ty
+slice = sliceTy (tyRef (named 0) imm (pointee (T.the-row .written)))
+
+-- ---- truth values
+is : (t : Bool) → T t → t ≡ true
+is true _ = refl
+is false a = absurd a
+
+is-not : (t : Bool) → T (not t) → t ≡ false
+is-not true a = absurd a
+is-not false _ = refl
+
+-- where element i lies is a number that fits: it lies within the slice
+scaled : (n i : ℕ) → n * 8 < 2 ^ 63 → i < n → i * 8 < 2 ^ 64
+scaled n i room l = omega (arith, room, l)
+
+module _ {M : Type 1} (𝓤 : URA M) (H : Heap 𝓤) (A : Atoms 𝓤) (W : Given 𝓤 H A) (mem : Memory → SProp 𝓤) (run : Routine → Fun 𝓤) (κ : Lft) (q : Share) (b o : ℕ) (γ : GName) (ys : List Stretch) (size : ℕ) (gs : size < 2 ^ 32) (room : Room T.the-row (length ys)) where
+  abbrev n : ℕ
+  n = length ys
+
+  abbrev x : RefT (List Stretch) × (ℕ × Unit {0})
+  x = (record { ptr = (b, o); name = γ; now = ys }, (size, tt))
+
+  abbrev vals : Vals f.signature (κ, tt)
+  vals = (sliceVal (b, o) n ∷ [], (vint w32 size ∷ [], tt))
+
+  abbrev Post : Val → SProp 𝓤
+  Post = walkOf 𝓤 H A f.ended stayed (f.clauses 𝓤 H A mem run) .post (((κ, tt), (q, tt), tt, x, vals), tt)
+
+  exits : (i : ℕ) → i ≤ n → i ≡ placeOf (isEnough size) ys → ent 𝓤 (⋆ 𝓤 H A (‵ (flft κ q) ∷ ‵ (ShrSlice (named 0) κ T.the-row .own (x .0) (vals .0)) ∷ [])) (Post (vint w64 i))
+  exits i le e =
+      qed W (‵ (flft κ q) ∷ ‵ (ShrSlice (named 0) κ T.the-row .own (x .0) (vals .0)) ∷ []) ∵
+      suffices ! _ (ends-at 𝓤 H A f.ended stayed (f.clauses 𝓤 H A mem run) W (((κ, tt), (q, tt), tt, x, vals), tt) (vint w64 i) i (tt, (tt, tt)) (tt, (tt, tt))) $ says ! e $
+      nothing ! $ move ! (1 ∷ 0 ∷ []) $ join ! $ nothing ! $ owned ! u32 (Is u32) (uint-makes 𝓤 H A W w32) size _ (refl, gs) $ fjoin ! $ move ! (2 ∷ 0 ∷ []) $ fjoin ! $ move ! (1 ∷ 0 ∷ []) $
+      frame ! $ frame ! $ owned ! usize (Is usize) (uint-makes 𝓤 H A W w64) i _ (refl, lt-of-le-of-lt le (room .0)) $ done !
+
+  -- where the search stands, and the order in which it comes nearer to the end
+  abbrev Spot : Type 0
+  Spot = (i : ℕ) × (i ≤ n) × Passed (isEnough size) ys i
+
+  abbrev Nearer : Spot → Spot → Type 0
+  Nearer j i = n - j .0 < n - i .0
+
+  Nearer-wf : WellFounded Nearer
+  Nearer-wf = InvImage·wf (λ (i : Spot). n - i .0) (Nat·lt-wfRel .wf)
+
+  fits : (i : Spot) → i .0 < 2 ^ 64
+  fits i = lt-of-le-of-lt (i .1) (room .0)
+
+  next : (i : Spot) → i .0 < n → leb size (getD ys (i .0) none .length) ≡ false → Spot
+  next i l e = (i .0 + 1, add-one-le l, pass (isEnough size) ys (i .0) (getD ys (i .0) none) _ l refl refl e (i .2))
+
+  module _ (𝓣 : Tables 𝓤 H) (l₀ l₁ l₂ l₃ l₄ l₅ l₆ l₇ : ℕ) where
+    abbrev C : Calls 𝓤 H
+    C = 𝓣 .C
+
+    abbrev Λ : Loops 𝓤 H
+    Λ = 𝓣 .Λ
+
+    -- the locals: the result, table, size, i, a number, a test, the place of `table[i]`, and its length
+    abbrev En : Env 𝓤 H
+    En = (word, l₀) ∷ (slice, l₁) ∷ (tyInt w32, l₂) ∷ (word, l₃) ∷ (word, l₄) ∷ (tyBool, l₅) ∷ (tyPtr, l₆) ∷ (tyInt w32, l₇) ∷ []
+
+    -- [the token; the borrow; _7; …; _6; …; _5; …; _4; …; _3; …; _2; …; _1; …; _0; …; table's fact; res]
+    abbrev At : Spot → List (Item 𝓤)
+    At i = ‵ (flft κ q) ∷ ‵ (fshr-bor κ (λ s. arr-parts (shares T.the-row) n .part s ys b o))
+        ∷ ‵ (froom (tyInt w32) l₇ 0) ∷ ‵ (fdies (tyInt w32) l₇) ∷ ‵ (froom tyPtr l₆ 0) ∷ ‵ (fdies tyPtr l₆) ∷ ‵ (froom tyBool l₅ 0) ∷ ‵ (fdies tyBool l₅) ∷ ‵ (froom word l₄ 0) ∷ ‵ (fdies word l₄)
+        ∷ ‵ (fat fullShare word l₃ 0 (vint w64 (i .0))) ∷ ‵ (fdies word l₃) ∷ ‵ (fat fullShare (tyInt w32) l₂ 0 (vint w32 size)) ∷ ‵ (fdies (tyInt w32) l₂) ∷ ‵ (fat fullShare slice l₁ 0 (sliceVal (b, o) n)) ∷ ‵ (fdies slice l₁)
+        ∷ ‵ (froom word l₀ 0) ∷ ‵ (fdies word l₀) ∷ ‵ (at-slice T.the-row (x .0) (vals .0)) ∷ ‵ (fres γ (codedHoleys T.the-row .code (heres T.the-row ys))) ∷ []
+
+    leaves : (i : Spot) → i .0 ≡ placeOf (isEnough size) ys → ent 𝓤 (⋆ 𝓤 H A (At i)) (Wp 𝓤 H C Λ En text.t-3 (atReturn 𝓤 H En Post))
+    leaves i e =
+        qed W (At i) ∵ exec ! C Λ En text.t-3 (atRet En Post) $
+        assigns ! (of-opd ! (load ! (from ! (stop !)) (look ! 10 refl))) (from ! (stop !)) (init ! 16 refl (tt, record { fits = fits i })) $
+        returns ! (look ! 16 refl) $ forget ! 10 refl $ forget ! 12 refl $ forget ! 14 refl $ forget ! 16 refl $
+        move ! (16 ∷ 17 ∷ []) $ free1 ! $ move ! (14 ∷ 15 ∷ []) $ free1 ! $ move ! (12 ∷ 13 ∷ []) $ free1 ! $ move ! (10 ∷ 11 ∷ []) $ free1 ! $ move ! (8 ∷ 9 ∷ []) $ free1 ! $ move ! (6 ∷ 7 ∷ []) $ free1 ! $ move ! (4 ∷ 5 ∷ []) $ free1 ! $ move ! (2 ∷ 3 ∷ []) $ free1 ! $ free0 ! $
+        -- [the token; the borrow; table's fact; res]
+        move ! (3 ∷ 1 ∷ []) $ fjoin ! $ move ! (2 ∷ 0 ∷ []) $ fjoin ! $ move ! (1 ∷ 0 ∷ []) $ by ! (exits (i .0) (i .1) e)
+
+    -- a turn's postcondition: it ends nearer to the end, or the loop is left and the rest of the body runs
+    abbrev Turned : Spot → Out → SProp 𝓤
+    Turned i = afterTurn 𝓤 H (Below 𝓤 H A Nearer At i) (afterBlock 𝓤 H (afterSeq 𝓤 H (Wp 𝓤 H C Λ En text.t-3 (atReturn 𝓤 H En Post)) (atReturn 𝓤 H En Post)))
+
+    turns : (i : Spot) → Sq W (At i) (runs C Λ En text.turn-1 (anyQ (Turned i)))
+    unfolding afterTurn next
+    turns i =
+        assigns ! (of-opd ! (load ! (from ! (fld ! refl (stop !))) (look-in ! 14 (sub ! 1 refl (whole !))))) (from ! (stop !)) (init ! 8 refl (tt, record { fits = room .0 })) $
+        assigns ! (bin ! (load ! (from ! (stop !)) (look ! 10 refl)) (load ! (from ! (stop !)) (look ! 8 refl)) tt) (from ! (stop !)) (init ! 6 refl (tt, tt)) $
+        first ! $ branches ! (load ! (from ! (stop !)) (look ! 6 refl))
+        (λ less. skips ! $ exec ! C Λ En inside (anyQ (Turned i)) $
+        assigns ! (bin ! (load ! (from ! (stop !)) (look ! 10 refl)) (lit ! tt) (record { fits = scaled n (i .0) (room .1) (ltb→lt (i .0) n less) })) (from ! (stop !)) (store ! 8 refl (tt, record { fits = scaled n (i .0) (room .1) (ltb→lt (i .0) n less) })) $
+        assigns ! (bin ! (load ! (from ! (fld ! refl (stop !))) (look-in ! 14 (sub ! 0 refl (whole !)))) (load ! (from ! (stop !)) (look ! 8 refl)) tt) (from ! (stop !)) (init ! 4 refl (tt, tt)) $
+        rewrite ! 4 (λ (p : ℕ). ‵ (fat fullShare tyPtr l₆ 0 (vptr b p))) (sym (place-is 8 o (i .0))) refl $ move ! (1 ∷ 0 ∷ []) $
+        looks-slice ! tt T.the-row (Is T.the-row) (shows 𝓤 H A T.the-row) (LL.vals T.the-type T′.the-laws) (LL.tells T.the-type T′.the-laws) (LL.copy T.the-type T′.the-copy 𝓤 H A W) ys b o (λ q′.
+        elem-out ! T.the-row (Is T.the-row) (shows 𝓤 H A T.the-row) (LL.vals T.the-type T′.the-laws) (LL.tells T.the-type T′.the-laws) q′ ys (i .0) none b o (ltb→lt (i .0) n less) (λ g.
+        -- [table[i]; what it owns; the others; what shuts; the borrow; _7; …]: each local three further than in `At`
+        assigns ! (of-opd ! (load ! (from ! (hop ! (look ! 7 refl) (fld ! refl (stop !)))) (look-in ! 0 (sub ! 1 refl (whole !))))) (from ! (stop !)) (init ! 5 refl (tt, record { fits = LL.owed T.the-type T′.the-laws (getD ys (i .0) none) _ g .1 .0 .1 })) $
+        elem-back ! T.the-row q′ ys (i .0) none (LL.vals T.the-type T′.the-laws (getD ys (i .0) none)) b o (ltb→lt (i .0) n less) $ shuts-slice ! tt T.the-row q′ ys b o $
+        assigns ! (bin ! (load ! (from ! (stop !)) (look ! 12 refl)) (load ! (from ! (stop !)) (look ! 2 refl)) tt) (from ! (stop !)) (store ! 6 refl (tt, tt)) $
+        first ! $ branches ! (load ! (from ! (stop !)) (look ! 6 refl))
+        (λ long. jumps ! $ forget ! 2 refl $ forget ! 4 refl $ forget ! 6 refl $ forget ! 8 refl $ by ! (leaves i (found (isEnough size) ys (i .0) (getD ys (i .0) none) _ (ltb→lt (i .0) n less) refl refl (is _ long) (i .2))))
+        (λ short. skips ! $ exec ! C Λ En onward (anyQ (Turned i)) $
+        assigns-last ! (bin ! (load ! (from ! (stop !)) (look ! 10 refl)) (lit ! tt) (record { fits = fits (next i (ltb→lt (i .0) n less) (is-not _ short)) })) (from ! (stop !)) (store ! 10 refl (tt, record { fits = fits (next i (ltb→lt (i .0) n less) (is-not _ short)) })) $
+        forget ! 2 refl $ forget ! 4 refl $ forget ! 6 refl $ forget ! 8 refl $ again ! Nearer At i (next i (ltb→lt (i .0) n less) (is-not _ short)) (add-one-dec n (i .0) (ltb→lt (i .0) n less))))))
+        (λ done. jumps ! $ forget ! 6 refl $ forget ! 8 refl $ by ! (leaves i (passed-all (isEnough size) ys (i .0) (nltb→le (i .0) n done) (i .2))))
+
+  walk : (𝓣 : Tables 𝓤 H) → ent 𝓤 (onEntry 𝓤 H A f.signature (κ, tt) (q, tt) x vals) (WpFn 𝓤 H (𝓣 .C) (𝓣 .Λ) code.function (sliceVal (b, o) n ∷ vint w32 size ∷ []) Post)
+  walk 𝓣 =
+      qed W ((‵ (flft κ q) ⊛ ‵ ftrue) ∷ ‵ (owns (ShrSlice (named 0) κ T.the-row ∷ u32 ∷ []) x vals) ∷ []) ∵ enter ! (𝓣 .C) (𝓣 .Λ) code.function (sliceVal (b, o) n ∷ vint w32 size ∷ []) _ $
+      alloc1 ! (λ l₀. alloc1 ! (λ l₁. alloc1 ! (λ l₂. alloc1 ! (λ l₃. alloc1 ! (λ l₄. alloc1 ! (λ l₅. alloc1 ! (λ l₆. alloc1 ! (λ l₇. alloc0 ! $ params1 ! $
+      pass1 ! (init ! 12 refl (tt, (tt, (record { fits = room .0 }, tt)))) $ pass1 ! (init ! 10 refl (tt, record { fits = gs })) $ pass0 ! $
+      assigns ! (of-opd ! (lit ! tt)) (from ! (stop !)) (init ! 8 refl (tt, record { fits = lit< tt })) $
+      move ! (17 ∷ []) $ fsplit ! $ fsplit ! $ move ! (1 ∷ []) $ fsplit ! $ move ! (20 ∷ []) $ split ! $
+      -- [the token; true; res; the borrow; table's fact; size's; _7; …]
+      keep ! (0 ∷ 3 ∷ 6 ∷ 7 ∷ 8 ∷ 9 ∷ 10 ∷ 11 ∷ 12 ∷ 13 ∷ 14 ∷ 15 ∷ 16 ∷ 17 ∷ 18 ∷ 19 ∷ 20 ∷ 21 ∷ 4 ∷ 2 ∷ []) $
+      first ! $ blocks ! $ loops ! 𝓣 Nearer Nearer-wf (At 𝓣 l₀ l₁ l₂ l₃ l₄ l₅ l₆ l₇) (turns 𝓣 l₀ l₁ l₂ l₃ l₄ l₅ l₆ l₇) (0, zero-le, begin (isEnough size) ys)))))))))
+
+module _ {M : Type 1} (𝓤 : URA M) (H : Heap 𝓤) (A : Atoms 𝓤) (W : Given 𝓤 H A) (mem : Memory → SProp 𝓤) (run : Routine → Fun 𝓤) where
+  first-fit-walks : (𝓣 : Tables 𝓤 H) → Walks 𝓤 H A f.ended stayed (WpFn 𝓤 H (𝓣 .C) (𝓣 .Λ) code.function) (f.clauses 𝓤 H A mem run)
+  first-fit-walks 𝓣 = walked 𝓤 H A f.ended stayed (f.clauses 𝓤 H A mem run) (WpFn 𝓤 H (𝓣 .C) (𝓣 .Λ) code.function) (λ κs. (slice-vals, (uint-vals w32, tt))) (λ κs. (shr-slice-tells (named 0) (κs .0) T.the-row, (uint-tells w32, tt)))
+      (λ κs qs bounds a g are. via 𝓤 _ (fst∗ 𝓤 _ (emp 𝓤))
+      (walk 𝓤 H A W mem run (κs .0) (qs .0) (a .0 .ptr .0) (a .0 .ptr .1) (a .0 .name) (a .0 .now) (a .1 .0) (are .1 .0 .1) (are .0 .0 .1) 𝓣))
+
+first-fit-meets : {M : Type 1} (𝓤 : URA M) (H : Heap 𝓤) (A : Atoms 𝓤) → Given 𝓤 H A → (mem : Memory → SProp 𝓤) (run : Routine → Fun 𝓤) (𝓣 : Tables 𝓤 H)
+    → Meets 𝓤 H A f.signature (WpFn 𝓤 H (𝓣 .C) (𝓣 .Λ) code.function) (f.spec 𝓤 H A mem run)
+first-fit-meets 𝓤 H A W mem run 𝓣 = walk-meets 𝓤 H A f.ended stayed W (goes-none-slice 𝓤 H A W 1 (0 ∷ []) tt (plain (λ _. T.the-row)) yes, (goes-none 𝓤 H A W 1 (λ _. u32) yes (λ κs x f. refl), tt)) (f.clauses 𝓤 H A mem run) (WpFn 𝓤 H (𝓣 .C) (𝓣 .Λ) code.function) (WpFn-mono 𝓤 H (W .laws) 𝓣 code.function) (first-fit-walks 𝓤 H A W mem run 𝓣)
+
+pub first-fit-spec : {M : Type 1} → stated.statement M
+unfolding code.routine tablesOf
+first-fit-spec 𝓤 H 𝓜 𝓖 𝓡 =
+    entered 𝓤 H (tripleOf 𝓤 H (𝓖 .A) f.signature (f.spec 𝓤 H (𝓖 .A) (𝓜 .mem) (𝓡 .run)))
+    (tables 𝓤 H 𝓜 𝓡 code.env .C) (tables 𝓤 H 𝓜 𝓡 code.env .Λ) #workspace·first-fit code.function (code.unfolded 𝓤 H 𝓜 𝓡)
+    (first-fit-meets 𝓤 H (𝓖 .A) (givenOf 𝓤 H 𝓜 𝓖) (𝓜 .mem) (𝓡 .run) (tablesOf 𝓤 H 𝓜 (tables 𝓤 H 𝓜 𝓡 code.env)))

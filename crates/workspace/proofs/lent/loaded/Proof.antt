@@ -1,0 +1,237 @@
+-- `workspace::loaded` meets its contract: a walk of its MIR, by hand, with a loop that calls a covered function at each turn.
+--     empty-of, noted-of     what the two callees' contracts say
+--     Spot, At     the loop's invariant: i places are seen. Each turn looks into the slice and shuts it again, so that a turn begins and ends with the token and the borrow
+--     leaves       the loop is left, and the rest of the body runs.        turns      a turn from the invariant
+-- Assumes nothing.
+use Rattle.workspace.proofs.Prelude.{_≡_, refl, sym, _∙_, ap, subst, ℕ, _+_, _-_, _≤_, _<_, _^_, zero-le, lt-of-le-of-lt, add-one-le, add-one-dec, WellFounded, InvImage·wf, List, [], _∷_, length, getD, take, Nat·lt-wfRel, T, ltb, ltb→lt, nltb→le, lit<, URA, fullShare, Ty, Body, named, imm, w64, tyInt, tyBool, tyPtr, tyRef, Val, vint, vptr, SProp, ent, emp, id⊢, via, fst∗, snd∗, exE, Lft, GName, Share, ftrue, fat, froom, fdies, flft, fres, fshr-bor, Memory, Routine, Heap, Out, Env, afterSeq, afterBlock, afterTurn, Calls, Loops, Wp, atReturn, WpFn, Tables, Atoms, sem, Fun, fact, givenOf, tables, tablesOf, Given, Item, raw, _⊛_, ⋆, some, later, runs, anyQ, atRet, Sq, _$_, _∵_, !, qed, by, move, keep, drop, use0, use1, pick, await, split, join, rewrite, fsplit, fjoin, suffices, frame, done, whole, sub, look-in, look, look-raw, init, store, forget, stop, hop, fld, from, load, lit, of-opd, bin, and-then, no-more, assigns, assigns-last, land, first, skips, jumps, blocks, branches, returns, enter, alloc1, alloc0, params1, pass1, pass0, free1, free0, exec, Below, again, loops, arr-parts, FmC, fmOf, WpFn-mono, owns, Is, shows, pointee, shares, uint-makes, usize, RefT, sliceTy, sliceVal, ShrSlice, Room, slice-vals, shr-slice-tells, at-slice, codedHoleys, heres, place-is, elem-out, elem-back, looks-slice, shuts-slice, plain, only, nothing, owned, facts, heard, Vals, onEntry, Meets, tripleOf, Contract, Triple, calls-at, ensured, lasts, entered, cited, says, Stays, stay-none-slice, walkOf, goes-none-slice, Walks, ends-at, walked, walk-meets, yes, ‵}
+use denote.Struct.Laws as LL
+use Rattle.workspace.specs.declared.Stretch.{Stretch}
+use Rattle.workspace.specs.declared.Table.{Table}
+use Rattle.workspace.specs.Rules.{none}
+use Rattle.workspace.specs.Seen.{tableOf, noteOf}
+use Rattle.workspace.proofs.PlaceLaws.{load-none, load-next, load-all}
+use Rattle.workspace.proofs.Walks.{tail, scaled}
+use Rattle.workspace.proofs.Stretch as T
+use Rattle.workspace.proofs.Stretch.Laws as T′
+use Rattle.workspace.proofs.Table as U
+use Rattle.workspace.proofs.Table.Laws as U′
+use Rattle.workspace.proofs.lent.empty as empty
+use Rattle.workspace.proofs.lent.empty.Symbol as empty-def
+use Rattle.workspace.proofs.lent.empty.Symbol.{name as #workspace·empty}
+use Rattle.workspace.proofs.lent.empty.Met as empty-thm
+use Rattle.workspace.proofs.lent.noted as noted
+use Rattle.workspace.proofs.lent.noted.Symbol as noted-def
+use Rattle.workspace.proofs.lent.noted.Symbol.{name as #workspace·noted}
+use Rattle.workspace.proofs.lent.noted.Met as noted-thm
+use Rattle.workspace.proofs.lent.loaded.Key.{name as #workspace·loaded}
+use Rattle.workspace.proofs.lent.loaded as f
+use Rattle.workspace.proofs.lent.loaded.Statement as stated
+use Rattle.workspace.proofs.lent.loaded.Code as code
+use Rattle.workspace.proofs.lent.loaded.Code.Mir as text
+
+abbrev stayed : Stays (f.ended .signature .params) (f.ended .kept)
+stayed = (stay-none-slice (0 ∷ []) tt (plain (λ _. T.the-row)) yes, tt)
+
+-- the turn, behind its test
+abbrev inside : Body
+inside = tail (tail (tail text.turn-1))
+
+abbrev word : Ty
+word = tyInt w64
+
+abbrev slice : Ty
+slice = sliceTy (tyRef (named 0) imm (pointee (T.the-row .written)))
+
+-- a stretch's and a table's machine value, and that it is one
+abbrev low : Stretch → Val
+low s = LL.val T.the-type T′.the-laws s
+
+abbrev seen : Table → Val
+seen t = LL.val U.the-type U′.the-laws t
+
+abbrev Seen : Table → Type 0
+Seen t = Is U.the-row t (seen t ∷ [])
+
+-- ---- the contracts that the proof cites
+module _ {M : Type 1} (𝓤 : URA M) (H : Heap 𝓤) (A : Atoms 𝓤) (mem : Memory → SProp 𝓤) (run : Routine → Fun 𝓤) where
+  abbrev Empty : Contract 𝓤
+  Empty = tripleOf 𝓤 H A empty.signature (empty.spec 𝓤 H A mem run)
+
+  abbrev Noted : Contract 𝓤
+  Noted = tripleOf 𝓤 H A noted.signature (noted.spec 𝓤 H A mem run)
+
+  empty-of : (r : Table) → ent 𝓤 (ensured 𝓤 H A empty.ended (empty.clauses 𝓤 H A mem run) tt tt tt r) (fact 𝓤 (r ≡ tableOf []))
+  empty-of r = exE 𝓤 _ (λ ws. snd∗ 𝓤 (sem 𝓤 H A (lasts empty.ended tt tt ws)) (fact 𝓤 (r ≡ tableOf [])))
+
+  noted-of : (t : Table) (i : ℕ) (x : Stretch) (r : Table) → ent 𝓤 (ensured 𝓤 H A noted.ended (noted.clauses 𝓤 H A mem run) tt (t, (i, (x, tt))) tt r) (fact 𝓤 (r ≡ noteOf t i x))
+  noted-of t i x r = exE 𝓤 _ (λ ws. snd∗ 𝓤 (sem 𝓤 H A (lasts noted.ended tt (t, (i, (x, tt))) ws)) (fact 𝓤 (r ≡ noteOf t i x)))
+
+  abbrev to-empty : Empty .Ghost
+  to-empty = ((tt, tt, tt, tt, tt), tt)
+
+  abbrev to-noted : Table → ℕ → Stretch → Noted .Ghost
+  to-noted t i x = ((tt, tt, tt, (t, (i, (x, tt))), (seen t ∷ [], (vint w64 i ∷ [], (low x ∷ [], tt)))), tt)
+
+module _ {M : Type 1} (𝓤 : URA M) (H : Heap 𝓤) (A : Atoms 𝓤) (W : Given 𝓤 H A) (mem : Memory → SProp 𝓤) (run : Routine → Fun 𝓤) where
+  asks-empty : ent 𝓤 (emp 𝓤) (Empty 𝓤 H A mem run .pre (to-empty 𝓤 H A mem run))
+  asks-empty = qed W [] ∵ nothing ! $ nothing ! $ join ! $ frame ! $ done !
+
+  asks-noted : (t : Table) (i : ℕ) (x : Stretch) → Seen t → i < 2 ^ 64 → Is T.the-row x (low x ∷ []) → ent 𝓤 (emp 𝓤) (Noted 𝓤 H A mem run .pre (to-noted 𝓤 H A mem run t i x))
+  asks-noted t i x gt gi gx =
+      qed W [] ∵ nothing ! $ owned ! T.the-row (Is T.the-row) (LL.makes T.the-type T′.the-plain 𝓤 H A) x _ gx $ fjoin ! $ owned ! usize (Is usize) (uint-makes 𝓤 H A W w64) i _ (refl, gi) $ fjoin ! $
+      owned ! U.the-row (Is U.the-row) (LL.makes U.the-type U′.the-plain 𝓤 H A) t _ gt $ fjoin ! $ nothing ! $ join ! $ frame ! $ done !
+
+module _ {M : Type 1} (𝓤 : URA M) (H : Heap 𝓤) (A : Atoms 𝓤) (W : Given 𝓤 H A) (mem : Memory → SProp 𝓤) (run : Routine → Fun 𝓤) (κ : Lft) (q : Share) (b o : ℕ) (γ : GName) (ys : List Stretch) (room : Room T.the-row (length ys)) where
+  abbrev n : ℕ
+  n = length ys
+
+  abbrev x : RefT (List Stretch) × Unit {0}
+  x = (record { ptr = (b, o); name = γ; now = ys }, tt)
+
+  abbrev vals : Vals f.signature (κ, tt)
+  vals = (sliceVal (b, o) n ∷ [], tt)
+
+  abbrev Post : Val → SProp 𝓤
+  Post = walkOf 𝓤 H A f.ended stayed (f.clauses 𝓤 H A mem run) .post (((κ, tt), (q, tt), tt, x, vals), tt)
+
+  exits : (t : Table) → Seen t → t ≡ tableOf ys → ent 𝓤 (⋆ 𝓤 H A (‵ (flft κ q) ∷ ‵ (ShrSlice (named 0) κ T.the-row .own (x .0) (vals .0)) ∷ [])) (Post (seen t))
+  exits t gt e =
+      qed W (‵ (flft κ q) ∷ ‵ (ShrSlice (named 0) κ T.the-row .own (x .0) (vals .0)) ∷ []) ∵
+      suffices ! _ (ends-at 𝓤 H A f.ended stayed (f.clauses 𝓤 H A mem run) W (((κ, tt), (q, tt), tt, x, vals), tt) (seen t) t (tt, tt) (tt, tt)) $ says ! e $
+      nothing ! $ move ! (1 ∷ 0 ∷ []) $ join ! $ nothing ! $ move ! (2 ∷ 0 ∷ []) $ fjoin ! $ move ! (1 ∷ 0 ∷ []) $
+      frame ! $ frame ! $ owned ! U.the-row (Is U.the-row) (LL.makes U.the-type U′.the-plain 𝓤 H A) t _ gt $ done !
+
+  -- what is seen of the first i places
+  abbrev upto : ℕ → Table
+  upto i = tableOf (take i ys)
+
+  abbrev Spot : Type 0
+  Spot = (i : ℕ) × (i ≤ n) × Seen (upto i)
+
+  abbrev Nearer : Spot → Spot → Type 0
+  Nearer j i = n - j .0 < n - i .0
+
+  Nearer-wf : WellFounded Nearer
+  Nearer-wf = InvImage·wf (λ (i : Spot). n - i .0) (Nat·lt-wfRel .wf)
+
+  module _ (𝓣 : Tables 𝓤 H) (fm : FmC 𝓤 H (W .laws) (𝓣 .C)) (known : Triple 𝓤 (𝓣 .C #workspace·noted) (Noted 𝓤 H A mem run)) (l₀ l₁ l₂ l₃ l₄ l₅ l₆ l₇ : ℕ) where
+    abbrev C : Calls 𝓤 H
+    C = 𝓣 .C
+
+    abbrev Λ : Loops 𝓤 H
+    Λ = 𝓣 .Λ
+
+    -- the locals: the result, table, t, i, a number, the test, the place of `table[i]`, and what is read there
+    abbrev En : Env 𝓤 H
+    En = (U′.mir, l₀) ∷ (slice, l₁) ∷ (U′.mir, l₂) ∷ (word, l₃) ∷ (word, l₄) ∷ (tyBool, l₅) ∷ (tyPtr, l₆) ∷ (T′.mir, l₇) ∷ []
+
+    -- [the token; the borrow; _7; …; _6; …; _5; …; _4; …; _3; …; _2; …; _1; …; _0; …; table's fact; res]
+    abbrev At : Spot → List (Item 𝓤)
+    At i = ‵ (flft κ q) ∷ ‵ (fshr-bor κ (λ s. arr-parts (shares T.the-row) n .part s ys b o))
+        ∷ ‵ (froom T′.mir l₇ 0) ∷ ‵ (fdies T′.mir l₇) ∷ ‵ (froom tyPtr l₆ 0) ∷ ‵ (fdies tyPtr l₆) ∷ ‵ (froom tyBool l₅ 0) ∷ ‵ (fdies tyBool l₅) ∷ ‵ (froom word l₄ 0) ∷ ‵ (fdies word l₄)
+        ∷ ‵ (fat fullShare word l₃ 0 (vint w64 (i .0))) ∷ ‵ (fdies word l₃) ∷ ‵ (fat fullShare U′.mir l₂ 0 (seen (upto (i .0)))) ∷ ‵ (fdies U′.mir l₂) ∷ ‵ (fat fullShare slice l₁ 0 (sliceVal (b, o) n)) ∷ ‵ (fdies slice l₁)
+        ∷ ‵ (froom U′.mir l₀ 0) ∷ ‵ (fdies U′.mir l₀) ∷ ‵ (at-slice T.the-row (x .0) (vals .0)) ∷ ‵ (fres γ (codedHoleys T.the-row .code (heres T.the-row ys))) ∷ []
+
+    leaves : (i : Spot) → n ≤ i .0 → ent 𝓤 (⋆ 𝓤 H A (At i)) (Wp 𝓤 H C Λ En text.t-4 (atReturn 𝓤 H En Post))
+    leaves i all =
+        qed W (At i) ∵ exec ! C Λ En text.t-4 (atRet En Post) $
+        assigns ! (of-opd ! (load ! (from ! (stop !)) (look ! 12 refl))) (from ! (stop !)) (init ! 16 refl (LL.lawful U.the-type U′.the-laws 𝓤 H A W .typed (upto (i .0)) _ (i .2) .0)) $
+        returns ! (look ! 16 refl) $ forget ! 10 refl $ forget ! 12 refl $ forget ! 14 refl $ forget ! 16 refl $
+        move ! (16 ∷ 17 ∷ []) $ free1 ! $ move ! (14 ∷ 15 ∷ []) $ free1 ! $ move ! (12 ∷ 13 ∷ []) $ free1 ! $ move ! (10 ∷ 11 ∷ []) $ free1 ! $ move ! (8 ∷ 9 ∷ []) $ free1 ! $ move ! (6 ∷ 7 ∷ []) $ free1 ! $ move ! (4 ∷ 5 ∷ []) $ free1 ! $ move ! (2 ∷ 3 ∷ []) $ free1 ! $ free0 ! $
+        -- [the token; the borrow; table's fact; res]
+        move ! (3 ∷ 1 ∷ []) $ fjoin ! $ move ! (2 ∷ 0 ∷ []) $ fjoin ! $ move ! (1 ∷ 0 ∷ []) $ by ! (exits (upto (i .0)) (i .2) (load-all ys (i .0) all))
+
+    -- a turn's postcondition: it ends nearer to the end, or the loop is left and the rest of the body runs
+    abbrev Turned : Spot → Out → SProp 𝓤
+    Turned i = afterTurn 𝓤 H (Below 𝓤 H A Nearer At i) (afterBlock 𝓤 H (afterSeq 𝓤 H (Wp 𝓤 H C Λ En text.t-4 (atReturn 𝓤 H En Post)) (atReturn 𝓤 H En Post)))
+
+    turns : (i : Spot) → Sq W (At i) (runs C Λ En text.turn-1 (anyQ (Turned i)))
+    unfolding afterTurn
+    turns i =
+        assigns ! (of-opd ! (load ! (from ! (fld ! refl (stop !))) (look-in ! 14 (sub ! 1 refl (whole !))))) (from ! (stop !)) (init ! 8 refl (tt, record { fits = room .0 })) $
+        assigns ! (bin ! (load ! (from ! (stop !)) (look ! 10 refl)) (load ! (from ! (stop !)) (look ! 8 refl)) tt) (from ! (stop !)) (init ! 6 refl (tt, tt)) $
+        first ! $ branches ! (load ! (from ! (stop !)) (look ! 6 refl))
+        (λ less. skips ! $ exec ! C Λ En inside (anyQ (Turned i)) $
+        assigns ! (bin ! (load ! (from ! (stop !)) (look ! 10 refl)) (lit ! tt) (record { fits = scaled n (i .0) (room .1) (ltb→lt (i .0) n less) })) (from ! (stop !)) (store ! 8 refl (tt, record { fits = scaled n (i .0) (room .1) (ltb→lt (i .0) n less) })) $
+        assigns ! (bin ! (load ! (from ! (fld ! refl (stop !))) (look-in ! 14 (sub ! 0 refl (whole !)))) (load ! (from ! (stop !)) (look ! 8 refl)) tt) (from ! (stop !)) (init ! 4 refl (tt, tt)) $
+        rewrite ! 4 (λ (p : ℕ). ‵ (fat fullShare tyPtr l₆ 0 (vptr b p))) (sym (place-is 8 o (i .0))) refl $ move ! (1 ∷ 0 ∷ []) $
+        looks-slice ! tt T.the-row (Is T.the-row) (shows 𝓤 H A T.the-row) (LL.vals T.the-type T′.the-laws) (LL.tells T.the-type T′.the-laws) (LL.copy T.the-type T′.the-copy 𝓤 H A W) ys b o (λ q′.
+        elem-out ! T.the-row (Is T.the-row) (shows 𝓤 H A T.the-row) (LL.vals T.the-type T′.the-laws) (LL.tells T.the-type T′.the-laws) q′ ys (i .0) none b o (ltb→lt (i .0) n less) (λ g.
+        -- [table[i]; what it owns; the others; what shuts; the borrow; _7; …]: each local three further than in `At`
+        assigns ! (of-opd ! (load ! (from ! (hop ! (look ! 7 refl) (stop !))) (look-raw ! 0 refl))) (from ! (stop !)) (init ! 5 refl (LL.lawful T.the-type T′.the-laws 𝓤 H A W .typed (getD ys (i .0) none) _ g .0)) $
+        elem-back ! T.the-row q′ ys (i .0) none (low (getD ys (i .0) none) ∷ []) b o (ltb→lt (i .0) n less) $ shuts-slice ! tt T.the-row q′ ys b o $
+        use0 W (raw (Noted 𝓤 H A mem run .pre (to-noted 𝓤 H A mem run (upto (i .0)) (i .0) (getD ys (i .0) none)))) (asks-noted 𝓤 H A W mem run (upto (i .0)) (i .0) (getD ys (i .0) none) (i .2) (fits i) g) $
+        calls-at ! fm (Noted 𝓤 H A mem run) known (to-noted 𝓤 H A mem run (upto (i .0)) (i .0) (getD ys (i .0) none)) (and-then ! (load ! (from ! (stop !)) (look ! 13 refl)) (and-then ! (load ! (from ! (stop !)) (look ! 11 refl)) (and-then ! (load ! (from ! (stop !)) (look ! 3 refl)) (no-more !)))) (λ v.
+        use1 W (later (some (λ (r : Table). (‵ ftrue ⊛ ‵ (U.the-row .own r (v ∷ []))) ⊛ raw (ensured 𝓤 H A noted.ended (noted.clauses 𝓤 H A mem run) tt (upto (i .0), (i .0, (getD ys (i .0) none, tt))) tt r)))) (id⊢ 𝓤 _) $ await ! tt $ pick ! (λ r.
+        split ! $ move ! (1 ∷ []) $ use1 W (raw (fact 𝓤 (r ≡ noteOf (upto (i .0)) (i .0) (getD ys (i .0) none)))) (noted-of 𝓤 H A mem run (upto (i .0)) (i .0) (getD ys (i .0) none) r) $ heard ! (r ≡ noteOf (upto (i .0)) (i .0) (getD ys (i .0) none)) (λ e. split ! $ drop ! $
+        facts ! U.the-row (Is U.the-row) (shows 𝓤 H A U.the-row) r (v ∷ []) (λ is.
+        land ! (from ! (stop !)) (store ! 12 refl (LL.lawful U.the-type U′.the-laws 𝓤 H A W .typed r _ is .0)) $
+        rewrite ! 12 (λ (u : Val). ‵ (fat fullShare U′.mir l₂ 0 u)) (turned i (ltb→lt (i .0) n less) r v e is .0) refl $
+        assigns-last ! (bin ! (load ! (from ! (stop !)) (look ! 10 refl)) (lit ! tt) (record { fits = fits (next less r v e is) })) (from ! (stop !)) (store ! 10 refl (tt, record { fits = fits (next less r v e is) })) $
+        forget ! 2 refl $ forget ! 4 refl $ forget ! 6 refl $ forget ! 8 refl $ again ! Nearer At i (next less r v e is) (add-one-dec n (i .0) (ltb→lt (i .0) n less)))))))))
+        (λ over. jumps ! $ forget ! 6 refl $ forget ! 8 refl $ by ! (leaves i (nltb→le (i .0) n over)))
+      where
+        fits : (j : Spot) → j .0 < 2 ^ 64
+        fits j = lt-of-le-of-lt (j .1) (room .0)
+
+        -- what the call gave is what is seen of one place more
+        turned : (j : Spot) → j .0 < n → (r : Table) (v : Val) → r ≡ noteOf (upto (j .0)) (j .0) (getD ys (j .0) none) → Is U.the-row r (v ∷ []) → (v ≡ seen (upto (j .0 + 1))) × Seen (upto (j .0 + 1))
+        turned j l r v e is =
+            let same : r ≡ upto (j .0 + 1) = e ∙ load-next ys (j .0) l in
+            let told : v ≡ seen r = ap only (LL.tells U.the-type U′.the-laws r (v ∷ []) is) in
+            (told ∙ ap seen same, subst Seen same (subst (λ (u : Val). Is U.the-row r (u ∷ [])) told is))
+
+        next : T (ltb (i .0) n) → (r : Table) (v : Val) → r ≡ noteOf (upto (i .0)) (i .0) (getD ys (i .0) none) → Is U.the-row r (v ∷ []) → Spot
+        next less r v e is = (i .0 + 1, add-one-le (ltb→lt (i .0) n less), turned i (ltb→lt (i .0) n less) r v e is .1)
+
+    -- [_7; …; _6; …; _5; …; _4; …; _3; …; _2; …; _1; …; _0; …; the token; what table owns]: the body, once the parameter is in its local
+    abbrev Entered : List (Item 𝓤)
+    Entered = ‵ (froom T′.mir l₇ 0) ∷ ‵ (fdies T′.mir l₇) ∷ ‵ (froom tyPtr l₆ 0) ∷ ‵ (fdies tyPtr l₆) ∷ ‵ (froom tyBool l₅ 0) ∷ ‵ (fdies tyBool l₅) ∷ ‵ (froom word l₄ 0) ∷ ‵ (fdies word l₄)
+        ∷ ‵ (froom word l₃ 0) ∷ ‵ (fdies word l₃) ∷ ‵ (froom U′.mir l₂ 0) ∷ ‵ (fdies U′.mir l₂) ∷ ‵ (fat fullShare slice l₁ 0 (sliceVal (b, o) n)) ∷ ‵ (fdies slice l₁)
+        ∷ ‵ (froom U′.mir l₀ 0) ∷ ‵ (fdies U′.mir l₀) ∷ (‵ (flft κ q) ⊛ ‵ ftrue) ∷ ‵ (owns (ShrSlice (named 0) κ T.the-row ∷ []) x vals) ∷ []
+
+    begins : Triple 𝓤 (𝓣 .C #workspace·empty) (Empty 𝓤 H A mem run) → Sq W Entered (runs C Λ En text.t-1 (atRet En Post))
+    begins known-empty =
+        use0 W (raw (Empty 𝓤 H A mem run .pre (to-empty 𝓤 H A mem run))) (asks-empty 𝓤 H A W mem run) $
+        calls-at ! fm (Empty 𝓤 H A mem run) known-empty (to-empty 𝓤 H A mem run) (no-more !) (λ v.
+        use1 W (later (some (λ (r : Table). (‵ ftrue ⊛ ‵ (U.the-row .own r (v ∷ []))) ⊛ raw (ensured 𝓤 H A empty.ended (empty.clauses 𝓤 H A mem run) tt tt tt r)))) (id⊢ 𝓤 _) $ await ! tt $ pick ! (λ r.
+        split ! $ move ! (1 ∷ []) $ use1 W (raw (fact 𝓤 (r ≡ tableOf []))) (empty-of 𝓤 H A mem run r) $ heard ! (r ≡ tableOf []) (λ e. split ! $ drop ! $
+        facts ! U.the-row (Is U.the-row) (shows 𝓤 H A U.the-row) r (v ∷ []) (λ is.
+        land ! (from ! (stop !)) (init ! 10 refl (LL.lawful U.the-type U′.the-laws 𝓤 H A W .typed r _ is .0)) $ rewrite ! 10 (λ (u : Val). ‵ (fat fullShare U′.mir l₂ 0 u)) (began r v e is .0) refl $
+        assigns ! (of-opd ! (lit ! tt)) (from ! (stop !)) (init ! 8 refl (tt, record { fits = lit< tt })) $
+        move ! (17 ∷ []) $ fsplit ! $ fsplit ! $ move ! (1 ∷ []) $ fsplit ! $ move ! (20 ∷ []) $ split ! $
+        -- [the token; true; res; the borrow; table's fact; true; _7; …]
+        keep ! (0 ∷ 3 ∷ 6 ∷ 7 ∷ 8 ∷ 9 ∷ 10 ∷ 11 ∷ 12 ∷ 13 ∷ 14 ∷ 15 ∷ 16 ∷ 17 ∷ 18 ∷ 19 ∷ 20 ∷ 21 ∷ 4 ∷ 2 ∷ []) $
+        first ! $ blocks ! $ loops ! 𝓣 Nearer Nearer-wf At turns (0, zero-le, began r v e is .1)))))
+      where
+        began : (r : Table) (v : Val) → r ≡ tableOf [] → Is U.the-row r (v ∷ []) → (v ≡ seen (upto 0)) × Seen (upto 0)
+        began r v e is =
+            let same : r ≡ upto 0 = e ∙ load-none ys in
+            let told : v ≡ seen r = ap only (LL.tells U.the-type U′.the-laws r (v ∷ []) is) in
+            (told ∙ ap seen same, subst Seen same (subst (λ (u : Val). Is U.the-row r (u ∷ [])) told is))
+
+  walk : (𝓣 : Tables 𝓤 H) (fm : FmC 𝓤 H (W .laws) (𝓣 .C)) → Triple 𝓤 (𝓣 .C #workspace·empty) (Empty 𝓤 H A mem run) → Triple 𝓤 (𝓣 .C #workspace·noted) (Noted 𝓤 H A mem run)
+      → ent 𝓤 (onEntry 𝓤 H A f.signature (κ, tt) (q, tt) x vals) (WpFn 𝓤 H (𝓣 .C) (𝓣 .Λ) code.function (sliceVal (b, o) n ∷ []) Post)
+  walk 𝓣 fm known-empty known-noted =
+      qed W ((‵ (flft κ q) ⊛ ‵ ftrue) ∷ ‵ (owns (ShrSlice (named 0) κ T.the-row ∷ []) x vals) ∷ []) ∵ enter ! (𝓣 .C) (𝓣 .Λ) code.function (sliceVal (b, o) n ∷ []) _ $
+      alloc1 ! (λ l₀. alloc1 ! (λ l₁. alloc1 ! (λ l₂. alloc1 ! (λ l₃. alloc1 ! (λ l₄. alloc1 ! (λ l₅. alloc1 ! (λ l₆. alloc1 ! (λ l₇. alloc0 ! $ params1 ! $
+      pass1 ! (init ! 12 refl (tt, (tt, (record { fits = room .0 }, tt)))) $ pass0 ! $ begins 𝓣 fm known-noted l₀ l₁ l₂ l₃ l₄ l₅ l₆ l₇ known-empty))))))))
+
+module _ {M : Type 1} (𝓤 : URA M) (H : Heap 𝓤) (A : Atoms 𝓤) (W : Given 𝓤 H A) (mem : Memory → SProp 𝓤) (run : Routine → Fun 𝓤) where
+  loaded-walks : (𝓣 : Tables 𝓤 H) → Triple 𝓤 (𝓣 .C #workspace·empty) (Empty 𝓤 H A mem run) → Triple 𝓤 (𝓣 .C #workspace·noted) (Noted 𝓤 H A mem run) → Walks 𝓤 H A f.ended stayed (WpFn 𝓤 H (𝓣 .C) (𝓣 .Λ) code.function) (f.clauses 𝓤 H A mem run)
+  loaded-walks 𝓣 known-empty known-noted = walked 𝓤 H A f.ended stayed (f.clauses 𝓤 H A mem run) (WpFn 𝓤 H (𝓣 .C) (𝓣 .Λ) code.function) (λ κs. (slice-vals, tt)) (λ κs. (shr-slice-tells (named 0) (κs .0) T.the-row, tt))
+      (λ κs qs bounds a g are. via 𝓤 _ (fst∗ 𝓤 _ (emp 𝓤))
+      (walk 𝓤 H A W mem run (κs .0) (qs .0) (a .0 .ptr .0) (a .0 .ptr .1) (a .0 .name) (a .0 .now) (are .0 .0 .1) 𝓣 (fmOf 𝓤 H (W .laws) 𝓣) known-empty known-noted))
+
+loaded-meets : {M : Type 1} (𝓤 : URA M) (H : Heap 𝓤) (A : Atoms 𝓤) → Given 𝓤 H A → (mem : Memory → SProp 𝓤) (run : Routine → Fun 𝓤) (𝓣 : Tables 𝓤 H) → Triple 𝓤 (𝓣 .C #workspace·empty) (Empty 𝓤 H A mem run) → Triple 𝓤 (𝓣 .C #workspace·noted) (Noted 𝓤 H A mem run)
+    → Meets 𝓤 H A f.signature (WpFn 𝓤 H (𝓣 .C) (𝓣 .Λ) code.function) (f.spec 𝓤 H A mem run)
+loaded-meets 𝓤 H A W mem run 𝓣 known-empty known-noted = walk-meets 𝓤 H A f.ended stayed W (goes-none-slice 𝓤 H A W 1 (0 ∷ []) tt (plain (λ _. T.the-row)) yes, tt) (f.clauses 𝓤 H A mem run) (WpFn 𝓤 H (𝓣 .C) (𝓣 .Λ) code.function) (WpFn-mono 𝓤 H (W .laws) 𝓣 code.function) (loaded-walks 𝓤 H A W mem run 𝓣 known-empty known-noted)
+
+pub loaded-spec : {M : Type 1} → stated.statement M
+unfolding code.routine tablesOf
+loaded-spec 𝓤 H 𝓜 𝓖 𝓡 =
+    entered 𝓤 H (tripleOf 𝓤 H (𝓖 .A) f.signature (f.spec 𝓤 H (𝓖 .A) (𝓜 .mem) (𝓡 .run)))
+    (tables 𝓤 H 𝓜 𝓡 code.env .C) (tables 𝓤 H 𝓜 𝓡 code.env .Λ) #workspace·loaded code.function (code.unfolded 𝓤 H 𝓜 𝓡)
+    (loaded-meets 𝓤 H (𝓖 .A) (givenOf 𝓤 H 𝓜 𝓖) (𝓜 .mem) (𝓡 .run) (tablesOf 𝓤 H 𝓜 (tables 𝓤 H 𝓜 𝓡 code.env))
+    (cited 𝓤 H (Empty 𝓤 H (𝓖 .A) (𝓜 .mem) (𝓡 .run)) 𝓜 𝓡 code.env #workspace·empty empty-def.routine code.calls-workspace·lent·empty (empty-thm.met 𝓤 H 𝓜 𝓖 𝓡))
+    (cited 𝓤 H (Noted 𝓤 H (𝓖 .A) (𝓜 .mem) (𝓡 .run)) 𝓜 𝓡 code.env #workspace·noted noted-def.routine code.calls-workspace·lent·noted (noted-thm.met 𝓤 H 𝓜 𝓖 𝓡)))

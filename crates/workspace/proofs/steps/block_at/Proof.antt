@@ -1,0 +1,9 @@
+use borrow.Author.Needs.{needs}
+use Rattle.workspace.proofs.steps.block_at.Statement.{statement}
+use Rattle.workspace.proofs.steps.block_at.Tie as tie
+
+returns : tie.Need-returns
+returns c = cc
+
+pub block-at-spec : {M : Type 1} → statement M
+block-at-spec = tie.close (tie.spec (λ c κs. search needs) (λ c κs. search needs) returns)

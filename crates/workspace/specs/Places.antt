@@ -1,0 +1,38 @@
+-- What the inner functions over 32 places promise: searches, and places that are set, taken out and put in. No public contract cites this.
+use Prim.Native.Nat.{ℕ, zero, suc}
+use mathlib.Core.Bool.{Bool, true, false}
+use mathlib.Core.List.{List, [], _∷_, _++_}
+use lib.Dec.{leb, ltb, eqb}
+use Rattle.workspace.specs.declared.Stretch.{Stretch}
+use Rattle.workspace.specs.Rules.{if_then_else_, none}
+
+-- the place of the first stretch that passes the test; the number of places where none does
+abbrev pub placeOf : (Stretch → Bool) → List Stretch → ℕ
+placeOf f [] = 0
+placeOf f (s ∷ ss) = if f s then 0 else suc (placeOf f ss)
+
+-- has n units
+abbrev pub isEnough : ℕ → Stretch → Bool
+isEnough n s = leb n (s .length)
+
+-- starts at a (exact), or behind it
+abbrev pub startsBy : Bool → ℕ → Stretch → Bool
+startsBy exact a s = if exact then eqb (s .start) a else ltb a (s .start)
+
+-- the second list laid over the first, from its start; what is behind it stays, and what has no place is left out
+abbrev pub over : {A : Type 0} → List A → List A → List A
+over [] ys = []
+over (x ∷ xs) [] = x ∷ xs
+over (x ∷ xs) (y ∷ ys) = y ∷ over xs ys
+
+-- the place p is taken out, those behind it move up, and the last is unused
+abbrev pub removeAt : ℕ → List Stretch → List Stretch
+removeAt p [] = []
+removeAt zero (x ∷ xs) = xs ++ none ∷ []
+removeAt (suc p) (x ∷ xs) = x ∷ removeAt p xs
+
+-- x is put in at the place p, those from p on move down, and the last is left out
+abbrev pub insertAt : ℕ → Stretch → List Stretch → List Stretch
+insertAt p x [] = []
+insertAt zero x (y ∷ ys) = x ∷ insertAt zero y ys
+insertAt (suc p) x (y ∷ ys) = y ∷ insertAt p x ys

@@ -1,0 +1,35 @@
+-- What is seen of a lent table, and what is written to it. No public contract cites this.
+use Prim.Native.Nat.{ℕ}
+use mathlib.Core.Bool.{Bool, _&&_, _||_}
+use mathlib.Core.List.{List}
+use lib.ListN.{length, getD, set, drop, replicate}
+use lib.Dec.{ltb}
+use Rattle.workspace.specs.declared.Stretch.{Stretch}
+use Rattle.workspace.specs.declared.Table.{Table}
+use Rattle.workspace.specs.declared.Look.{Look}
+use Rattle.workspace.specs.Rules.{if_then_else_, every, none, isNone}
+use Rattle.workspace.specs.Places.{placeOf, isEnough, over}
+
+-- its first 32 places, and whether all places behind them are unused
+unfoldable pub tableOf : List Stretch → Table
+tableOf l = record { places = over (replicate 32 none) l; clear = every isNone (drop 32 l) }
+
+-- x is seen at place i
+abbrev pub noteOf : Table → ℕ → Stretch → Table
+noteOf t i x = record { places = set (t .places) i x; clear = t .clear && (ltb i 32 || isNone x) }
+
+-- what is to stand at place i, where x stands
+abbrev pub placeAfter : Table → ℕ → Stretch → Stretch
+placeAfter t i x = if ltb i 32 then getD (t .places) i none else (if t .clear then none else x)
+
+-- the 32 places are written to a table; those behind become unused, or stay if they were not
+unfoldable pub laid : Table → List Stretch → List Stretch
+laid t l = over (if t .clear then replicate (length l) none else l) (t .places)
+
+-- the parts of what is seen
+abbrev pub seenAs : Table → Table → ℕ → ℕ → ℕ → Look
+seenAs b f m n place = record { blocks = b; free = f; places = record { blocks = m; free = n }; place = place }
+
+-- what is seen of two lent tables, and the place of the first free stretch of n units
+unfoldable pub lookOf : List Stretch → List Stretch → ℕ → Look
+lookOf b f n = seenAs (tableOf b) (tableOf f) (length b) (length f) (placeOf (isEnough n) f)

@@ -1,0 +1,123 @@
+// The lent tables: searched, read, and written. These functions go over the lent slices themselves.
+use crate::Done;
+use crate::Look;
+use crate::Stretch;
+use crate::Table;
+use crate::Used;
+use crate::picks::pick_stretch;
+use crate::places::is_none;
+use crate::places::nth;
+use crate::places::with_at;
+ghost use mathlib.Core.Path.{_≡_};
+ghost use mathlib.Core.List.{[]};
+ghost use Rattle.workspace.specs.Places.{placeOf, isEnough};
+ghost use Rattle.workspace.specs.Seen.{tableOf, noteOf, placeAfter, laid, seenAs, lookOf};
+
+// The place of the first stretch that has at least `size` units; the number of places where there is none.
+pub fn first_fit(table: &[Stretch], size: u32) -> usize
+    ensures { λ r. ⌜ r ≡ placeOf (isEnough size) (now (table .entry)) ⌝ }
+{
+    let mut i = 0;
+    while i < table.len() {
+        if size <= table[i].length {
+            break;
+        }
+        i += 1;
+    }
+    i
+}
+
+// Nothing is seen yet.
+pub fn empty() -> Table
+    ensures { λ r. ⌜ r ≡ tableOf [] ⌝ }
+{
+    let none = Stretch {
+        start: 0,
+        length: 0,
+    };
+    let places = [none; 32];
+    Table {
+        places,
+        clear: true,
+    }
+}
+
+// x is seen at place i.
+pub fn noted(t: Table, i: usize, x: Stretch) -> Table
+    ensures { λ r. ⌜ r ≡ noteOf t i x ⌝ }
+{
+    let old = t.places;
+    let places = with_at(old, i, x);
+    let unused = is_none(x);
+    let clear = t.clear & ((i < 32) | unused);
+    Table { places, clear }
+}
+
+// What is seen of a table.
+pub fn loaded(table: &[Stretch]) -> Table
+    ensures { λ r. ⌜ r ≡ tableOf (now (table .entry)) ⌝ }
+{
+    let mut t = empty();
+    let mut i = 0;
+    while i < table.len() {
+        t = noted(t, i, table[i]);
+        i += 1;
+    }
+    t
+}
+
+// What is to stand at place i, where x stands.
+pub fn place_after(t: Table, i: usize, x: Stretch) -> Stretch
+    ensures { λ r. ⌜ r ≡ placeAfter t i x ⌝ }
+{
+    let places = t.places;
+    let noted = nth(places, i);
+    let none = Stretch {
+        start: 0,
+        length: 0,
+    };
+    let rest = pick_stretch(t.clear, none, x);
+    pick_stretch(i < 32, noted, rest)
+}
+
+// Writes each place of a table.
+pub fn stored(table: &mut [Stretch], t: Table)
+    ensures { λ _. ⌜ now (table .exit) ≡ laid t (now (table .entry)) ⌝ }
+{
+    let mut i = 0;
+    while i < table.len() {
+        table[i] = place_after(t, i, table[i]);
+        i += 1;
+    }
+}
+
+// The parts of what is seen.
+pub fn seen_as(b: Table, f: Table, m: usize, n: usize, place: usize) -> Look
+    ensures { λ r. ⌜ r ≡ seenAs b f m n place ⌝ }
+{
+    let places = Used { blocks: m, free: n };
+    Look {
+        blocks: b,
+        free: f,
+        places,
+        place,
+    }
+}
+
+// What is seen of both tables.
+pub fn look_at(blocks: &[Stretch], free: &[Stretch], size: u32) -> Look
+    ensures { λ r. ⌜ r ≡ lookOf (now (blocks .entry)) (now (free .entry)) size ⌝ }
+{
+    let b = loaded(blocks);
+    let f = loaded(free);
+    let place = first_fit(free, size);
+    seen_as(b, f, blocks.len(), free.len(), place)
+}
+
+// Writes each place of both tables.
+pub fn write_back(blocks: &mut [Stretch], free: &mut [Stretch], done: Done)
+    ensures { λ _. ⌜ (now (blocks .exit) ≡ laid (done .blocks) (now (blocks .entry))) × (now (free .exit) ≡ laid (done .free) (now (free .entry))) ⌝ }
+{
+    stored(blocks, done.blocks);
+    stored(free, done.free);
+}

@@ -1,0 +1,102 @@
+// Workspaces for tasks: a storage package over an area of 65,536 units.
+//
+// The caller lends two tables, of at least 31 places for blocks and at least 32 for free stretches, and keeps the number of places
+// used in each, as the last answer gave it. The rules that both tables keep, and what each operation does, are in specs/.
+mod lent; // lent.rt: the lent tables, searched, read and written
+mod places; // places.rt: 32 places by value: searched, set, taken out, put in
+mod rules; // rules.rt: the check that two tables keep the rules
+mod steps; // steps.rt: what each operation does to the places
+mod picks; // picks.rt: one of two values, and small sums
+
+use lent::look_at;
+use lent::write_back;
+use steps::made;
+use steps::released;
+use steps::requested;
+ghost use mathlib.Core.Path.{_≡_};
+ghost use Rattle.workspace.specs.Operations.{freshOf, requestOf, releaseOf, blocksAfter, freeAfter, answerOf, unused};
+
+// `length` units from `start` on; an unused place of a table is 0 and 0.
+pub struct Stretch {
+    pub start: u32,
+    pub length: u32,
+}
+
+// The number of places used in the table of blocks and in the table of free stretches.
+pub struct Used {
+    pub blocks: usize,
+    pub free: usize,
+}
+
+// The refusal number or 0; the start of the block requested or the length of the one released; and the places used from now on.
+pub struct Answer {
+    pub refusal: u8,
+    pub value: u32,
+    pub used: Used,
+}
+
+// What is seen of a lent table: its first 32 places, and whether all places behind them are unused.
+struct Table {
+    places: [Stretch; 32],
+    clear: bool,
+}
+
+// What is seen of the two lent tables, how many places each has, and the place of the first free stretch that is long enough.
+struct Look {
+    blocks: Table,
+    free: Table,
+    places: Used,
+    place: usize,
+}
+
+// What is to be written to the two tables, and the answer.
+struct Done {
+    blocks: Table,
+    free: Table,
+    answer: Answer,
+}
+
+// How far the check has come: the unit reached, the places passed in each table, and whether the last stretch was free.
+struct Reach {
+    at: u64,
+    i: usize,
+    j: usize,
+    after: bool,
+    stuck: bool,
+}
+
+// Makes a fresh area of the two tables, whatever they hold.
+pub fn fresh(blocks: &mut [Stretch], free: &mut [Stretch]) -> Answer
+    ensures { λ r. ⌜ (r ≡ answerOf unused (freshOf (now (blocks .entry)) (now (free .entry))))
+        × (now (blocks .exit) ≡ blocksAfter (now (blocks .entry)) (freshOf (now (blocks .entry)) (now (free .entry))))
+        × (now (free .exit) ≡ freeAfter (now (free .entry)) (freshOf (now (blocks .entry)) (now (free .entry)))) ⌝ }
+{
+    let seen = look_at(blocks, free, 0);
+    let done = made(seen);
+    write_back(blocks, free, done);
+    done.answer
+}
+
+// Takes a block of `size` units off the front of the first free stretch that is long enough.
+pub fn request(blocks: &mut [Stretch], free: &mut [Stretch], used: Used, size: u32) -> Answer
+    ensures { λ r. ⌜ (r ≡ answerOf used (requestOf (now (blocks .entry)) (now (free .entry)) used size))
+        × (now (blocks .exit) ≡ blocksAfter (now (blocks .entry)) (requestOf (now (blocks .entry)) (now (free .entry)) used size))
+        × (now (free .exit) ≡ freeAfter (now (free .entry)) (requestOf (now (blocks .entry)) (now (free .entry)) used size)) ⌝ }
+{
+    let seen = look_at(blocks, free, size);
+    let done = requested(seen, used, size);
+    write_back(blocks, free, done);
+    done.answer
+}
+
+// Gives the block that starts at `start` back, and joins its units with free neighbours.
+pub fn release(blocks: &mut [Stretch], free: &mut [Stretch], used: Used, start: u32) -> Answer
+    ensures { λ r. ⌜ (r ≡ answerOf used (releaseOf (now (blocks .entry)) (now (free .entry)) used start))
+        × (now (blocks .exit) ≡ blocksAfter (now (blocks .entry)) (releaseOf (now (blocks .entry)) (now (free .entry)) used start))
+        × (now (free .exit) ≡ freeAfter (now (free .entry)) (releaseOf (now (blocks .entry)) (now (free .entry)) used start)) ⌝ }
+{
+    let seen = look_at(blocks, free, 0);
+    let done = released(seen, used, start);
+    write_back(blocks, free, done);
+    done.answer
+}

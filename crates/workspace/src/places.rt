@@ -1,0 +1,152 @@
+// Tables of 32 places by value: searched, set, taken out and put in.
+use crate::Stretch;
+use crate::picks::pick_bool;
+use crate::picks::wide;
+ghost use mathlib.Core.Path.{_≡_};
+ghost use Prim.Native.Nat.{_<_, _≤_};
+ghost use lib.ListN.{getD, set, take, drop};
+ghost use Rattle.workspace.specs.Rules.{every, none, isNone, end};
+ghost use Rattle.workspace.specs.Places.{placeOf, startsBy, removeAt, insertAt};
+
+pub fn is_none(x: Stretch) -> bool
+    ensures { λ r. ⌜ r ≡ isNone x ⌝ }
+{
+    (x.start == 0) & (x.length == 0)
+}
+
+// The first unit behind x.
+pub fn end_of(x: Stretch) -> u64
+    ensures { λ r. ⌜ r ≡ end x ⌝ }
+{
+    wide(x.start) + wide(x.length)
+}
+
+// Starts at s (exact), or behind it.
+pub fn starts_by(exact: bool, s: u32, x: Stretch) -> bool
+    ensures { λ r. ⌜ r ≡ startsBy exact s x ⌝ }
+{
+    pick_bool(exact, x.start == s, s < x.start)
+}
+
+// The places with x at i; the same where there is no place i.
+pub fn with_at(a: [Stretch; 32], i: usize, x: Stretch) -> [Stretch; 32]
+    ensures { λ r. ⌜ r ≡ set a i x ⌝ }
+{
+    let mut r = a;
+    if i < 32 {
+        r[i] = x;
+        r
+    } else {
+        r
+    }
+}
+
+// What stands at place i; an unused place where there is none.
+pub fn nth(a: [Stretch; 32], i: usize) -> Stretch
+    ensures { λ r. ⌜ r ≡ getD a i none ⌝ }
+{
+    if i < 32 {
+        a[i]
+    } else {
+        Stretch {
+            start: 0,
+            length: 0,
+        }
+    }
+}
+
+// What stands at place i of the n places used; an unused place behind them.
+pub fn used_at(a: [Stretch; 32], n: usize, i: usize) -> Stretch
+    ensures { λ r. ⌜ r ≡ getD (take n a) i none ⌝ }
+{
+    if i < n {
+        nth(a, i)
+    } else {
+        Stretch {
+            start: 0,
+            length: 0,
+        }
+    }
+}
+
+// The place of the first of the n places used that starts at s (exact), or behind it; n where there is none.
+pub fn place_of(a: [Stretch; 32], n: usize, exact: bool, s: u32) -> usize
+    requires { ⌜ n ≤ 32 ⌝ }
+    ensures { λ r. ⌜ r ≡ placeOf (startsBy exact s) (take n a) ⌝ }
+{
+    let mut i = 0;
+    while i < n {
+        let x = nth(a, i);
+        let found = starts_by(exact, s, x);
+        if found {
+            return i;
+        }
+        i += 1;
+    }
+    i
+}
+
+// All places from n on are unused.
+pub fn all_none(a: [Stretch; 32], n: usize) -> bool
+    ensures { λ r. ⌜ r ≡ every isNone (drop n a) ⌝ }
+{
+    let mut i = n;
+    while i < 32 {
+        let x = nth(a, i);
+        let unused = is_none(x);
+        if unused {
+            i += 1;
+        } else {
+            return false;
+        }
+    }
+    true
+}
+
+// What stands at place i once the place p is taken out.
+pub fn behind(a: [Stretch; 32], p: usize, i: usize) -> Stretch
+    requires { ⌜ i < 32 ⌝ }
+    ensures { λ r. ⌜ r ≡ getD (removeAt p a) i none ⌝ }
+{
+    if i < p { nth(a, i) } else { nth(a, i + 1) }
+}
+
+// The places without the one at p: those behind it move up.
+pub fn closed(a: [Stretch; 32], p: usize) -> [Stretch; 32]
+    ensures { λ r. ⌜ r ≡ removeAt p a ⌝ }
+{
+    let mut r = a;
+    let mut i = 0;
+    while i < 32 {
+        let x = behind(a, p, i);
+        r[i] = x;
+        i += 1;
+    }
+    r
+}
+
+// What stands at place i once x is put in at place p.
+pub fn put_in(a: [Stretch; 32], p: usize, x: Stretch, i: usize) -> Stretch
+    requires { ⌜ i < 32 ⌝ }
+    ensures { λ r. ⌜ r ≡ getD (insertAt p x a) i none ⌝ }
+{
+    if i < p {
+        nth(a, i)
+    } else {
+        if p < i { nth(a, i - 1) } else { x }
+    }
+}
+
+// The places with x put in at p: those from p on move down, and the last is left out.
+pub fn opened(a: [Stretch; 32], p: usize, x: Stretch) -> [Stretch; 32]
+    ensures { λ r. ⌜ r ≡ insertAt p x a ⌝ }
+{
+    let mut r = a;
+    let mut i = 0;
+    while i < 32 {
+        let y = put_in(a, p, x, i);
+        r[i] = y;
+        i += 1;
+    }
+    r
+}

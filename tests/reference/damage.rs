@@ -1,0 +1,215 @@
+//! States for the soundness test: reached ones, put-together ones that no log reaches, and damage to both.
+
+use crate::calls;
+use crate::flat::{self, tag, Flat, Line, ALL_LINES, CREATED, FIRST_TASK, LINES, STATE, TASK};
+use crate::forge;
+use crate::generate;
+use crate::numbers::{ROOM, TASKS};
+use crate::random::Random;
+use crate::supervisor::Supervisor;
+
+/// `count` states of 439 bytes, about a quarter of them as they were, the others damaged.
+pub fn states(seed: u64, count: usize) -> Vec<Vec<u8>> {
+    let mut random = Random::new(seed);
+    let mut found = Vec::new();
+    while found.len() < count {
+        let log_seed = random.next();
+        for log in generate::generate(log_seed, 8, 120) {
+            let mut state = Supervisor::empty(log.clock);
+            let mut room = [0; ROOM];
+            for record in log.records().0 {
+                if let calls::Read::Good(call, _) = calls::read(record) {
+                    state.step(&call, &mut room);
+                }
+                if random.once_in(6) {
+                    found.push(one(&mut random, &state));
+                }
+            }
+        }
+    }
+    found.truncate(count);
+    found
+}
+
+/// A state, from a reached one or put together, damaged or not.
+fn one(random: &mut Random, reached: &Supervisor) -> Vec<u8> {
+    let mut bytes = match random.once_in(2) {
+        true => flat::write(reached),
+        false => forge::state(random),
+    };
+    match random.below(15) {
+        0..=3 => {}
+        4 | 5 => one_byte(random, &mut bytes),
+        6 | 7 => one_field(random, &mut bytes),
+        8 | 9 => one_line(random, &mut bytes),
+        10..=12 => one_relation(random, &mut bytes),
+        13 => (0..1 + random.below(3)).for_each(|_| one_field(random, &mut bytes)),
+        _ => (0..1 + random.below(STATE)).for_each(|_| one_byte(random, &mut bytes)),
+    }
+    bytes
+}
+
+/// Another value for one byte: a step up or down, one bit, the ends, or anything.
+fn one_byte(random: &mut Random, bytes: &mut [u8]) {
+    let at = random.below(STATE);
+    bytes[at] = other_value(random, bytes[at]);
+}
+
+fn other_value(random: &mut Random, value: u8) -> u8 {
+    match random.below(6) {
+        0 => value.wrapping_add(1),
+        1 => value.wrapping_sub(1),
+        2 => value ^ 1 << random.below(8),
+        3 => 0,
+        4 => 255,
+        _ => random.below(40) as u8,
+    }
+}
+
+/// The bytes of some created task, if there is one.
+fn some_task<'a>(random: &mut Random, bytes: &'a mut [u8]) -> Option<&'a mut [u8]> {
+    let created = (bytes[CREATED] as usize).min(TASKS);
+    if created == 0 {
+        return None;
+    }
+    let at = FIRST_TASK + random.below(created) * TASK;
+    Some(&mut bytes[at..at + TASK])
+}
+
+/// One field gets another value of its own kind.
+fn one_field(random: &mut Random, bytes: &mut [u8]) {
+    let clock = Flat(bytes).clock();
+    match random.below(12) {
+        0 => bytes[CREATED] = other_value(random, bytes[CREATED]),
+        1 => {
+            let ticks = random.one_of(&[1, 2, 3, u32::MAX, 1 << 31, i32::MAX as u32]);
+            bytes[..4].copy_from_slice(&clock.wrapping_add(ticks).to_be_bytes());
+        }
+        _ => {
+            let field = random.below(8);
+            if let Some(task) = some_task(random, bytes) {
+                task_field(random, task, field, clock);
+            }
+        }
+    }
+}
+
+fn task_field(random: &mut Random, task: &mut [u8], field: usize, clock: u32) {
+    match field {
+        0 => task[0] = random.one_of(&[0, 1, 15, 16, 255]),
+        1 => task[1] = random.below(10) as u8,
+        2 => task[2] = random.below(8) as u8,
+        3 if task[2] == tag::ACCEPTING => task[3] ^= 1 << random.below(8),
+        3 => task[3] = random.below(34) as u8,
+        4 => task[4] = random.below(10) as u8,
+        5 => task[5] = random.below(3) as u8,
+        6 => {
+            // a timer goes off, with its due time
+            task[5] = 0;
+            task[6..].fill(0);
+        }
+        _ => {
+            let ticks = random.one_of(&[0, 1, i32::MAX as u32, 1 << 31, u32::MAX, 5]);
+            task[6..].copy_from_slice(&clock.wrapping_add(ticks).to_be_bytes());
+        }
+    }
+}
+
+/// A line loses a task, with a gap or without, gets one more, one twice, or two of its tasks change places.
+fn one_line(random: &mut Random, bytes: &mut [u8]) {
+    let line = random.one_of(&ALL_LINES);
+    let length = Flat(bytes).members(line).len();
+    let start = LINES + line as usize * TASKS;
+    let members = &mut bytes[start..start + TASKS];
+    let at = random.below(length.max(1));
+    match random.below(6) {
+        0 => members[at] = 0,
+        1 => {
+            members.copy_within(at + 1.., at);
+            members[TASKS - 1] = 0;
+        }
+        2 => members[length.min(TASKS - 1)] = random.below(34) as u8,
+        3 => members[length.min(TASKS - 1)] = members[at],
+        4 => members[at] = random.below(34) as u8,
+        _ => members.swap(at, random.below(length.max(1))),
+    }
+    if random.once_in(4) {
+        another_line(random, bytes, line);
+    }
+}
+
+/// Moves the head of a line to the end of another, as a task that stands in the wrong place.
+fn another_line(random: &mut Random, bytes: &mut [u8], from: Line) {
+    let to = random.one_of(&ALL_LINES);
+    let head = Flat(bytes).line(from)[0];
+    let length = Flat(bytes).members(to).len();
+    let start = LINES + from as usize * TASKS;
+    bytes.copy_within(start + 1..start + TASKS, start);
+    bytes[start + TASKS - 1] = 0;
+    bytes[LINES + to as usize * TASKS + length.min(TASKS - 1)] = head;
+}
+
+/// Damage that leaves every task in one place, but not what tasks ask of each other: a caller's target completes or
+/// waits for the very entry that has the caller, or has the entry no more; or an acceptor's open set is another; or a
+/// wait's time does not suit its place.
+fn one_relation(random: &mut Random, bytes: &mut [u8]) {
+    if random.once_in(4) {
+        return another_time(random, bytes);
+    }
+    let line = random.one_of(&[Line::Callers, Line::Held]);
+    let Some(caller) = random.pick(Flat(bytes).members(line)).filter(|&task| task as usize <= TASKS) else {
+        return acceptor_field(random, bytes);
+    };
+    let (target, entry) = (Flat(bytes).task(caller)[3], Flat(bytes).task(caller)[4]);
+    match random.below(4) {
+        0 => stand_apart(bytes, target, [tag::COMPLETED, 0]),
+        1 => stand_apart(bytes, target, [tag::ACCEPTING, 1 << (entry - 1)]),
+        2 => bytes[FIRST_TASK + (target as usize - 1) * TASK + 1] = entry - 1,
+        _ => acceptor_field(random, bytes),
+    }
+}
+
+/// The task leaves its lines and has the place given, without a time.
+fn stand_apart(bytes: &mut [u8], task: u8, place: [u8; 2]) {
+    for line in ALL_LINES {
+        let members: Vec<u8> = Flat(bytes).members(line).iter().copied().filter(|&other| other != task).collect();
+        let start = LINES + line as usize * TASKS;
+        bytes[start..start + TASKS].fill(0);
+        bytes[start..start + members.len()].copy_from_slice(&members);
+    }
+    let at = FIRST_TASK + (task as usize - 1) * TASK;
+    bytes[at + 2..at + 4].copy_from_slice(&place);
+    bytes[at + 4..at + TASK].fill(0);
+}
+
+fn acceptor_field(random: &mut Random, bytes: &mut [u8]) {
+    let created = Flat(bytes).created().min(TASKS as u8);
+    let acceptors: Vec<u8> = (1..=created).filter(|&task| Flat(bytes).tag(task) == tag::ACCEPTING).collect();
+    if let Some(task) = random.pick(&acceptors) {
+        let open = &mut bytes[FIRST_TASK + (task as usize - 1) * TASK + 3];
+        *open = random.one_of(&[0, *open << 1, *open | 128, *open | 1, *open >> 1]);
+    }
+}
+
+/// A wait loses its time, or some task gets one, with the delay queue as it should then be.
+fn another_time(random: &mut Random, bytes: &mut [u8]) {
+    let created = Flat(bytes).created();
+    if created == 0 {
+        return;
+    }
+    let task = 1 + random.below(created as usize) as u8;
+    let mut delays: Vec<u8> = Flat(bytes).members(Line::Delays).iter().copied().filter(|&other| other != task).collect();
+    let due = match Flat(bytes).timed(task) {
+        true => None,
+        false => Some(Flat(bytes).clock().wrapping_add(1 + random.below(5) as u32)),
+    };
+    let at = FIRST_TASK + (task as usize - 1) * TASK;
+    bytes[at + 5] = u8::from(due.is_some());
+    bytes[at + 6..at + TASK].copy_from_slice(&due.unwrap_or(0).to_be_bytes());
+    if due.is_some() {
+        delays.push(task);
+        delays.sort_by_key(|&task| Flat(bytes).left(task));
+    }
+    delays.resize(TASKS, 0);
+    bytes[LINES + 3 * TASKS..].copy_from_slice(&delays);
+}

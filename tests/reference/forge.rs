@@ -1,0 +1,117 @@
+//! Sound states put together at random, most of which no log reaches: rings of held tasks, holders that wait,
+//! queues in any order.
+
+use crate::flat::{tag, FIRST_TASK, LINES, STATE, TASK};
+use crate::numbers::{LONGEST, TASKS};
+use crate::random::Random;
+
+/// A task of the state that is being put together.
+#[derive(Clone, Copy, Default)]
+struct Part {
+    priority: u8,
+    entries: u8,
+    tag: u8,
+    first: u8,
+    second: u8,
+    ticks: Option<u32>,
+}
+
+pub fn state(random: &mut Random) -> Vec<u8> {
+    let anywhere = random.next() as u32;
+    let clock = random.one_of(&[0, 1, u32::MAX, LONGEST, LONGEST + 1, anywhere]);
+    let created = random.one_of(&[0, 1, 2, 5, 8, 16, 30, TASKS]);
+    let busiest = random.below(created.max(1)) as u8 + 1;
+    let mut parts: Vec<Part> = (0..created).map(|_| part(random)).collect();
+    for i in 0..created {
+        let chosen = place(random, &parts, i, busiest);
+        parts[i] = chosen;
+    }
+    close_called_entries(&mut parts);
+    bytes(random, clock, &parts)
+}
+
+/// Ready, delayed or completed: what needs no other task.
+fn part(random: &mut Random) -> Part {
+    let (priority, entries) = (random.between(1, 15) as u8, random.between(0, 8) as u8);
+    let tag = random.one_of(&[tag::READY, tag::READY, tag::DELAYED, tag::COMPLETED]);
+    let ticks = (tag == tag::DELAYED).then(|| some_ticks(random));
+    Part { priority, entries, tag, ticks, ..Part::default() }
+}
+
+fn some_ticks(random: &mut Random) -> u32 {
+    match random.below(4) {
+        0 => random.one_of(&[1, LONGEST, LONGEST - 1]),
+        1 => random.between(1, LONGEST as i64) as u32,
+        _ => random.between(1, 4) as u32,
+    }
+}
+
+/// Some of the tasks wait for another: one that is not completed and has entries.
+fn place(random: &mut Random, parts: &[Part], i: usize, busiest: u8) -> Part {
+    let part = Part { ticks: None, ..parts[i] };
+    let callable = |&task: &u8| parts[task as usize - 1].tag != tag::COMPLETED && parts[task as usize - 1].entries > 0;
+    let mut partners: Vec<u8> = (1..=parts.len() as u8).filter(callable).collect();
+    if callable(&busiest) && random.once_in(2) {
+        partners = vec![busiest];
+    }
+    let timed = random.once_in(2).then(|| some_ticks(random));
+    let tag = random.one_of(&[tag::QUEUED, tag::QUEUED, tag::HELD, tag::ACCEPTING, part.tag]);
+    // somebody counts on this one being there
+    if part.tag == tag::COMPLETED || tag == part.tag || partners.is_empty() {
+        return parts[i];
+    }
+    if tag == tag::ACCEPTING {
+        let open = random.byte() & ((1u16 << part.entries) - 1) as u8;
+        let ticks = if open == 0 { Some(some_ticks(random)) } else { timed };
+        return Part { tag, first: open, ticks, ..part };
+    }
+    let first = random.one_of(&partners);
+    let second = random.between(1, parts[first as usize - 1].entries as i64) as u8;
+    let ticks = if tag == tag::QUEUED { timed } else { None };
+    Part { tag, first, second, ticks, ..part }
+}
+
+/// An acceptor's open entries have no caller; one that loses its last open entry becomes ready.
+fn close_called_entries(parts: &mut [Part]) {
+    for i in 0..parts.len() {
+        if parts[i].tag != tag::ACCEPTING {
+            continue;
+        }
+        let waits = |part: &&Part| part.tag == tag::QUEUED && part.first as usize == i + 1;
+        let called = parts.iter().filter(waits).fold(0, |set, part| set | 1 << (part.second - 1));
+        parts[i].first &= !called;
+        if parts[i].first == 0 && parts[i].ticks.is_none() {
+            parts[i].tag = tag::READY;
+        }
+    }
+}
+
+fn bytes(random: &mut Random, clock: u32, parts: &[Part]) -> Vec<u8> {
+    let mut bytes = clock.to_be_bytes().to_vec();
+    bytes.push(parts.len() as u8);
+    for part in parts {
+        let due = part.ticks.map_or(0, |ticks| clock.wrapping_add(ticks));
+        bytes.extend([part.priority, part.entries, part.tag, part.first, part.second, u8::from(part.ticks.is_some())]);
+        bytes.extend(due.to_be_bytes());
+    }
+    debug_assert_eq!(bytes.len(), FIRST_TASK + parts.len() * TASK);
+    bytes.resize(LINES, 0);
+    for tag in [tag::READY, tag::QUEUED, tag::HELD] {
+        let mut line = shuffled(random, parts, |part| part.tag == tag);
+        line.resize(TASKS, 0);
+        bytes.extend(line);
+    }
+    let mut delays = shuffled(random, parts, |part| part.ticks.is_some());
+    delays.sort_by_key(|&task| parts[task as usize - 1].ticks);
+    bytes.extend(delays);
+    bytes.resize(STATE, 0);
+    bytes
+}
+
+fn shuffled(random: &mut Random, parts: &[Part], wanted: impl Fn(&Part) -> bool) -> Vec<u8> {
+    let mut line: Vec<u8> = (1..=parts.len() as u8).filter(|&task| wanted(&parts[task as usize - 1])).collect();
+    for i in (1..line.len()).rev() {
+        line.swap(i, random.below(i + 1));
+    }
+    line
+}

@@ -1,0 +1,164 @@
+//! The reference: document 01 in plain Rust, apart from the rules and the proofs, to hold the programs against.
+
+mod aims;
+mod calls;
+mod damage;
+mod flat;
+mod forge;
+mod generate;
+mod judge;
+mod logs;
+mod numbers;
+mod promises;
+mod random;
+mod shrink;
+mod spoil;
+mod states;
+mod steps;
+mod supervisor;
+mod tally;
+mod words;
+
+use logs::Log;
+use std::io::{self, Read, Write};
+use std::process::ExitCode;
+
+const USAGE: &str = "the reference of the supervisor; it reads standard input where a command needs logs or states
+
+  stepper                    prints what the program stepper prints for a log
+  replay                     prints what the program replay prints for a sequence of logs
+  generate SEED LOGS CALLS   writes a sequence of LOGS logs of at most CALLS calls each
+  tally                      prints how often each event occurs in a sequence of logs; fails if one never does
+  promises                   checks on a sequence of logs what is promised of every log
+  shrink FILE COMMAND...     where the command differs from replay on the file, prints a small log that shows it
+  edges                      checks the lines that a file of logs in words says are printed
+  assemble                   writes a file of logs in words as a sequence of logs
+  damage SEED N              writes N states of 439 bytes, sound ones and damaged ones
+  verdicts                   prints for each state whether it is sound
+  cases SEED N               writes N cases of a state, a call, a length of room and a question
+  judge CASES WRITTEN        fails, with the first difference, if the answers in WRITTEN are not the reference's
+  tally-states               prints how many states break each rule; fails if a rule is never broken
+";
+
+fn input() -> Result<Vec<u8>, String> {
+    let mut bytes = Vec::new();
+    io::stdin().read_to_end(&mut bytes).map_err(|e| e.to_string())?;
+    Ok(bytes)
+}
+
+fn output(bytes: &[u8]) -> Result<(), String> {
+    io::stdout().write_all(bytes).map_err(|e| e.to_string())
+}
+
+fn number(word: &str) -> Result<u64, String> {
+    word.parse().map_err(|_| format!("not a number: {word}"))
+}
+
+fn told() -> Result<Vec<words::Told>, String> {
+    words::read_file(&String::from_utf8(input()?).map_err(|e| e.to_string())?)
+}
+
+fn edges() -> Result<(), String> {
+    let mut lines = 0;
+    for told in told()? {
+        let printed = told.log.printed();
+        for (step, expected) in told.expected {
+            let line = printed.lines().nth(step).unwrap_or("nothing");
+            if line != expected {
+                return Err(format!("log {}: printed\n{line}\nexpected\n{expected}", told.name));
+            }
+            lines += 1;
+        }
+    }
+    output(format!("{lines} lines are as expected\n").as_bytes())
+}
+
+fn assemble() -> Result<(), String> {
+    let logs: Vec<Log> = told()?.into_iter().map(|told| told.log).collect();
+    output(&logs::pack(&logs))
+}
+
+fn tally() -> Result<(), String> {
+    let tally = tally::Tally::of(&logs::unpack(&input()?));
+    output(tally.printed().as_bytes())?;
+    match tally.never()[..] {
+        [] => Ok(()),
+        ref never => Err(format!("never occurred: {}", never.join("; "))),
+    }
+}
+
+fn promises() -> Result<(), String> {
+    let mut ledger = promises::Ledger::new();
+    for (i, log) in logs::unpack(&input()?).iter().enumerate() {
+        ledger.log(log).map_err(|broken| format!("log {}, {broken}", i + 1))?;
+    }
+    output(format!("{} steps keep the promises\n", ledger.steps).as_bytes())
+}
+
+fn shrink(file: &str, command: &[&str]) -> Result<(), String> {
+    let input = std::fs::read(file).map_err(|e| format!("{file}: {e}"))?;
+    match shrink::shrink(&input, command)? {
+        None => output(b"no difference\n"),
+        Some(text) => Err(text),
+    }
+}
+
+fn tally_states() -> Result<(), String> {
+    let input = input()?;
+    let counts = states::tally(&input);
+    for (name, count) in &counts {
+        output(format!("{count:8} {name}\n").as_bytes())?;
+    }
+    let sound = |state: &&&[u8]| flat::broken(flat::Flat(state)).is_none();
+    if !states::unpack(&input).iter().filter(sound).all(|state| states::reads_back(state)) {
+        return Err("a sound state does not read back".to_string());
+    }
+    match counts.iter().find(|(_, count)| *count == 0) {
+        None => Ok(()),
+        Some((name, _)) => Err(format!("never occurred: {name}")),
+    }
+}
+
+/// Holds the answers of a library against the reference's.
+fn judge(cases: &str, written: &str) -> Result<(), String> {
+    let read = |file: &str| std::fs::read(file).map_err(|e| format!("{file}: {e}"));
+    let cases = read(cases)?;
+    match judge::first_difference(&cases, &read(written)?) {
+        None => output(format!("{} cases are answered alike\n", cases.len() / judge::CASE).as_bytes()),
+        Some(text) => Err(text),
+    }
+}
+
+fn run(words: &[&str]) -> Result<(), String> {
+    match words {
+        ["stepper"] => output(Log { clock: 0, bytes: input()? }.printed().as_bytes()),
+        ["replay"] => output(logs::replayed(&logs::unpack(&input()?)).as_bytes()),
+        ["generate", seed, logs, calls] => {
+            let (logs, calls) = (number(logs)? as usize, number(calls)? as usize);
+            output(&logs::pack(&generate::generate(number(seed)?, logs, calls)))
+        }
+        ["tally"] => tally(),
+        ["promises"] => promises(),
+        ["shrink", file, command @ ..] if !command.is_empty() => shrink(file, command),
+        ["edges"] => edges(),
+        ["assemble"] => assemble(),
+        ["damage", seed, count] => output(&damage::states(number(seed)?, number(count)? as usize).concat()),
+        ["verdicts"] => output(states::verdicts(&input()?).as_bytes()),
+        ["tally-states"] => tally_states(),
+        ["cases", seed, count] => output(&judge::cases(number(seed)?, number(count)? as usize)),
+        ["judge", cases, written] => judge(cases, written),
+        _ => Err(USAGE.to_string()),
+    }
+}
+
+fn main() -> ExitCode {
+    let words: Vec<String> = std::env::args().skip(1).collect();
+    let words: Vec<&str> = words.iter().map(String::as_str).collect();
+    match run(&words) {
+        Ok(()) => ExitCode::SUCCESS,
+        Err(message) => {
+            eprintln!("reference: {message}");
+            ExitCode::FAILURE
+        }
+    }
+}
