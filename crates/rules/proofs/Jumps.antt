@@ -41,6 +41,13 @@ to-due j s c h =
       cut-readings j 1 s ∙ rw (q .0, q .2, e) (omega arith),
     )
 
+-- the clock goes to the next due moment: sound
+pub due-kept : (s : State) → Sound s → 0 < till s → Sound (tickTo s (after (s .clock) (till s)))
+due-kept s h p =
+    let e : (till s - 1) + 1 ≡ till s = omega arith in
+    let d = rw e at (to-due (till s - 1) s (h .clock) (quiet-before s (till s - 1) h (omega arith))) in
+    rw (d .0) at (advance-kept (till s) s h)
+
 -- ── from due moment to due moment ──
 
 pub crosses : (f n : ℕ) (s : State) → Sound s → length (s .delays) ≤ f → (advanced n s ≡ jumped f n s) × (advanceEnds n s ≡ jumpEnds f n s) × (readings n s ≡ jumps f n s)
@@ -70,8 +77,7 @@ crosses (suc f) n s h k =
         let en : n ≡ till s + r = omega arith in
         let d = rw e at (to-due (till s - 1) s (h .clock) (quiet-before s (till s - 1) h (omega arith))) in
         let w = at-due s m h p refl in
-        let h1 : Sound s1 = rw (d .0) at (advance-kept (till s) s h) in
-        let ih = on h1 (omega (arith, w .1, k)) in (
+        let ih = on (due-kept s h p) (omega (arith, w .1, k)) in (
           ap (λ (x : ℕ). advanced x s) en ∙ cut-state (till s) r s ∙ rw (d .0) (ih .0),
           ap (λ (x : ℕ). advanceEnds x s) en ∙ cut-ends (till s) r s ∙ rw (d .0, d .1, ih .1),
           ap (λ (x : ℕ). readings x s) en ∙ cut-readings (till s) r s ∙ rw (d .0, d .2, ih .2, lt-ltb 0 (length (endsAt s m)) (w .0)) (omega arith),

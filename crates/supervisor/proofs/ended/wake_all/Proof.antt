@@ -1,7 +1,7 @@
 use native.Mathlib.Omega.{arith}
 use borrow.Author.Needs.{needs}
-use Prim.Native.Nat.{ℕ, _-_, _≤_}
-use mathlib.Core.Path.{_≡_, refl, subst}
+use Prim.Native.Nat.{ℕ, _-_, _*_, _≤_}
+use mathlib.Core.Path.{_≡_, refl, subst, ap}
 use Rattle.supervisor.specs.Taken.{WokenAs}
 use lib.ListN.{length, drop, length-take, length-drop}
 use Rattle.lists.specs.Line.{line}
@@ -12,7 +12,7 @@ use Rattle.supervisor.proofs.ended.wake_all.Statement.{statement}
 use Rattle.supervisor.proofs.ended.wake_all.Tie as tie
 
 abbrev Inv-loop : tie.InvT-loop
-Inv-loop s failed room₀ l n₀ i₀ room n i = (i ≤ 31) × (124 ≤ length room₀) × Going (view s) failed (line l) room₀ n room i (line (drop i l))
+Inv-loop s failed room₀ l n₀ i₀ room n i = (i ≤ 31) × (length (line l) * 4 ≤ length room₀) × Going (view s) failed (line l) room₀ n room i (line (drop i l))
 
 abbrev μ-loop : tie.MeasureT-loop
 μ-loop s failed room₀ l n₀ i₀ room n i = 31 - i
@@ -32,7 +32,11 @@ returns c =
 
 put-requires : tie.Need-put-requires Inv-loop μ-loop
 put-requires c κs =
-    let g = c .before .before .before .before .loop .inv .2 .long in
+    let l = c .before .before .before .before .loop in
+    let q = rest-entry (c .before .before .before .before .before .before .args .t2) (l .i) (search needs) (c .before .before .if1 .left) in
+    let n = l .inv .2 .number in
+    let g = l .inv .2 .long in
+    let z = ap length q in
     simp (length-take, length-drop) (omega arith)
 
 loop-again : tie.Need-loop-again Inv-loop μ-loop
@@ -41,7 +45,7 @@ loop-again c =
       omega arith,
       l .inv .1,
       going-on _ _ _ _ (l .n) (c .moved .result) (l .room) (c .before .before .before .put .last .0) (l .i) _ _ _ (c .before .before .before .before .before .item-of .result) (l .inv .2)
-          (rest-entry (c .before .before .before .before .before .before .before .before .before .before .args .t2) (l .i) (search needs) (c .before .before .before .before .before .before .if1 .left)) (c .before .before .before .before .before .item-of .ensures) (c .before .before .before .put .ensures) (c .moved .ensures) (omega arith) (l .inv .1),
+          (rest-entry (c .before .before .before .before .before .before .before .before .before .before .args .t2) (l .i) (search needs) (c .before .before .before .before .before .before .if1 .left)) (c .before .before .before .before .before .item-of .ensures) (c .before .before .before .put .ensures) (c .moved .ensures) (l .inv .1),
     )
 
 same-length-2 : tie.Need-same-length-2 Inv-loop μ-loop

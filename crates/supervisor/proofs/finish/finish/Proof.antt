@@ -13,6 +13,8 @@ use Rattle.supervisor.proofs.MoveLaws.{picked-line, long-held}
 use Rattle.supervisor.proofs.AnswerLaws.{by-both, runner}
 use Rattle.supervisor.proofs.FinishLaws.{finish-idle, finish-runs, finish-holds, finish-goes, queued-all, queued-line, woken-completed}
 use Rattle.supervisor.proofs.AnswerLaws.{many-answers, room-of}
+use Rattle.supervisor.proofs.RoomLaws.{in-room}
+use Rattle.lists.proofs.LineLaws.{length-pad}
 use Rattle.supervisor.proofs.finish.finish.Statement.{statement}
 use Rattle.supervisor.proofs.finish.finish.Tie as tie
 
@@ -30,7 +32,7 @@ returns-2 c =
 wake-all-requires : tie.Need-wake-all-requires
 wake-all-requires c κs =
     let v = view (c .before .before .before .before .before .before .before .before .before .args .s) in let t = c .before .before .before .before .before .before .before .running .result in
-    (c .before .before .before .before .before .before .before .before .before .pre .0, c .before .before .before .before .before .before .before .before .before .pre .1, subst (AllThere v) (sym (queued-line v t (c .before .queued-on .result) (c .before .before .before .before .before .before .before .before .before .pre .0 .sound) (c .before .queued-on .ensures))) (queued-all v t))
+    (c .before .before .before .before .before .before .before .before .before .pre .0, in-room (c .before .queued-on .result) _ (ap length (c .before .queued-on .ensures) ∙ length-pad (queuedOn v t)) (c .before .before .before .before .before .before .before .before .before .pre .1), subst (AllThere v) (sym (queued-line v t (c .before .queued-on .result) (c .before .before .before .before .before .before .before .before .before .pre .0 .sound) (c .before .queued-on .ensures))) (queued-all v t))
 
 returns-3 : tie.Need-returns-3
 returns-3 c =

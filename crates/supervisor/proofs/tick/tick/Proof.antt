@@ -1,38 +1,28 @@
+use native.Mathlib.Omega.{arith}
 use borrow.Author.Needs.{needs}
-use Prim.Native.Nat.{ℕ}
-use mathlib.Core.Path.{sym, _∙_, ap, subst}
-use mathlib.Core.List.{List}
-use Rattle.lists.specs.Line.{line}
-use Rattle.rules.specs.State.{wakeAll, setClock}
-use Rattle.rules.specs.Step.{dueAt, expired}
-use Rattle.rules.specs.Whole.{view, pack}
-use Rattle.supervisor.specs.Taken.{AllThere}
-use Rattle.table.specs.declared.queues.Test.the-variants.{DueAt}
-use Rattle.supervisor.proofs.MoveLaws.{picked-line, long-delays}
-use Rattle.supervisor.proofs.AnswerLaws.{by-both}
-use Rattle.supervisor.proofs.TickLaws.{due-all, clock-packed, tick-is}
-use Rattle.supervisor.proofs.AnswerLaws.{many-answers, room-of}
+use Rattle.rules.specs.State.{setClock}
+use Rattle.rules.specs.Step.{item, DONE, tickTo, endsAt}
+use Rattle.rules.specs.Whole.{view}
+use Rattle.supervisor.proofs.AnswerLaws.{list-answers}
+use Rattle.supervisor.proofs.TickLaws.{tick-is, few-due, due-room}
 use Rattle.supervisor.proofs.tick.tick.Statement.{statement}
 use Rattle.supervisor.proofs.tick.tick.Tie as tie
 
-wake-all-requires : tie.Need-wake-all-requires
-wake-all-requires c κs =
-    let s = c .before .before .before .before .before .args .s in
-    let q = picked-line s (s .delays) (DueAt (c .before .before .before .wrapping-add-u32 .result)) (c .before .picked .result) (long-delays s (c .before .before .before .before .before .pre .0)) (c .before .picked .ensures) in
-    (c .before .before .before .before .before .pre .0, c .before .before .before .before .before .pre .1, subst (AllThere (view s)) (sym q) (due-all (view s) (c .before .before .before .wrapping-add-u32 .result)))
+tick-to-requires : tie.Need-tick-to-requires
+tick-to-requires c κs =
+    let k = c .before .before .before in
+    (k .pre .0, due-room (view (k .args .s)) (c .before .wrapping-add-u32 .result) _ (k .pre .0 .sound) (k .pre .1))
 
 returns : tie.Need-returns
 returns c =
-    let s = c .before .before .before .before .before .before .before .before .before .before .args .s in let v = view s in let now = c .before .before .before .before .before .before .before .before .wrapping-add-u32 .result in
-    let q = picked-line s (s .delays) (DueAt now) (c .before .before .before .before .before .before .picked .result) (long-delays s (c .before .before .before .before .before .before .before .before .before .before .pre .0)) (c .before .before .before .before .before .before .picked .ensures) in
-    let w = c .before .before .before .before .wake-all .ensures in
-    by-both s _ _ (tick-is v now (c .before .before .before .before .before .before .before .before .wrapping-add-u32 .ensures))
-    (many-answers s _ (setClock (wakeAll v (dueAt v now)) now) _ (expired v) (line (c .before .before .before .before .before .before .picked .result)) (dueAt v now) _ (c .answered .ensures)
-    (clock-packed (c .before .before .before .before .wake-all .result .state) (wakeAll v (dueAt v now)) now (w .state ∙ ap (λ (x : List ℕ). pack (wakeAll v x)) q)) (w .number) q)
-    (room-of _ _ (expired v) (line (c .before .before .before .before .before .before .picked .result)) (dueAt v now) (w .written) q)
+    let k = c .before .before .before .before .before .before .before .before in
+    let s = k .args .s in
+    let reading = c .before .before .before .before .before .before .wrapping-add-u32 .result in
+    let w = c .before .before .before .before .tick-to in
+    list-answers s (w .result .state) (tickTo (view s) reading) (item 0 DONE 0 0) (endsAt (view s) reading) (w .result .count) _ _
+    (tick-is (view s) reading (c .before .before .before .before .before .before .wrapping-add-u32 .ensures)) (c .answered .ensures) (w .ensures .state) (w .ensures .number) (w .ensures .written)
 
 pub tick-spec : {M : Type 1} → statement M
 tick-spec =
     tie.close
-    (tie.spec (λ c κs. search needs) (λ c κs. search needs) wake-all-requires (λ c κs. search needs)
-    (λ c. search needs) returns)
+    (tie.spec (λ c κs. search needs) tick-to-requires (λ c κs. search needs) (λ c. search needs) returns)
