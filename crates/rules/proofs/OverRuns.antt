@@ -30,7 +30,7 @@ use Rattle.calls.specs.declared.SelectMode.{SelectMode}
 use Rattle.calls.specs.declared.SelectMode.the-variants.{Plain, Else}
 use Rattle.calls.specs.declared.SelectMode.the-variants as S
 use Rattle.calls.specs.declared.Call as C
-use Rattle.calls.specs.declared.Call.the-variants.{Create, Delay, Call, Select, End, Finish, Tick}
+use Rattle.calls.specs.declared.Call.the-variants.{Create, Delay, Call, Select, End, Finish, Tick, Advance}
 use Rattle.lists.proofs.ListLaws.{by-eq, by-bool, by-test}
 use Rattle.rules.proofs.Invariant.{Calls, Fits, InTime, Good, Sound}
 use Rattle.rules.proofs.Members.{timed-there, and-first, and-true}
@@ -53,6 +53,7 @@ duration-small (Select o Else) = omega arith
 duration-small End = omega arith
 duration-small Finish = omega arith
 duration-small Tick = omega arith
+duration-small (Advance n) = omega arith
 
 -- what holds of each refusal that leaves all as it was, and of each taken call, holds of a step
 pub by-step {κ} : (P : Given → Type κ) (s : State) (c : C.Call) (room : ℕ) → Sound s

@@ -16,7 +16,7 @@ use Rattle.rules.specs.Step.{Outcome, refused, took, Refusal, number, BAD-STATE
 use Rattle.rules.specs.Whole.{view, packed, soundWhole, done, decline, stepWhole}
 use Rattle.rules.specs.declared.Supervisor.{Supervisor}
 use Rattle.calls.specs.declared.Call as C
-use Rattle.calls.specs.declared.Call.the-variants.{Create, Delay, Call, Select, End, Finish, Tick}
+use Rattle.calls.specs.declared.Call.the-variants.{Create, Delay, Call, Select, End, Finish, Tick, Advance}
 use Rattle.calls.specs.declared.CallMode.{CallMode}
 use Rattle.calls.specs.declared.CallMode.the-variants.{Simple, Timed, Conditional}
 use Rattle.calls.specs.declared.SelectMode.{SelectMode}
@@ -123,6 +123,7 @@ taken v (Select o m) h = runner (running v) (λ t. select v t o m) _ (λ _. sele
 taken v End h = runner (running v) (λ t. end v t) _ (λ _. ends v (running v))
 taken v Finish h = runner (running v) (λ t. finish v t) _ (λ _. finishes v (running v))
 taken v Tick h = refl
+taken v (Advance n) h = refl
 
 done-refusal : (s : Supervisor) (o : Outcome) → done s o .refusal ≡ refusalOf o
 done-refusal s (refused r) = refl

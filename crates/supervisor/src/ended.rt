@@ -1,5 +1,5 @@
 // Ended waits: their items in the lent room, and the tasks that wake.
-ghost use Prim.Native.Nat.{_≤_};
+ghost use Prim.Native.Nat.{_*_, _≤_};
 ghost use lib.ListN.{length};
 ghost use mathlib.Core.List.{[], _∷_};
 ghost use mathlib.Core.Path.{_≡_};
@@ -57,7 +57,7 @@ pub struct Woken {
 
 // Each task of the line becomes ready, and its item is written directly behind the one before.
 pub fn wake_all(s: Supervisor, l: [u8; 31], failed: bool, room: &mut [u8]) -> Woken
-    requires { ⌜ Stands s × (124 ≤ length (now room)) × AllThere (view s) (line l) ⌝ }
+    requires { ⌜ Stands s × (length (line l) * 4 ≤ length (now room)) × AllThere (view s) (line l) ⌝ }
     ensures { λ r. ⌜ WokenAs (view s) failed (line l) (r .state) (r .count) (now (room .entry)) (now (room .exit)) ⌝ }
 {
     let mut n = s;

@@ -1,4 +1,5 @@
 // The supervisor: an empty one, its step, its questions.
+mod advance;
 mod answers;
 mod call;
 mod callers;
@@ -54,6 +55,7 @@ fn take_call(s: Supervisor, c: Call, room: &mut [u8]) -> Taken
         Call::End => end::end(s, room),
         Call::Finish => finish::finish(s, room),
         Call::Tick => tick::tick(s, room),
+        Call::Advance(n) => advance::advance(s, n, room),
     }
 }
 
