@@ -1,10 +1,9 @@
 -- An area in use, and sequences of operations on it: the statements of proofs/Statements.antt are about these.
 use Prim.Native.Nat.{ℕ}
-use mathlib.Core.Bool.{Bool, true, false}
+use mathlib.Core.Bool.{Bool}
 use mathlib.Core.List.{List, [], _∷_}
 use Rattle.workspace.specs.declared.Stretch.{Stretch}
 use Rattle.workspace.specs.declared.Used.{Used}
-use Rattle.workspace.specs.declared.Answer.{Answer}
 use Rattle.workspace.specs.Rules.{rulesKept}
 use Rattle.workspace.specs.Operations.{Outcome, refused, took, freshOf, requestOf, releaseOf, blocksAfter, freeAfter, answerOf, unused}
 

@@ -1,6 +1,5 @@
 use Prim.Native.Nat.{_-_}
 use lib.ListN.{length}
-use denote.Ref.{now}
 use borrow.Author.Needs.{needs}
 use Rattle.allot.proofs.consumed.Statement.{statement}
 use Rattle.allot.proofs.consumed.Tie as tie

@@ -15,7 +15,6 @@ use Rattle.workspace.proofs.Bridge.{Says, release-says}
 use Rattle.workspace.proofs.Calls.{Told, tells-struct, calls-told}
 use Rattle.workspace.proofs.Both.{looked, Looked, low, Low, Lent, val, LookAt, WriteBack, looks, writes-back}
 use Rattle.workspace.proofs.Stretch as T
-use Rattle.workspace.proofs.Stretch.Laws as T′
 use Rattle.workspace.proofs.Used as S
 use Rattle.workspace.proofs.Used.Laws as S′
 use Rattle.workspace.proofs.Look as L
