@@ -241,7 +241,11 @@ fn select(aim: Aim, random: &mut Random, state: &Supervisor, running: u8) -> Opt
         }
         Aim::SelectWait | Aim::SelectEqual => {
             let some = random.byte() & without;
-            if some == 0 { without } else { some }
+            if some == 0 {
+                without
+            } else {
+                some
+            }
         }
         Aim::SelectAny => random.byte() & own(state, running),
         Aim::SelectEmpty => 0,

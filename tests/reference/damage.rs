@@ -31,6 +31,19 @@ pub fn states(seed: u64, count: usize) -> Vec<Vec<u8>> {
     found
 }
 
+/// A sound state of 31 tasks, of those put together the one with the fewest alike: every place, times, all lines.
+pub fn full_state(seed: u64) -> Vec<u8> {
+    let mut random = Random::new(seed);
+    let spread = |bytes: &Vec<u8>| {
+        let flat = Flat(bytes);
+        let shortest = ALL_LINES.map(|line| flat.members(line).len()).into_iter().min().unwrap_or(0);
+        let acceptors = (1..=TASKS as u8).filter(|&task| flat.tag(task) == tag::ACCEPTING).count();
+        shortest.min(acceptors)
+    };
+    let full = (0..2000).map(|_| forge::state(&mut random)).filter(|bytes| Flat(bytes).created() == TASKS as u8);
+    full.max_by_key(spread).unwrap_or_default()
+}
+
 /// A state, from a reached one or put together, damaged or not.
 fn one(random: &mut Random, reached: &Supervisor) -> Vec<u8> {
     let mut bytes = match random.once_in(2) {
@@ -198,7 +211,8 @@ fn another_time(random: &mut Random, bytes: &mut [u8]) {
         return;
     }
     let task = 1 + random.below(created as usize) as u8;
-    let mut delays: Vec<u8> = Flat(bytes).members(Line::Delays).iter().copied().filter(|&other| other != task).collect();
+    let mut delays: Vec<u8> =
+        Flat(bytes).members(Line::Delays).iter().copied().filter(|&other| other != task).collect();
     let due = match Flat(bytes).timed(task) {
         true => None,
         false => Some(Flat(bytes).clock().wrapping_add(1 + random.below(5) as u32)),

@@ -24,16 +24,32 @@ struct Theme {
 const PLAIN: Theme =
     Theme { weights: &[], tasks: (3, 10), priorities: (1, 15), entries: (1, 3), low_first: false, short: false };
 
-const THEMES: [Theme; 10] =
-    [MIXED, MEETINGS, SPOILT, NESTED, TIMES, CROWD, SPOILT, ENDINGS, MISTAKES, LEVELS];
+const THEMES: [Theme; 10] = [MIXED, MEETINGS, SPOILT, NESTED, TIMES, CROWD, SPOILT, ENDINGS, MISTAKES, LEVELS];
 
 const MIXED: Theme = Theme {
     weights: &[
-        (Aim::Create, 4), (Aim::BadCreate, 1), (Aim::Delay, 4), (Aim::DelayEqual, 3), (Aim::DelayNone, 3),
-        (Aim::DelayLong, 1), (Aim::CallAcceptor, 10), (Aim::CallQueue, 8), (Aim::CallAny, 3), (Aim::CallCompleted, 2),
-        (Aim::CallBad, 1), (Aim::CallSelf, 1), (Aim::SelectCaller, 10), (Aim::SelectWait, 7), (Aim::SelectAny, 3),
-        (Aim::SelectEmpty, 1), (Aim::SelectBad, 1), (Aim::End, 8), (Aim::EndBad, 1), (Aim::Finish, 1),
-        (Aim::FinishBad, 1), (Aim::Tick, 12),
+        (Aim::Create, 4),
+        (Aim::BadCreate, 1),
+        (Aim::Delay, 4),
+        (Aim::DelayEqual, 3),
+        (Aim::DelayNone, 3),
+        (Aim::DelayLong, 1),
+        (Aim::CallAcceptor, 10),
+        (Aim::CallQueue, 8),
+        (Aim::CallAny, 3),
+        (Aim::CallCompleted, 2),
+        (Aim::CallBad, 1),
+        (Aim::CallSelf, 1),
+        (Aim::SelectCaller, 10),
+        (Aim::SelectWait, 7),
+        (Aim::SelectAny, 3),
+        (Aim::SelectEmpty, 1),
+        (Aim::SelectBad, 1),
+        (Aim::End, 8),
+        (Aim::EndBad, 1),
+        (Aim::Finish, 1),
+        (Aim::FinishBad, 1),
+        (Aim::Tick, 12),
     ],
     tasks: (2, 12),
     entries: (0, 8),
@@ -42,8 +58,16 @@ const MIXED: Theme = Theme {
 
 const MEETINGS: Theme = Theme {
     weights: &[
-        (Aim::Create, 2), (Aim::DelayNone, 2), (Aim::CallAcceptor, 16), (Aim::CallQueue, 8), (Aim::CallAny, 2),
-        (Aim::SelectCaller, 12), (Aim::SelectWait, 14), (Aim::SelectAny, 2), (Aim::End, 12), (Aim::Finish, 1),
+        (Aim::Create, 2),
+        (Aim::DelayNone, 2),
+        (Aim::CallAcceptor, 16),
+        (Aim::CallQueue, 8),
+        (Aim::CallAny, 2),
+        (Aim::SelectCaller, 12),
+        (Aim::SelectWait, 14),
+        (Aim::SelectAny, 2),
+        (Aim::End, 12),
+        (Aim::Finish, 1),
         (Aim::Tick, 8),
     ],
     tasks: (3, 10),
@@ -54,9 +78,19 @@ const MEETINGS: Theme = Theme {
 
 const NESTED: Theme = Theme {
     weights: &[
-        (Aim::Create, 4), (Aim::Delay, 2), (Aim::DelayNone, 4), (Aim::CallHolder, 14), (Aim::CallAcceptor, 8),
-        (Aim::CallQueue, 4), (Aim::SelectCaller, 24), (Aim::SelectWait, 3), (Aim::End, 4), (Aim::EndBad, 1),
-        (Aim::FinishBad, 2), (Aim::Finish, 1), (Aim::Tick, 8),
+        (Aim::Create, 4),
+        (Aim::Delay, 2),
+        (Aim::DelayNone, 4),
+        (Aim::CallHolder, 14),
+        (Aim::CallAcceptor, 8),
+        (Aim::CallQueue, 4),
+        (Aim::SelectCaller, 24),
+        (Aim::SelectWait, 3),
+        (Aim::End, 4),
+        (Aim::EndBad, 1),
+        (Aim::FinishBad, 2),
+        (Aim::Finish, 1),
+        (Aim::Tick, 8),
     ],
     tasks: (6, 20),
     priorities: (2, 5),
@@ -67,9 +101,21 @@ const NESTED: Theme = Theme {
 
 const TIMES: Theme = Theme {
     weights: &[
-        (Aim::Create, 2), (Aim::Delay, 8), (Aim::DelayEqual, 12), (Aim::DelayNone, 2), (Aim::DelayLong, 3),
-        (Aim::CallEqual, 12), (Aim::CallQueue, 5), (Aim::CallAcceptor, 5), (Aim::SelectEqual, 10), (Aim::SelectWait, 3),
-        (Aim::SelectEmpty, 2), (Aim::SelectCaller, 4), (Aim::End, 6), (Aim::Finish, 1), (Aim::Tick, 26),
+        (Aim::Create, 2),
+        (Aim::Delay, 8),
+        (Aim::DelayEqual, 12),
+        (Aim::DelayNone, 2),
+        (Aim::DelayLong, 3),
+        (Aim::CallEqual, 12),
+        (Aim::CallQueue, 5),
+        (Aim::CallAcceptor, 5),
+        (Aim::SelectEqual, 10),
+        (Aim::SelectWait, 3),
+        (Aim::SelectEmpty, 2),
+        (Aim::SelectCaller, 4),
+        (Aim::End, 6),
+        (Aim::Finish, 1),
+        (Aim::Tick, 26),
     ],
     tasks: (4, 16),
     entries: (1, 4),
@@ -78,8 +124,15 @@ const TIMES: Theme = Theme {
 
 const CROWD: Theme = Theme {
     weights: &[
-        (Aim::Create, 8), (Aim::Delay, 1), (Aim::DelayNone, 2), (Aim::CallFirst, 40), (Aim::SelectCaller, 3),
-        (Aim::SelectAny, 2), (Aim::End, 6), (Aim::Finish, 1), (Aim::Tick, 3),
+        (Aim::Create, 8),
+        (Aim::Delay, 1),
+        (Aim::DelayNone, 2),
+        (Aim::CallFirst, 40),
+        (Aim::SelectCaller, 3),
+        (Aim::SelectAny, 2),
+        (Aim::End, 6),
+        (Aim::Finish, 1),
+        (Aim::Tick, 3),
     ],
     tasks: (24, 31),
     priorities: (8, 12),
@@ -90,8 +143,16 @@ const CROWD: Theme = Theme {
 
 const ENDINGS: Theme = Theme {
     weights: &[
-        (Aim::Create, 10), (Aim::Delay, 2), (Aim::DelayNone, 2), (Aim::CallFirst, 10), (Aim::CallQueue, 10),
-        (Aim::CallCompleted, 6), (Aim::SelectCaller, 3), (Aim::SelectWait, 3), (Aim::End, 4), (Aim::Finish, 8),
+        (Aim::Create, 10),
+        (Aim::Delay, 2),
+        (Aim::DelayNone, 2),
+        (Aim::CallFirst, 10),
+        (Aim::CallQueue, 10),
+        (Aim::CallCompleted, 6),
+        (Aim::SelectCaller, 3),
+        (Aim::SelectWait, 3),
+        (Aim::End, 4),
+        (Aim::Finish, 8),
         (Aim::Tick, 4),
     ],
     tasks: (4, 14),
@@ -103,10 +164,24 @@ const ENDINGS: Theme = Theme {
 
 const MISTAKES: Theme = Theme {
     weights: &[
-        (Aim::Create, 4), (Aim::BadCreate, 6), (Aim::Delay, 2), (Aim::CallAcceptor, 6), (Aim::CallQueue, 3),
-        (Aim::CallCompleted, 3), (Aim::CallBad, 8), (Aim::CallSelf, 3), (Aim::SelectCaller, 6), (Aim::SelectWait, 3),
-        (Aim::SelectEmpty, 5), (Aim::SelectBad, 6), (Aim::End, 4), (Aim::EndBad, 5), (Aim::Finish, 1),
-        (Aim::FinishBad, 5), (Aim::Anything, 6), (Aim::Tick, 6),
+        (Aim::Create, 4),
+        (Aim::BadCreate, 6),
+        (Aim::Delay, 2),
+        (Aim::CallAcceptor, 6),
+        (Aim::CallQueue, 3),
+        (Aim::CallCompleted, 3),
+        (Aim::CallBad, 8),
+        (Aim::CallSelf, 3),
+        (Aim::SelectCaller, 6),
+        (Aim::SelectWait, 3),
+        (Aim::SelectEmpty, 5),
+        (Aim::SelectBad, 6),
+        (Aim::End, 4),
+        (Aim::EndBad, 5),
+        (Aim::Finish, 1),
+        (Aim::FinishBad, 5),
+        (Aim::Anything, 6),
+        (Aim::Tick, 6),
     ],
     tasks: (0, 31),
     entries: (0, 8),
@@ -115,8 +190,16 @@ const MISTAKES: Theme = Theme {
 
 const LEVELS: Theme = Theme {
     weights: &[
-        (Aim::Create, 5), (Aim::Delay, 10), (Aim::DelayEqual, 4), (Aim::DelayNone, 14), (Aim::CallAcceptor, 5),
-        (Aim::CallQueue, 3), (Aim::CallAny, 3), (Aim::SelectCaller, 5), (Aim::SelectWait, 3), (Aim::End, 6),
+        (Aim::Create, 5),
+        (Aim::Delay, 10),
+        (Aim::DelayEqual, 4),
+        (Aim::DelayNone, 14),
+        (Aim::CallAcceptor, 5),
+        (Aim::CallQueue, 3),
+        (Aim::CallAny, 3),
+        (Aim::SelectCaller, 5),
+        (Aim::SelectWait, 3),
+        (Aim::End, 6),
         (Aim::Tick, 14),
     ],
     tasks: (3, 24),
@@ -126,12 +209,8 @@ const LEVELS: Theme = Theme {
 };
 
 /// Short logs that end in a bad record.
-const SPOILT: Theme = Theme {
-    weights: &[(Aim::Create, 1), (Aim::Delay, 1), (Aim::Tick, 1)],
-    tasks: (0, 2),
-    short: true,
-    ..PLAIN
-};
+const SPOILT: Theme =
+    Theme { weights: &[(Aim::Create, 1), (Aim::Delay, 1), (Aim::Tick, 1)], tasks: (0, 2), short: true, ..PLAIN };
 
 /// Where logs start: at 0, close before a wrap, close before the middle of the clock, or anywhere.
 fn start_clock(random: &mut Random) -> u32 {
@@ -180,9 +259,8 @@ fn idle(state: &Supervisor) -> bool {
     state.running() == 0 && state.delays.first().is_none_or(|timer| state.left(timer.due) > 30)
 }
 
-fn log(random: &mut Random, theme: &Theme, most: usize) -> Log {
+fn log(random: &mut Random, theme: &Theme, clock: u32, most: usize) -> Log {
     let calls = if theme.short { most.min(random.below(4)) } else { most };
-    let clock = start_clock(random);
     let mut state = Supervisor::empty(clock);
     let mut room = [0; ROOM];
     let mut bytes = Vec::new();
@@ -215,5 +293,33 @@ pub fn some_call(random: &mut Random, state: &Supervisor) -> Call {
 /// `logs` logs of at most `calls` calls each.
 pub fn generate(seed: u64, logs: usize, calls: usize) -> Vec<Log> {
     let mut random = Random::new(seed);
-    (0..logs).map(|i| log(&mut random, &THEMES[i % THEMES.len()], calls)).collect()
+    let theme = |i: usize| &THEMES[i % THEMES.len()];
+    let started = |i: usize| {
+        let clock = start_clock(&mut random);
+        log(&mut random, theme(i), clock, calls)
+    };
+    (0..logs).map(started).collect()
+}
+
+/// The records of one log from clock 0 with so many calls, chosen so that its tasks stay alive.
+pub fn long(seed: u64, calls: usize) -> Vec<u8> {
+    let mut random = Random::new(seed);
+    let mut bytes = Vec::new();
+    let mut state = Supervisor::empty(0);
+    for _ in 0..calls {
+        let mut call = Call::Tick;
+        let mut after = state.clone();
+        for _ in 0..8 {
+            call = some_call(&mut random, &state);
+            after = state.clone();
+            after.step(&call, &mut [0; ROOM]);
+            if call != Call::Finish && !idle(&after) {
+                break;
+            }
+        }
+        state = after;
+        bytes.extend(calls::record(&call));
+    }
+    spoil::tail(&mut random, &mut bytes);
+    bytes
 }

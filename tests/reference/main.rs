@@ -3,6 +3,7 @@
 mod aims;
 mod calls;
 mod damage;
+mod explore;
 mod flat;
 mod forge;
 mod generate;
@@ -28,6 +29,7 @@ const USAGE: &str = "the reference of the supervisor; it reads standard input wh
   stepper                    prints what the program stepper prints for a log
   replay                     prints what the program replay prints for a sequence of logs
   generate SEED LOGS CALLS   writes a sequence of LOGS logs of at most CALLS calls each
+  long SEED CALLS            writes one log of CALLS calls and a bad record, for stepper
   tally                      prints how often each event occurs in a sequence of logs; fails if one never does
   promises                   checks on a sequence of logs what is promised of every log
   shrink FILE COMMAND...     where the command differs from replay on the file, prints a small log that shows it
@@ -36,6 +38,8 @@ const USAGE: &str = "the reference of the supervisor; it reads standard input wh
   damage SEED N              writes N states of 439 bytes, sound ones and damaged ones
   verdicts                   prints for each state whether it is sound
   cases SEED N               writes N cases of a state, a call, a length of room and a question
+  each-byte SEED             writes the cases of one state of 31 tasks with each of its bytes set to each value
+  explore N                  writes the cases of the first N states of a small world, each with every call of it
   judge CASES WRITTEN        fails, with the first difference, if the answers in WRITTEN are not the reference's
   tally-states               prints how many states break each rule; fails if a rule is never broken
 ";
@@ -119,6 +123,12 @@ fn tally_states() -> Result<(), String> {
     }
 }
 
+fn explore(states: usize) -> Result<(), String> {
+    let (cases, depth) = explore::cases(states);
+    eprintln!("{states} states; every log of {depth} calls of the small world is among the cases");
+    output(&cases)
+}
+
 /// Holds the answers of a library against the reference's.
 fn judge(cases: &str, written: &str) -> Result<(), String> {
     let read = |file: &str| std::fs::read(file).map_err(|e| format!("{file}: {e}"));
@@ -137,6 +147,7 @@ fn run(words: &[&str]) -> Result<(), String> {
             let (logs, calls) = (number(logs)? as usize, number(calls)? as usize);
             output(&logs::pack(&generate::generate(number(seed)?, logs, calls)))
         }
+        ["long", seed, calls] => output(&generate::long(number(seed)?, number(calls)? as usize)),
         ["tally"] => tally(),
         ["promises"] => promises(),
         ["shrink", file, command @ ..] if !command.is_empty() => shrink(file, command),
@@ -146,6 +157,8 @@ fn run(words: &[&str]) -> Result<(), String> {
         ["verdicts"] => output(states::verdicts(&input()?).as_bytes()),
         ["tally-states"] => tally_states(),
         ["cases", seed, count] => output(&judge::cases(number(seed)?, number(count)? as usize)),
+        ["each-byte", seed] => output(&judge::each_byte(number(seed)?)),
+        ["explore", states] => explore(number(states)? as usize),
         ["judge", cases, written] => judge(cases, written),
         _ => Err(USAGE.to_string()),
     }

@@ -32,7 +32,11 @@ fn time_of(call: &Call) -> Option<u32> {
 }
 
 fn demand(holds: bool, promise: &str) -> Result<(), String> {
-    if holds { Ok(()) } else { Err(promise.to_string()) }
+    if holds {
+        Ok(())
+    } else {
+        Err(promise.to_string())
+    }
 }
 
 impl Ledger {
@@ -49,7 +53,8 @@ impl Ledger {
             let mut room = [0xa5; ROOM];
             let before = state.clone();
             let answer = state.step(&call, &mut room);
-            let checked = self.record(&call, record, taken).and_then(|()| self.step(&before, &state, &call, &answer, &room));
+            let checked =
+                self.record(&call, record, taken).and_then(|()| self.step(&before, &state, &call, &answer, &room));
             checked.map_err(|promise| format!("step {}: {promise}", i + 1))?;
             self.steps += 1;
         }
@@ -60,11 +65,21 @@ impl Ledger {
     fn record(&self, call: &Call, record: &[u8], taken: usize) -> Result<(), String> {
         let mut room = [0xa5; 10];
         demand(taken == record.len() && calls::write(call, &mut room) == Ok(taken), "the record is read and written")?;
-        demand(room[..taken] == *record && room[taken..].iter().all(|&byte| byte == 0xa5), "only the record is written")?;
+        demand(
+            room[..taken] == *record && room[taken..].iter().all(|&byte| byte == 0xa5),
+            "only the record is written",
+        )?;
         demand(calls::write(call, &mut room[..taken - 1]) == Err(refusal::SHORT_ROOM), "the writer wants its room")
     }
 
-    fn step(&mut self, before: &Supervisor, after: &Supervisor, call: &Call, a: &Answer, room: &[u8]) -> Result<(), String> {
+    fn step(
+        &mut self,
+        before: &Supervisor,
+        after: &Supervisor,
+        call: &Call,
+        a: &Answer,
+        room: &[u8],
+    ) -> Result<(), String> {
         let bytes = flat::write(after);
         demand(flat::broken(Flat(&bytes)).is_none() && after.sound(), "every state reached is sound")?;
         demand(states::reads_back(&bytes), "a state reads back from its bytes")?;

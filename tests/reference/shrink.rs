@@ -97,10 +97,9 @@ impl Pieces {
                 Call::Call { target, entry, mode: CallMode::Simple },
                 Call::Call { target, entry, mode: CallMode::Timed(d / 2) },
             ],
-            Call::Select { open, mode: SelectMode::Delay(d) } => &[
-                Call::Select { open, mode: SelectMode::Plain },
-                Call::Select { open, mode: SelectMode::Delay(d / 2) },
-            ],
+            Call::Select { open, mode: SelectMode::Delay(d) } => {
+                &[Call::Select { open, mode: SelectMode::Plain }, Call::Select { open, mode: SelectMode::Delay(d / 2) }]
+            }
             _ => &[],
         };
         let changed = |&call: &Call| {
@@ -113,11 +112,32 @@ impl Pieces {
     }
 }
 
-/// The first of these that still shows a difference; all are put to the program in one run.
+fn differs_alone(command: &[&str], log: &Log) -> Result<bool, String> {
+    let one = std::slice::from_ref(log);
+    Ok(first_difference(one, &answer_of(command, one)?).is_some())
+}
+
+/// The first log on which the program differs when it is given nothing else, as its place among the logs. All are put
+/// to it in one run first; a program that breaks off may lose what it had to say of logs before.
+fn first_alone(command: &[&str], logs: &[Log]) -> Result<Option<usize>, String> {
+    let Some(i) = first_difference(logs, &answer_of(command, logs)?) else {
+        return Ok(None);
+    };
+    if differs_alone(command, &logs[i])? {
+        return Ok(Some(i));
+    }
+    for (i, log) in logs.iter().enumerate() {
+        if differs_alone(command, log)? {
+            return Ok(Some(i));
+        }
+    }
+    Ok(None)
+}
+
+/// The first of these that still shows a difference.
 fn still_differs(command: &[&str], candidates: &[Pieces]) -> Result<Option<Pieces>, String> {
     let logs: Vec<Log> = candidates.iter().map(Pieces::log).collect();
-    let written = answer_of(command, &logs)?;
-    Ok(first_difference(&logs, &written).map(|i| candidates[i].clone()))
+    Ok(first_alone(command, &logs)?.map(|i| candidates[i].clone()))
 }
 
 /// Takes out what can be taken out: halves first, then smaller parts, then single calls and tasks.
@@ -146,20 +166,13 @@ fn smaller(command: &[&str], start: Pieces) -> Result<Pieces, String> {
 /// nothing if there is none.
 pub fn shrink(input: &[u8], command: &[&str]) -> Result<Option<String>, String> {
     let logs = logs::unpack(input);
-    let written = answer_of(command, &logs)?;
-    let Some(i) = first_difference(&logs, &written) else {
-        return Ok(None);
+    let Some(i) = first_alone(command, &logs)? else {
+        let whole = first_difference(&logs, &answer_of(command, &logs)?);
+        return Ok(whole.map(|i| format!("log {} differs, but no log does alone", i + 1)));
     };
-    let start = Pieces::of(&logs[i]);
-    let mut text = format!("log {} of {} differs", i + 1, logs.len());
-    let log = match still_differs(command, &[start.clone()])? {
-        Some(_) => smaller(command, start)?.log(),
-        None => {
-            text += ", but not alone: it depends on the logs before it";
-            logs[i].clone()
-        }
-    };
-    let theirs = answer_of(command, &[log.clone()])?;
-    text += &format!("; small:\n{}the reference prints\n{}", words::of_log(&log), log.printed());
-    Ok(Some(text + &format!("the program prints\n{theirs}\n")))
+    let log = smaller(command, Pieces::of(&logs[i]))?.log();
+    let theirs = answer_of(command, std::slice::from_ref(&log))?;
+    let head = format!("log {} of {} differs; small:\n", i + 1, logs.len());
+    let printed = format!("the reference prints\n{}the program prints\n{theirs}\n", log.printed());
+    Ok(Some(head + &words::of_log(&log) + &printed))
 }

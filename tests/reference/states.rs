@@ -3,8 +3,19 @@
 use crate::flat::{self, Flat, Rule, STATE};
 
 const RULES: [Rule; 14] = [
-    Rule::Created, Rule::UnusedPlaces, Rule::PriorityAndEntries, Rule::Place, Rule::Timer, Rule::Lines, Rule::OnePlace,
-    Rule::DelayQueue, Rule::DueTimes, Rule::OrderOfTicksLeft, Rule::CallersEntry, Rule::CompletedIsFree, Rule::OpenSet,
+    Rule::Created,
+    Rule::UnusedPlaces,
+    Rule::PriorityAndEntries,
+    Rule::Place,
+    Rule::Timer,
+    Rule::Lines,
+    Rule::OnePlace,
+    Rule::DelayQueue,
+    Rule::DueTimes,
+    Rule::OrderOfTicksLeft,
+    Rule::CallersEntry,
+    Rule::CompletedIsFree,
+    Rule::OpenSet,
     Rule::OpenEntryWithoutCaller,
 ];
 

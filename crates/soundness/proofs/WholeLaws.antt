@@ -19,8 +19,8 @@ use Rattle.rules.specs.Whole.{view, unused, soundWhole}
 use Rattle.rules.specs.declared.Supervisor.{Supervisor}
 use Rattle.soundness.specs.declared.stand.Line.{Line}
 use Rattle.soundness.specs.declared.stand.Line.the-variants.{Ready, Callers, Held, Delays}
-use Rattle.soundness.specs.Check.{named, goodIn, leftOf, ascending, belongs, arrayOf, standsIn, lineHas}
-use Rattle.soundness.proofs.LineLaws.{and-none}
+use Rattle.soundness.specs.Check.{named, goodIn, leftOf, ascending, belongs, arrayOf, lines, standsIn, lineHas}
+use Rattle.soundness.proofs.TaskLaws.{and-none}
 
 -- ── order: each at most the next is each at most all behind ──
 
@@ -84,11 +84,11 @@ stand-is s d =
 
 -- the same fourteen tests and the order, in the code's grouping and in the rules'
 regroup : (u t1 t2 t3 t4 g c1 c2 c3 c4 n1 n2 n3 n4 o : Bool)
-    → (((u && g) && ((((t1 && n1) && c1) && ((t2 && n2) && c2)) && ((t3 && n3) && c3))) && (((t4 && n4) && c4) && o))
+    → (((u && g) && (((t1 && n1) && c1) && (((t2 && n2) && c2) && (((t3 && n3) && c3) && (((t4 && n4) && c4) && true))))) && o)
     ≡ (((((u && t1) && t2) && t3) && t4) && ((((((g && c1) && c2) && c3) && c4) && (((n1 && n2) && n3) && n4)) && o))
 regroup u t1 t2 t3 t4 g c1 c2 c3 c4 n1 n2 n3 n4 o = go u t1 t2 t3 t4 g c1 c2 c3 c4 n1 n2 n3 n4
   where
-    go : (u t1 t2 t3 t4 g c1 c2 c3 c4 n1 n2 n3 n4 : Bool) → (((u && g) && ((((t1 && n1) && c1) && ((t2 && n2) && c2)) && ((t3 && n3) && c3))) && (((t4 && n4) && c4) && o)) ≡ (((((u && t1) && t2) && t3) && t4) && ((((((g && c1) && c2) && c3) && c4) && (((n1 && n2) && n3) && n4)) && o))
+    go : (u t1 t2 t3 t4 g c1 c2 c3 c4 n1 n2 n3 n4 : Bool) → (((u && g) && (((t1 && n1) && c1) && (((t2 && n2) && c2) && (((t3 && n3) && c3) && (((t4 && n4) && c4) && true))))) && o) ≡ (((((u && t1) && t2) && t3) && t4) && ((((((g && c1) && c2) && c3) && c4) && (((n1 && n2) && n3) && n4)) && o))
     go false t1 t2 t3 t4 g c1 c2 c3 c4 n1 n2 n3 n4 = refl
     go true false t2 t3 t4 g c1 c2 c3 c4 n1 n2 n3 n4 = simp and-none
     go true true false t3 t4 g c1 c2 c3 c4 n1 n2 n3 n4 = simp and-none
@@ -108,13 +108,12 @@ regroup u t1 t2 t3 t4 g c1 c2 c3 c4 n1 n2 n3 n4 o = go u t1 t2 t3 t4 g c1 c2 c3 
 pub unsound-many : (s : Supervisor) → 31 < s .created → false ≡ soundWhole s
 unsound-many s h = rw (lt-leb (s .created) 31 h)
 
-pub sound-is : (s : Supervisor) (u g l1 l2 l3 l4 o : Bool) → s .created ≤ 31 → length (s .tasks) ≡ 31
+pub sound-is : (s : Supervisor) (u g l o : Bool) → s .created ≤ 31 → length (s .tasks) ≡ 31
     → u ≡ every unused (drop (s .created) (s .tasks)) → g ≡ every (goodIn (view s)) (downFrom (s .created))
-    → l1 ≡ standsIn s Ready → l2 ≡ standsIn s Callers → l3 ≡ standsIn s Held → l4 ≡ standsIn s Delays
-    → o ≡ ascending (leftOf (view s)) 0 (line (s .delays))
-    → (((u && g) && ((l1 && l2) && l3)) && (l4 && o)) ≡ soundWhole s
+    → l ≡ every (standsIn s) lines → o ≡ ascending (leftOf (view s)) 0 (line (s .delays))
+    → (((u && g) && l) && o) ≡ soundWhole s
 unfolding sound lineHas
-sound-is s u g l1 l2 l3 l4 o h k eu eg e1 e2 e3 e4 eo =
+sound-is s u g l o h k eu eg el eo =
     let n : created (view s) ≡ s .created = length-take-le (s .created) (s .tasks) (omega arith) in
     let f : ℕ → Bool = named (s .created) in
     let r = line (s .ready) in let c = line (s .callers) in let d = line (s .held) in let w = line (s .delays) in
@@ -126,7 +125,7 @@ sound-is s u g l1 l2 l3 l4 o h k eu eg e1 e2 e3 e4 eo =
     let order = sym (order-whole (leftOf (view s)) w) in
     let p = le-leb (s .created) 31 h in
     let q : leb (created (view s)) 31 ≡ true = le-leb (created (view s)) 31 (omega arith) in
-    rw (eu, eg, e1, e2, e3, e4, eo, p, q, stand, all, order)
+    rw (eu, eg, el, eo, p, q, stand, all, order)
     (regroup (every unused (drop (s .created) (s .tasks))) (tidy (s .ready)) (tidy (s .callers)) (tidy (s .held)) (tidy (s .delays))
     (every (goodIn (view s)) t) (every (right s Ready) t) (every (right s Callers) t) (every (right s Held) t) (every (right s Delays) t)
     (every f r) (every f c) (every f d) (every f w) (ascending (leftOf (view s)) 0 w))

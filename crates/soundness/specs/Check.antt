@@ -1,7 +1,7 @@
 -- What the parts of the soundness check answer.
 -- Assumes nothing.
-use Prim.Native.Nat.{ℕ, zero, suc, _+_, _-_}
-use mathlib.Core.Bool.{Bool, true, false, not, _&&_}
+use Prim.Native.Nat.{ℕ, zero, suc, _+_}
+use mathlib.Core.Bool.{Bool, true, not, _&&_}
 use mathlib.Core.List.{List, [], _∷_}
 use lib.Dec.{eqb, ltb, leb}
 use Rattle.lists.specs.Line.{line, blanks, tidy}
@@ -18,10 +18,6 @@ use Rattle.soundness.specs.declared.stand.Line.the-variants.{Ready, Call
 -- x is one of 1..most
 abbrev pub named : ℕ → ℕ → Bool
 named most x = ltb 0 x && leb x most
-
--- where task t stands in the table; 0 for a number that no task has
-abbrev pub indexOf : ℕ → ℕ
-indexOf t = if named 31 t then t - 1 else 0
 
 -- task t is good, beside the task that it has called
 abbrev pub goodIn : State → ℕ → Bool
@@ -51,6 +47,9 @@ arrayOf s Ready = s .ready
 arrayOf s Callers = s .callers
 arrayOf s Held = s .held
 arrayOf s Delays = s .delays
+
+abbrev pub lines : List Line
+lines = Ready ∷ Callers ∷ Held ∷ Delays ∷ []
 
 -- the array is task numbers 1..n and blanks behind, and has each of 1..n once if it passes the test, and else not
 unfoldable pub lineHas : ℕ → (ℕ → Bool) → List ℕ → Bool

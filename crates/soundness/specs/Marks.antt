@@ -1,35 +1,33 @@
--- The counters of the check: one for each task number, how often it is still to be met in a line, once or not at all.
+-- The word of the check: bit t says that task t is still to be met in a line.
 -- Assumes nothing.
-use Prim.Native.Nat.{ℕ}
-use mathlib.Core.Path.{_≡_}
-use mathlib.Core.Bool.{Bool, not}
-use mathlib.Core.List.{List}
-use lib.Dec.{eqb}
-use lib.ListN.{length, getD, set, replicate}
-use Rattle.lists.specs.Lists.{bit, every}
+use Prim.Native.Nat.{ℕ, _*_, _^_, _/_, _%_, _<_}
+use mathlib.Core.Bool.{Bool, _&&_}
+use lib.Bits.{bitOr, bitXor}
+use lib.Dec.{eqb, ltb}
+use Rattle.lists.specs.Lists.{if_then_else_, bit}
 
 abbrev pub Marks : Type 0
-Marks = List ℕ
+Marks = ℕ
 
--- there is a counter for each of 0..31
+-- a word of 32 bits
 abbrev pub Whole : Marks → Type 0
-Whole m = length m ≡ 32
+Whole m = m < 4294967296
 
 -- none is to be met
 abbrev pub noMarks : Marks
-noMarks = replicate 32 0
+noMarks = 0
 
 -- t is still to be met
 unfoldable pub hasMark : Marks → ℕ → Bool
-hasMark m t = not (eqb (getD m t 0) 0)
+hasMark m t = ltb t 32 && eqb (m / 2 ^ t % 2) 1
 
 -- t, which was not to be met, is now, if so said; the others as before
 unfoldable pub withMark : Marks → ℕ → Bool → Marks
-withMark m t here = set m t (bit here)
+withMark m t here = if ltb t 32 then bitOr m (bit here * 2 ^ t) else m
 
 -- t, which was to be met, is no longer; the others as before
 unfoldable pub withoutMark : Marks → ℕ → Marks
-withoutMark m t = set m t 0
+withoutMark m t = if ltb t 32 then bitXor m (2 ^ t) else m
 
 unfoldable pub isNone : Marks → Bool
-isNone m = every (λ (x : ℕ). eqb x 0) m
+isNone m = eqb m 0

@@ -1,4 +1,6 @@
-// The soundness check: whether a state is sound, as the rules say it.
+// The soundness check: whether a state is sound, as the rules say it. The modules are this crate's own: what others see is
+// `is_sound`. No function that is called for each task takes the state: each call would copy it whole. Each function that does
+// take it is called in one place, so that the compiler lays them all into `is_sound`, with one copy of the state among them.
 ghost use Prim.Native.Nat.{_≤_};
 ghost use lib.ListN.{drop};
 ghost use mathlib.Core.Path.{_≡_};
@@ -6,8 +8,9 @@ ghost use Rattle.lists.specs.Lists.{every, downFrom};
 ghost use Rattle.rules.specs.Whole.{view, unused, soundWhole};
 ghost use Rattle.soundness.specs.Check.{goodIn};
 use rules::Supervisor;
-use table::place::is_between;
 use table::place::partner_of;
+use table::tasks::index_of;
+use table::tasks::shown;
 
 mod marks;
 mod order;
@@ -35,16 +38,16 @@ fn all_good(s: Supervisor) -> bool
     requires { ⌜ s .created ≤ 31 ⌝ }
     ensures { λ r. ⌜ r ≡ every (goodIn (view s)) (downFrom (s .created)) ⌝ }
 {
-    let n = s.created;
-    let mut t = n;
+    let mut t = s.created;
     while t > 0 {
-        let at = task::index_of(t);
-        let x = s.tasks[at];
+        let i = (t - 1) as usize;
+        let x = s.tasks[i];
         let p = x.place;
         let u = partner_of(p);
-        let to = task::index_of(u);
-        let g = s.tasks[to];
-        if task::is_good(s.clock, x, is_between(u, n), g) {
+        let at = index_of(u);
+        let k = s.tasks[at];
+        let g = shown(s.created, u, k);
+        if task::is_good(s.clock, x, g) {
             t -= 1;
         } else {
             return false;
@@ -60,9 +63,5 @@ pub fn is_sound(s: Supervisor) -> bool
     if s.created > 31 {
         return false;
     }
-    let placed = stand::in_line(s, stand::Line::Ready)
-        & stand::in_line(s, stand::Line::Callers)
-        & stand::in_line(s, stand::Line::Held);
-    let timed = stand::in_line(s, stand::Line::Delays) & order::in_order(s);
-    all_unused(s) & all_good(s) & placed & timed
+    all_unused(s) & all_good(s) & stand::in_lines(s) & order::in_order(s)
 }

@@ -1,10 +1,12 @@
 // Each task stands once in the line of its place, and nowhere else.
 ghost use Prim.Native.Nat.{_≤_};
-ghost use lib.ListN.{length};
+ghost use lib.ListN.{length, getD};
 ghost use mathlib.Core.Bool.{_&&_, not};
 ghost use mathlib.Core.Path.{_≡_};
 ghost use lib.Dec.{eqb};
-ghost use Rattle.soundness.specs.Check.{belongs, emptied, full, standsIn};
+ghost use Rattle.lists.specs.Lists.{every};
+ghost use Rattle.soundness.specs.Check.{belongs, emptied, full, lines, standsIn};
+ghost use Rattle.soundness.specs.declared.stand.Line.the-variants.{Delays};
 ghost use Rattle.soundness.specs.Marks.{hasMark};
 use crate::marks;
 use rules::Supervisor;
@@ -50,49 +52,76 @@ fn filled(a: &[u8; 31]) -> u8
 }
 
 // Whether t is a task that is still to be met.
-fn is_awaited(m: &[u8; 32], t: u8) -> bool
-    requires { ⌜ length (now m) ≡ 32 ⌝ }
-    ensures { λ r. ⌜ r ≡ (not (eqb t 0) && hasMark (now (m .entry)) t) ⌝ }
+fn is_awaited(word: u32, t: u8) -> bool
+    ensures { λ r. ⌜ r ≡ (not (eqb t 0) && hasMark word t) ⌝ }
 {
-    (t != 0) & marks::has(m, t)
+    (t != 0) & marks::has(word, t)
 }
 
 // Walks the line: each in it is still to be met, and at its end none is.
-fn is_met(a: &[u8; 31], m: [u8; 32]) -> bool
+fn is_met(a: &[u8; 31], word: u32) -> bool
     requires { ⌜ length (now a) ≡ 31 ⌝ }
-    ensures { λ r. ⌜ r ≡ emptied m (now (a .entry)) ⌝ }
+    ensures { λ r. ⌜ r ≡ emptied word (now (a .entry)) ⌝ }
 {
     let k = filled(a);
-    let mut rest = m;
+    let mut rest = word;
     let mut i: u8 = 0;
     while i < k {
         let t = a[i as usize];
-        if is_awaited(&rest, t) {
-            rest[t as usize] = 0;
+        if is_awaited(rest, t) {
+            rest = marks::without(rest, t);
             i += 1;
         } else {
             return false;
         }
     }
-    marks::is_none(&rest)
+    marks::is_none(rest)
 }
 
 // The line holds each created task that belongs into it, once, and nothing else.
-pub fn in_line(s: Supervisor, l: Line) -> bool
+fn in_line(s: Supervisor, l: Line) -> bool
     requires { ⌜ s .created ≤ 31 ⌝ }
     ensures { λ r. ⌜ r ≡ standsIn s l ⌝ }
 {
-    let mut m = [0u8; 32];
+    let mut word: u32 = 0;
     let mut t: u8 = 0;
     while t < s.created {
         let x = s.tasks[t as usize];
         t += 1;
-        m[t as usize] = is_of(l, x) as u8;
+        word = marks::with(word, t, is_of(l, x));
     }
     match l {
-        Line::Ready => is_met(&s.ready, m),
-        Line::Callers => is_met(&s.callers, m),
-        Line::Held => is_met(&s.held, m),
-        Line::Delays => is_met(&s.delays, m),
+        Line::Ready => is_met(&s.ready, word),
+        Line::Callers => is_met(&s.callers, word),
+        Line::Held => is_met(&s.held, word),
+        Line::Delays => is_met(&s.delays, word),
     }
+}
+
+// The line with the number i; the last for every number above.
+fn line_at(i: u8) -> Line
+    ensures { λ r. ⌜ r ≡ getD lines i Delays ⌝ }
+{
+    match i {
+        0 => Line::Ready,
+        1 => Line::Callers,
+        2 => Line::Held,
+        _ => Line::Delays,
+    }
+}
+
+// Each of the four lines.
+pub fn in_lines(s: Supervisor) -> bool
+    requires { ⌜ s .created ≤ 31 ⌝ }
+    ensures { λ r. ⌜ r ≡ every (standsIn s) lines ⌝ }
+{
+    let mut i: u8 = 0;
+    while i < 4 {
+        if in_line(s, line_at(i)) {
+            i += 1;
+        } else {
+            return false;
+        }
+    }
+    true
 }

@@ -1,31 +1,15 @@
 // Tests on one task, and on the task that it has called.
-ghost use Prim.Native.Nat.{_<_};
 ghost use mathlib.Core.Path.{_≡_};
-ghost use Rattle.lists.specs.Lists.{if_then_else_};
 ghost use Rattle.rules.specs.Sound.{calls, fits, timeInRange, goodTask};
-ghost use Rattle.rules.specs.State.{blank};
 ghost use Rattle.rules.specs.Whole.{isBlank, isOff, unused};
-ghost use Rattle.soundness.specs.Check.{indexOf};
 use rules::Place;
 use rules::Task;
 use rules::Timer;
 use table::place::accepts_at;
 use table::place::has_time;
 use table::place::in_range;
-use table::place::is_between;
 use table::place::is_completed;
 use table::place::is_too_wide;
-
-// Where task t stands in the table; 0 for a number that no task has.
-pub fn index_of(t: u8) -> usize
-    ensures { λ r. ⌜ (r ≡ indexOf t) × (r < 31) ⌝ }
-{
-    if is_between(t, 31) {
-        (t - 1) as usize
-    } else {
-        0
-    }
-}
 
 fn is_blank(p: Place) -> bool
     ensures { λ r. ⌜ r ≡ isBlank p ⌝ }
@@ -58,16 +42,16 @@ pub fn is_unused(x: Task) -> bool
     (x.priority == 0) & (x.entries == 0) & is_blank(p) & is_off(w)
 }
 
-// Whether e is an entry of the called task, which is g if it is there.
-fn calls_entry(there: bool, g: Task, e: u8) -> bool
-    ensures { λ r. ⌜ r ≡ calls (if there then g else blank) e ⌝ }
+// Whether e is an entry of the called task g.
+fn calls_entry(g: Task, e: u8) -> bool
+    ensures { λ r. ⌜ r ≡ calls g e ⌝ }
 {
     let p = g.place;
-    there & ((0 < e) & (e <= g.entries) & !is_completed(p))
+    (0 < e) & (e <= g.entries) & !is_completed(p)
 }
 
-fn is_fit(me: Task, there: bool, g: Task, p: Place, w: Timer) -> bool
-    ensures { λ r. ⌜ r ≡ fits me (if there then g else blank) p w ⌝ }
+fn is_fit(me: Task, g: Task, p: Place, w: Timer) -> bool
+    ensures { λ r. ⌜ r ≡ fits me g p w ⌝ }
 {
     let q = g.place;
     let timed = has_time(w);
@@ -75,8 +59,8 @@ fn is_fit(me: Task, there: bool, g: Task, p: Place, w: Timer) -> bool
         Place::Blank => false,
         Place::Ready => !timed,
         Place::Delayed => timed,
-        Place::Queued(a) => calls_entry(there, g, a.entry) & !accepts_at(q, a.entry),
-        Place::Held(m) => calls_entry(there, g, m.entry) & !timed,
+        Place::Queued(a) => calls_entry(g, a.entry) & !accepts_at(q, a.entry),
+        Place::Held(m) => calls_entry(g, m.entry) & !timed,
         Place::Accepting(o) => !is_too_wide(o.opens, me.entries) & ((0 < o.opens) | timed),
         Place::Completed => !timed,
     }
@@ -94,11 +78,11 @@ fn is_in_time(now: u32, w: Timer) -> bool
     }
 }
 
-// The task's numbers, its place and its time, where the called task is g if it is there.
-pub fn is_good(now: u32, me: Task, there: bool, g: Task) -> bool
-    ensures { λ r. ⌜ r ≡ goodTask now me (if there then g else blank) ⌝ }
+// The task's numbers, its place and its time, where g is the task that it has called.
+pub fn is_good(now: u32, me: Task, g: Task) -> bool
+    ensures { λ r. ⌜ r ≡ goodTask now me g ⌝ }
 {
     let p = me.place;
     let w = me.timer;
-    in_range(me.priority, me.entries) & is_fit(me, there, g, p, w) & is_in_time(now, w)
+    in_range(me.priority, me.entries) & is_fit(me, g, p, w) & is_in_time(now, w)
 }

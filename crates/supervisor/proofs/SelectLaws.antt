@@ -1,17 +1,15 @@
 -- SELECT.
 -- Assumes nothing.
-use Prim.Native.Nat.{ℕ, zero, suc, _+_, _-_, _≤_, _<_, _^_}
-use mathlib.Core.Path.{_≡_, refl, sym, ap, _∙_}
-use mathlib.Core.Bool.{Bool, true, false, _&&_}
+use Prim.Native.Nat.{ℕ, zero, suc, _≤_, _^_}
+use mathlib.Core.Path.{_≡_, refl, sym}
+use mathlib.Core.Bool.{true, false}
 use mathlib.Core.List.{[]}
-use native.Mathlib.Omega.{arith}
-use native.Mathlib.Numerals.{add-one}
 use lib.Dec.{ltb, leb, eqb}
 use lib.ListN.{length}
 use borrow.Author.Tests.{ltb-true}
 use Rattle.lists.specs.Lists.{first}
 use Rattle.rules.specs.State.{State, taskOf, move, running, after, opens, queue, offer, meet}
-use Rattle.rules.specs.Step.{refused, took, NO-TASK, NO-ENTRY, item, WAITS, ACCEPTED, DELAY-TAKEN, ticks, openEntry, openFrom, selectDelay, selectNone, selectAt, select, takeCall}
+use Rattle.rules.specs.Step.{refused, took, NO-TASK, NO-ENTRY, item, WAITS, ACCEPTED, DELAY-TAKEN, ticks, openEntry, selectDelay, selectNone, selectAt, select, takeCall}
 use Rattle.rules.specs.declared.Place.the-variants.{Accepting}
 use Rattle.rules.specs.declared.Timer.the-variants.{Due}
 use Rattle.calls.specs.declared.Call.the-variants.{Delay, Select}
@@ -62,24 +60,6 @@ module _ (v : State) (t o : ℕ) (d : ℤ) (n : ℕ) (is : n ≡ ticks d) where
       go : (n : ℕ) → (n ≡ 0 → ⊥) → selectDelay v t o n ≡ took (move v t (Accepting (offer o)) (Due (after (v .clock) n))) (item t WAITS 0 0) []
       go zero z = absurd (z refl)
       go (suc n) z = refl
-
--- the search for an open entry, turn by turn
-module _ (v : State) (t o e : ℕ) where
-  look : (k : ℕ) (b : Bool) → ℕ
-  look k b = elim b as (λ _. ℕ) [ true ↦ e | false ↦ openFrom v t o k (suc e) ]
-
-  pub open-hit : e < 9 → (opens o e && ltb 0 (length (queue v t e))) ≡ true → openFrom v t o (9 - e) e ≡ e
-  unfolding look
-  open-hit h q = let k : 9 - e ≡ suc (8 - e) = omega arith in ap (λ (n : ℕ). openFrom v t o n e) k ∙ ap (look (8 - e)) q
-
-  pub open-on : e < 9 → (opens o e && ltb 0 (length (queue v t e))) ≡ false → openFrom v t o (9 - e) e ≡ openFrom v t o (9 - (e + 1)) (e + 1)
-  unfolding look
-  open-on h q =
-      let k : 9 - e ≡ suc (9 - (e + 1)) = omega arith in
-      ap (λ (n : ℕ). openFrom v t o n e) k ∙ ap (look (9 - (e + 1))) q ∙ ap (openFrom v t o (9 - (e + 1))) (sym (add-one e))
-
-  pub open-end : 9 ≤ e → openFrom v t o (9 - e) e ≡ 0
-  open-end h = let k : 9 - e ≡ 0 = omega arith in rw k
 
 pub quiet-select : (v : State) (o : ℕ) (m : SelectMode) → Quiet (takeCall v (Select o m))
 quiet-select v o m = quiet-runner (running v) (λ t. select v t o m) (λ t. by-test Quiet (leb (2 ^ (taskOf v t .entries)) o) (λ _. refl) (λ _. at t m (openEntry v t o)))

@@ -31,12 +31,15 @@ abbrev pub endedBy : Outcome → List Item
 endedBy (refused r) = []
 endedBy (took st a l) = l
 
--- the item of caller c, woken by FINISH or by TICK
+-- why the wait of a task in place p ends, by FINISH or by TICK; its item
 abbrev pub reasonOf : Bool → Place → ℕ
 reasonOf b p = if b then TASKING-ERROR else expiry p
 
+abbrev pub itemAt : Bool → ℕ → Place → Item
+itemAt b c p = item c (reasonOf b p) (entryOf p) (partnerOf p)
+
 abbrev pub itemOf : State → Bool → ℕ → Item
-itemOf s b c = item c (reasonOf b (placeOf s c)) (entryOf (placeOf s c)) (partnerOf (placeOf s c))
+itemOf s b c = itemAt b c (placeOf s c)
 
 -- each of the list is a created task
 abbrev pub AllThere : State → List ℕ → Type 0

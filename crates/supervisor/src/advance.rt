@@ -11,6 +11,7 @@ ghost use Rattle.rules.specs.Whole.{view};
 ghost use Rattle.supervisor.specs.Taken.{Stands, takenOf, endedBy, CrossedTo};
 use super::answers::Taken;
 use super::answers::answered;
+use super::numbers::DONE;
 use super::tick::tick_to;
 use rules::Supervisor;
 use table::place::ticks_left;
@@ -77,6 +78,7 @@ fn cross(s: Supervisor, n: u32, room: &mut [u8]) -> Crossing
     }
 }
 
+// The clock goes on by n, and those due on the way become ready, one due moment after the other.
 pub fn advance(s: Supervisor, n: u32, room: &mut [u8]) -> Taken
     requires { ⌜ Stands s × (124 ≤ length (now room)) ⌝ }
     ensures { λ r. ⌜ r ≡ takenOf s (takeCall (view s) (Advance n)) ⌝ }
@@ -86,5 +88,5 @@ pub fn advance(s: Supervisor, n: u32, room: &mut [u8]) -> Taken
     let mut m = k.state;
     let reading = std::num::wrapping_add_u32(m.clock, k.rest);
     m.clock = reading;
-    answered(m, 0, 10, k.moments, 0, k.ended)
+    answered(m, 0, DONE, k.moments, 0, k.ended)
 }

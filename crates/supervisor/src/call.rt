@@ -11,6 +11,15 @@ use super::answers::answered;
 use super::answers::refused_by;
 use super::answers::ticks_of;
 use super::ended::put;
+use super::numbers::ACCEPTED;
+use super::numbers::CALL_EXPIRED;
+use super::numbers::NO_ENTRY;
+use super::numbers::NO_TARGET;
+use super::numbers::NO_TASK;
+use super::numbers::NOT_NOW;
+use super::numbers::QUEUE_FULL;
+use super::numbers::TASKING_ERROR;
+use super::numbers::WAITS;
 use calls::CallMode;
 use rules::Item;
 use rules::Place;
@@ -43,7 +52,7 @@ fn enqueued(s: Supervisor, t: u8, g: u8, e: u8, w: Timer) -> Taken
     );
     let n = lines::len(q);
     if n >= 31 {
-        return refused_by(s, 10);
+        return refused_by(s, QUEUE_FULL);
     }
     let m = moved(
         s,
@@ -54,7 +63,7 @@ fn enqueued(s: Supervisor, t: u8, g: u8, e: u8, w: Timer) -> Taken
         }),
         w,
     );
-    answered(m, t, 0, 0, 0, 0)
+    answered(m, t, WAITS, 0, 0, 0)
 }
 
 // The target is not there to accept: the caller waits, or not, as the mode says.
@@ -67,15 +76,16 @@ fn call_busy(s: Supervisor, t: u8, g: u8, e: u8, m: CallMode) -> Taken
         CallMode::Timed(d) => {
             let n = ticks_of(d);
             if n == 0 {
-                return answered(s, t, 3, e, g, 0);
+                return answered(s, t, CALL_EXPIRED, e, g, 0);
             }
             let w = Timer::Due(std::num::wrapping_add_u32(s.clock, n));
             enqueued(s, t, g, e, w)
         }
-        CallMode::Conditional => answered(s, t, 8, e, g, 0),
+        CallMode::Conditional => answered(s, t, NOT_NOW, e, g, 0),
     }
 }
 
+// The running task calls entry e of task g: it is held at once, waits in that entry's queue, or does not wait.
 pub fn call(s: Supervisor, g: u8, e: u8, m: CallMode, room: &mut [u8]) -> Taken
     requires { ⌜ Stands s × (124 ≤ length (now room)) ⌝ }
     ensures { λ r. ⌜ r ≡ takenOf s (takeCall (view s) (Call g e m)) ⌝ }
@@ -83,32 +93,32 @@ pub fn call(s: Supervisor, g: u8, e: u8, m: CallMode, room: &mut [u8]) -> Taken
 {
     let t = running(s);
     if t == 0 {
-        return refused_by(s, 4);
+        return refused_by(s, NO_TASK);
     }
     if !is_between(g, s.created) {
-        return refused_by(s, 5);
+        return refused_by(s, NO_TARGET);
     }
     let x = task_of(s, g);
     if !is_between(e, x.entries) {
-        return refused_by(s, 6);
+        return refused_by(s, NO_ENTRY);
     }
     let p = x.place;
     if is_completed(p) {
-        return answered(s, t, 4, e, g, 0);
+        return answered(s, t, TASKING_ERROR, e, g, 0);
     }
     if accepts_at(p, e) {
         put(
             room,
             Item {
                 task: g,
-                result: 5,
+                result: ACCEPTED,
                 entry: e,
                 partner: t,
             },
         );
         let n = moved(s, g, Place::Ready, Timer::Off);
         let k = met(n, g, t, e);
-        return answered(k, t, 0, 0, 0, 1);
+        return answered(k, t, WAITS, 0, 0, 1);
     }
     call_busy(s, t, g, e, m)
 }

@@ -6,7 +6,8 @@ ghost use mathlib.Core.Path.{_≡_};
 ghost use Rattle.lists.specs.Line.{line};
 ghost use Rattle.rules.specs.Step.{roomAfter};
 ghost use Rattle.rules.specs.Whole.{view};
-ghost use Rattle.supervisor.specs.Taken.{Stands, reasonOf, itemOf, AllThere, WokenAs};
+ghost use Rattle.supervisor.specs.Taken.{Stands, reasonOf, itemAt, AllThere, WokenAs};
+use super::numbers::TASKING_ERROR;
 use rules::Item;
 use rules::Place;
 use rules::Supervisor;
@@ -15,7 +16,8 @@ use table::moves::moved;
 use table::place::entry_of;
 use table::place::expiry_of;
 use table::place::partner_of;
-use table::tasks::task_of;
+use table::tasks::index_of;
+use table::tasks::shown;
 
 // The item's four bytes at the front of the room.
 pub fn put(room: &mut [u8], w: Item)
@@ -32,14 +34,13 @@ pub fn put(room: &mut [u8], w: Item)
 fn reason(failed: bool, p: Place) -> u8
     ensures { λ r. ⌜ r ≡ reasonOf failed p ⌝ }
 {
-    if failed { 4 } else { expiry_of(p) }
+    if failed { TASKING_ERROR } else { expiry_of(p) }
 }
 
-fn item_of(s: Supervisor, failed: bool, k: u8) -> Item
-    ensures { λ r. ⌜ r ≡ itemOf (view s) failed k ⌝ }
+// The item of a wait that ends: task k waited in place p.
+fn item_of(failed: bool, k: u8, p: Place) -> Item
+    ensures { λ r. ⌜ r ≡ itemAt failed k p ⌝ }
 {
-    let x = task_of(s, k);
-    let p = x.place;
     Item {
         task: k,
         result: reason(failed, p),
@@ -48,11 +49,13 @@ fn item_of(s: Supervisor, failed: bool, k: u8) -> Item
     }
 }
 
+// What is left when a line of tasks was woken: the state, and how many they were.
 pub struct Woken {
     pub state: Supervisor,
     pub count: u8,
 }
 
+// Each task of the line becomes ready, and its item is written directly behind the one before.
 pub fn wake_all(s: Supervisor, l: [u8; 31], failed: bool, room: &mut [u8]) -> Woken
     requires { ⌜ Stands s × (length (line l) * 4 ≤ length (now room)) × AllThere (view s) (line l) ⌝ }
     ensures { λ r. ⌜ WokenAs (view s) failed (line l) (r .state) (r .count) (now (room .entry)) (now (room .exit)) ⌝ }
@@ -67,9 +70,13 @@ pub fn wake_all(s: Supervisor, l: [u8; 31], failed: bool, room: &mut [u8]) -> Wo
                 count: i as u8,
             };
         }
-        let w = item_of(s, failed, t);
-        let at = i * 4;
-        put(&mut room[at..], w);
+        let at = index_of(t);
+        let k = s.tasks[at];
+        let x = shown(s.created, t, k);
+        let p = x.place;
+        let w = item_of(failed, t, p);
+        let from = i * 4;
+        put(&mut room[from..], w);
         n = moved(n, t, Place::Ready, Timer::Off);
         i += 1;
     }

@@ -11,6 +11,9 @@ use super::answers::Taken;
 use super::answers::answered;
 use super::answers::refused_by;
 use super::ended::wake_all;
+use super::numbers::DONE;
+use super::numbers::NO_TASK;
+use super::numbers::STILL_SERVING;
 use rules::Place;
 use rules::Supervisor;
 use rules::Timer;
@@ -42,6 +45,7 @@ fn queued_on(s: Supervisor, t: u8) -> [u8; 31]
     r
 }
 
+// The running task completes, and all callers queued on it become ready.
 pub fn finish(s: Supervisor, room: &mut [u8]) -> Taken
     requires { ⌜ Stands s × (124 ≤ length (now room)) ⌝ }
     ensures { λ r. ⌜ r ≡ takenOf s (takeCall (view s) Finish) ⌝ }
@@ -49,17 +53,17 @@ pub fn finish(s: Supervisor, room: &mut [u8]) -> Taken
 {
     let t = running(s);
     if t == 0 {
-        return refused_by(s, 4);
+        return refused_by(s, NO_TASK);
     }
     let held = s.held;
     let h = picked(s, held, Test::HeldBy { holder: t });
     let k = lines::len(h);
     if k > 0 {
-        return refused_by(s, 8);
+        return refused_by(s, STILL_SERVING);
     }
     let l = queued_on(s, t);
     let w = wake_all(s, l, true, room);
     let n = w.state;
     let m = moved(n, t, Place::Completed, Timer::Off);
-    answered(m, t, 10, 0, 0, w.count)
+    answered(m, t, DONE, 0, 0, w.count)
 }

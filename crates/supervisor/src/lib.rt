@@ -7,6 +7,7 @@ mod delay;
 mod end;
 mod ended;
 mod finish;
+mod numbers;
 mod select;
 mod tick;
 
@@ -20,6 +21,8 @@ ghost use Rattle.rules.specs.Whole.{steppedOf, view, pack, soundWhole, stepWhol
 ghost use Rattle.supervisor.specs.Taken.{Stands, takenOf, endedBy};
 use answers::Taken;
 use calls::Call;
+use numbers::BAD_STATE;
+use numbers::SHORT_ROOM;
 use rules::Answer;
 use rules::Count;
 use rules::Known;
@@ -33,6 +36,7 @@ use table::queues::picked;
 use table::tasks::blank_task;
 use table::tasks::task_of;
 
+// The call, in a sound state with room enough.
 fn take_call(s: Supervisor, c: Call, room: &mut [u8]) -> Taken
     requires { ⌜ Stands s × (124 ≤ length (now room)) ⌝ }
     ensures { λ r. ⌜ r ≡ takenOf s (takeCall (view s) c) ⌝ }
@@ -54,6 +58,7 @@ fn take_call(s: Supervisor, c: Call, room: &mut [u8]) -> Taken
     }
 }
 
+// The step is refused before the call is looked at.
 fn declined(s: Supervisor, n: u8) -> Stepped
     ensures { λ r. ⌜ r ≡ record { state = s; answer = record { refusal = n; result = 0; task = 0; entry = 0; partner = 0; ended = 0; next = 0 } } ⌝ }
 {
@@ -77,10 +82,10 @@ pub fn step(s: Supervisor, c: Call, room: &mut [u8]) -> Stepped
     ensures room { λ r. ⌜ now (room .exit) ≡ roomAfter (now (room .entry)) (stepWhole s c (length (now (room .entry))) .ended) ⌝ }
 {
     if room.len() < 124 {
-        return declined(s, 1);
+        return declined(s, SHORT_ROOM);
     }
     if !is_sound(s) {
-        return declined(s, 2);
+        return declined(s, BAD_STATE);
     }
     let k = take_call(s, c, room);
     let after = k.state;
@@ -152,7 +157,7 @@ pub fn count(s: Supervisor, t: u8, e: u8) -> Count
         };
     }
     Count {
-        refusal: 2,
+        refusal: BAD_STATE,
         count: 0,
     }
 }
@@ -170,7 +175,7 @@ pub fn callable(s: Supervisor, t: u8) -> Known
         };
     }
     Known {
-        refusal: 2,
+        refusal: BAD_STATE,
         yes: false,
     }
 }

@@ -10,6 +10,7 @@ use super::answers::Taken;
 use super::answers::answered;
 use super::ended::Woken;
 use super::ended::wake_all;
+use super::numbers::DONE;
 use rules::Supervisor;
 use table::queues::Test;
 use table::queues::picked;
@@ -21,6 +22,15 @@ pub fn tick_to(s: Supervisor, reading: u32, room: &mut [u8]) -> Woken
 {
     let delays = s.delays;
     let l = picked(s, delays, Test::DueAt { now: reading });
+    let k = lines::first_of(l);
+    if k == 0 {
+        let mut still = s;
+        still.clock = reading;
+        return Woken {
+            state: still,
+            count: 0,
+        };
+    }
     let w = wake_all(s, l, false, room);
     let mut n = w.state;
     n.clock = reading;
@@ -30,6 +40,7 @@ pub fn tick_to(s: Supervisor, reading: u32, room: &mut [u8]) -> Woken
     }
 }
 
+// The clock goes on by one, and those due now become ready in delay-queue order.
 pub fn tick(s: Supervisor, room: &mut [u8]) -> Taken
     requires { ⌜ Stands s × (124 ≤ length (now room)) ⌝ }
     ensures { λ r. ⌜ r ≡ takenOf s (takeCall (view s) Tick) ⌝ }
@@ -38,5 +49,5 @@ pub fn tick(s: Supervisor, room: &mut [u8]) -> Taken
     let reading = std::num::wrapping_add_u32(s.clock, 1);
     let w = tick_to(s, reading, room);
     let n = w.state;
-    answered(n, 0, 10, 0, 0, w.count)
+    answered(n, 0, DONE, 0, 0, w.count)
 }

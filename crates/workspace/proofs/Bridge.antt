@@ -16,7 +16,8 @@ use Rattle.workspace.specs.declared.Look.{Look}
 use Rattle.workspace.specs.declared.Done.{Done}
 use Rattle.workspace.specs.Rules.{if_then_else_, units, stretch, none, end, every, isApart, hasPlaces, rulesKept}
 use Rattle.workspace.specs.Operations.{placed, fits, fitStart, cut, startsAt, lengthAt, without, joined, Outcome, refused, took, freshOf, requestOf, releaseOf, tableAfter, blocksAfter, freeAfter, answerOf, unused}
-use Rattle.workspace.specs.Places.{placeOf, isEnough, startsBy, removeAt, insertAt}
+use Rattle.workspace.specs.declared.Test.the-variants.{StartsAt, StartsBehind, HasUnits}
+use Rattle.workspace.specs.Places.{placeOf, passesOf, removeAt, insertAt}
 use Rattle.workspace.specs.Seen.{tableOf, laid, lookOf}
 use Rattle.workspace.specs.Steps.{hasSeen, keepsSeen, unlessRefused, doneAs, freshSeen, requestRefusal, grantSeen, requestSeen, blockAt, releaseRefusal, giveBack, countBack, freeSeen, releaseSeen}
 use Rattle.workspace.proofs.Basics.{cases, and-left, and-right}
@@ -75,18 +76,18 @@ module _ (b f : List Stretch) (u : Used) (s : Stands b f u) where
       (λ i. take (e i) (free-seen b f u s i)) ∙ take-pad 32 fl h
 
   -- the search over the lent table finds a used place exactly where some free stretch is long enough
-  place-fits : (n : ℕ) → ltb (placeOf (isEnough n) f) (u .free) ≡ fits n fl
+  place-fits : (n : ℕ) → ltb (placeOf (passesOf HasUnits n) f) (u .free) ≡ fits n fl
   place-fits n =
       let t : f ≡ fl ++ replicate (length (drop (u .free) f)) none = table-is (u .free) f (s .unused-free) in
       let c : length fl ≡ u .free = count-free b f u s in
       cases (fits n fl)
       (λ e.
-      let p : placeOf (isEnough n) f ≡ placeOf (isEnough n) fl = ap (placeOf (isEnough n)) t ∙ find-in (isEnough n) fl (replicate (length (drop (u .free) f)) none) (fit-there n fl e) in
-      let h : placeOf (isEnough n) fl < length fl = fit-there n fl e in
-      lt-ltb (placeOf (isEnough n) f) (u .free) (omega (arith, p, h, c)) ∙ sym e)
+      let p : placeOf (passesOf HasUnits n) f ≡ placeOf (passesOf HasUnits n) fl = ap (placeOf (passesOf HasUnits n)) t ∙ find-in (passesOf HasUnits n) fl (replicate (length (drop (u .free) f)) none) (fit-there n fl e) in
+      let h : placeOf (passesOf HasUnits n) fl < length fl = fit-there n fl e in
+      lt-ltb (placeOf (passesOf HasUnits n) f) (u .free) (omega (arith, p, h, c)) ∙ sym e)
       (λ e.
-      let h : length fl ≤ placeOf (isEnough n) f = subst (λ (l : List Stretch). length fl ≤ placeOf (isEnough n) l) (sym t) (find-out (isEnough n) fl (replicate (length (drop (u .free) f)) none) (fit-nowhere n fl e)) in
-      le-ltb (placeOf (isEnough n) f) (u .free) (omega (arith, h, c)) ∙ sym e)
+      let h : length fl ≤ placeOf (passesOf HasUnits n) f = subst (λ (l : List Stretch). length fl ≤ placeOf (passesOf HasUnits n) l) (sym t) (find-out (passesOf HasUnits n) fl (replicate (length (drop (u .free) f)) none) (fit-nowhere n fl e)) in
+      le-ltb (placeOf (passesOf HasUnits n) f) (u .free) (omega (arith, h, c)) ∙ sym e)
 
   place-there-fits : (n : ℕ) → ltb (lookOf b f n .place) (u .free) ≡ fits n fl
   unfolding lookOf
@@ -99,25 +100,25 @@ module _ (b f : List Stretch) (u : Used) (s : Stands b f u) where
 
     -- the place found, and the stretch there
     abbrev p : ℕ
-    p = placeOf (isEnough n) fl
+    p = placeOf (passesOf HasUnits n) fl
 
     abbrev x : Stretch
     x = getD fl p none
 
-    found : placeOf (isEnough n) f ≡ p
-    found = ap (placeOf (isEnough n)) (table-is (u .free) f (s .unused-free)) ∙ find-in (isEnough n) fl (replicate (length (drop (u .free) f)) none) (fit-there n fl e)
+    found : placeOf (passesOf HasUnits n) f ≡ p
+    found = ap (placeOf (passesOf HasUnits n)) (table-is (u .free) f (s .unused-free)) ∙ find-in (passesOf HasUnits n) fl (replicate (length (drop (u .free) f)) none) (fit-there n fl e)
 
-    there : getD (tableOf f .places) (placeOf (isEnough n) f) none ≡ x
+    there : getD (tableOf f .places) (placeOf (passesOf HasUnits n) f) none ≡ x
     there = (λ i. getD (free-seen b f u s i) (found i) none) ∙ getD-pad 32 p fl (fit-there n fl e) (at-most-32 b f u s)
 
     abbrev block : Stretch
     block = stretch v n
 
-    blocks-then : insertAt (placeOf (startsBy false (getD (tableOf f .places) (placeOf (isEnough n) f) none .start)) (take (min (u .blocks) 32) (tableOf b .places))) (stretch (getD (tableOf f .places) (placeOf (isEnough n) f) none .start) n) (tableOf b .places) ≡ pad 32 (placed block bl)
+    blocks-then : insertAt (placeOf (passesOf StartsBehind (getD (tableOf f .places) (placeOf (passesOf HasUnits n) f) none .start)) (take (min (u .blocks) 32) (tableOf b .places))) (stretch (getD (tableOf f .places) (placeOf (passesOf HasUnits n) f) none .start) n) (tableOf b .places) ≡ pad 32 (placed block bl)
     blocks-then =
         let h : length bl ≤ 31 = at-most-31 b f u s in
-        (λ i. insertAt (placeOf (startsBy false (there i .start)) (blocks-used i)) (stretch (there i .start) n) (blocks-seen b f u s i))
-        ∙ (λ i. insertAt (placeOf (startsBy false (fit-start n fl e i)) bl) (stretch (fit-start n fl e i) n) (pad 32 bl)) ∙ pad-placed 32 block bl (omega (arith, h))
+        (λ i. insertAt (placeOf (passesOf StartsBehind (there i .start)) (blocks-used i)) (stretch (there i .start) n) (blocks-seen b f u s i))
+        ∙ (λ i. insertAt (placeOf (passesOf StartsBehind (fit-start n fl e i)) bl) (stretch (fit-start n fl e i) n) (pad 32 bl)) ∙ pad-placed 32 block bl (omega (arith, h))
 
     sum-fits : (x .start + n) % 4294967296 ≡ x .start + n
     sum-fits =
@@ -125,8 +126,8 @@ module _ (b f : List Stretch) (u : Used) (s : Stands b f u) where
         let k : n ≤ x .length = found-long n fl e in
         omega (arith, h, k)
 
-    free-then : (if eqb n (getD (tableOf f .places) (placeOf (isEnough n) f) none .length) then removeAt (placeOf (isEnough n) f) (tableOf f .places)
-        else set (tableOf f .places) (placeOf (isEnough n) f) (stretch ((getD (tableOf f .places) (placeOf (isEnough n) f) none .start + n) % 4294967296) (getD (tableOf f .places) (placeOf (isEnough n) f) none .length - n))) ≡ pad 32 (cut n fl)
+    free-then : (if eqb n (getD (tableOf f .places) (placeOf (passesOf HasUnits n) f) none .length) then removeAt (placeOf (passesOf HasUnits n) f) (tableOf f .places)
+        else set (tableOf f .places) (placeOf (passesOf HasUnits n) f) (stretch ((getD (tableOf f .places) (placeOf (passesOf HasUnits n) f) none .start + n) % 4294967296) (getD (tableOf f .places) (placeOf (passesOf HasUnits n) f) none .length - n))) ≡ pad 32 (cut n fl)
     free-then =
         (λ i. if eqb n (there i .length) then removeAt (found i) (free-seen b f u s i) else set (free-seen b f u s i) (found i) (stretch ((there i .start + n) % 4294967296) (there i .length - n)))
         ∙ ap (λ (a : ℕ). if eqb n (x .length) then removeAt p (pad 32 fl) else set (pad 32 fl) p (stretch a (x .length - n))) sum-fits ∙ pad-cut 32 n fl (at-most-32 b f u s) e
@@ -134,7 +135,7 @@ module _ (b f : List Stretch) (u : Used) (s : Stands b f u) where
     blocks-count : min (u .blocks) 32 + 1 ≡ length (placed block bl)
     blocks-count = let c : length bl ≡ u .blocks = count-blocks b f u s in let k : length (placed block bl) ≡ length bl + 1 = placed-length block bl in omega (arith, c, k, room)
 
-    free-count : (if eqb n (getD (tableOf f .places) (placeOf (isEnough n) f) none .length) then u .free - 1 else u .free) ≡ length (cut n fl)
+    free-count : (if eqb n (getD (tableOf f .places) (placeOf (passesOf HasUnits n) f) none .length) then u .free - 1 else u .free) ≡ length (cut n fl)
     free-count = (λ i. if eqb n (there i .length) then sym (count-free b f u s) i - 1 else sym (count-free b f u s) i) ∙ cut-length n fl e
 
     grant-is : grantSeen (lookOf b f n) u n ≡ doneAs (pad 32 (placed block bl)) (pad 32 (cut n fl)) v (length (placed block bl)) (length (cut n fl))
@@ -154,17 +155,17 @@ module _ (b f : List Stretch) (u : Used) (s : Stands b f u) where
     y = given-back bl fl (s .sound) a e
 
     abbrev q : ℕ
-    q = placeOf (startsBy true a) bl
+    q = placeOf (passesOf StartsAt a) bl
 
     block-found : blockAt (lookOf b f 0) u a ≡ q
     unfolding lookOf
-    block-found = ap (placeOf (startsBy true a)) blocks-used
+    block-found = ap (placeOf (passesOf StartsAt a)) blocks-used
 
     block-there : getD (tableOf b .places) (blockAt (lookOf b f 0) u a) none ≡ y
     block-there = (λ i. getD (blocks-seen b f u s i) (block-found i) none) ∙ getD-pad 32 q bl (starts-there a bl e) (le-trans (at-most-31 b f u s) (let h : 31 ≤ 32 = omega arith in h)) ∙ block-is a bl e
 
-    place-there : placeOf (startsBy false (getD (tableOf b .places) (blockAt (lookOf b f 0) u a) none .start)) (take (min (u .free) 32) (tableOf f .places)) ≡ placeOf (startsBy false a) fl
-    place-there = λ i. placeOf (startsBy false (block-there i .start)) (free-used i)
+    place-there : placeOf (passesOf StartsBehind (getD (tableOf b .places) (blockAt (lookOf b f 0) u a) none .start)) (take (min (u .free) 32) (tableOf f .places)) ≡ placeOf (passesOf StartsBehind a) fl
+    place-there = λ i. placeOf (passesOf StartsBehind (block-there i .start)) (free-used i)
 
     few-joined : length (joined y fl) ≤ 32
     few-joined =
@@ -196,11 +197,11 @@ module _ (b f : List Stretch) (u : Used) (s : Stands b f u) where
   block-starts : (a : ℕ) → ltb (blockAt (lookOf b f 0) u a) (u .blocks) ≡ startsAt a bl
   unfolding lookOf
   block-starts a =
-      let w : placeOf (startsBy true a) (take (min (u .blocks) 32) (tableOf b .places)) ≡ placeOf (startsBy true a) bl = ap (placeOf (startsBy true a)) blocks-used in
+      let w : placeOf (passesOf StartsAt a) (take (min (u .blocks) 32) (tableOf b .places)) ≡ placeOf (passesOf StartsAt a) bl = ap (placeOf (passesOf StartsAt a)) blocks-used in
       let c : length bl ≡ u .blocks = count-blocks b f u s in
       cases (startsAt a bl)
-      (λ e. let h : placeOf (startsBy true a) bl < length bl = starts-there a bl e in lt-ltb (placeOf (startsBy true a) (take (min (u .blocks) 32) (tableOf b .places))) (u .blocks) (omega (arith, w, h, c)) ∙ sym e)
-      (λ e. let h : length bl ≤ placeOf (startsBy true a) bl = starts-nowhere a bl e in le-ltb (placeOf (startsBy true a) (take (min (u .blocks) 32) (tableOf b .places))) (u .blocks) (omega (arith, w, h, c)) ∙ sym e)
+      (λ e. let h : placeOf (passesOf StartsAt a) bl < length bl = starts-there a bl e in lt-ltb (placeOf (passesOf StartsAt a) (take (min (u .blocks) 32) (tableOf b .places))) (u .blocks) (omega (arith, w, h, c)) ∙ sym e)
+      (λ e. let h : length bl ≤ placeOf (passesOf StartsAt a) bl = starts-nowhere a bl e in le-ltb (placeOf (passesOf StartsAt a) (take (min (u .blocks) 32) (tableOf b .places))) (u .blocks) (omega (arith, w, h, c)) ∙ sym e)
 
 -- ---- in the order of the refusals
 says-by : (b f : List Stretch) (u : Used) (l : Look) (d : Done) (r k : ℕ) (o o′ : Outcome) → r ≡ k → o′ ≡ o → Says (unlessRefused k l u d) b f u o → Says (unlessRefused r l u d) b f u o′

@@ -12,7 +12,8 @@ use borrow.Author.Tests.{ltb-true, leb-true, eqb-true}
 use Rattle.workspace.specs.declared.Stretch.{Stretch}
 use Rattle.workspace.specs.Rules.{every, pairs, units, stretch, none, end, isLong, isInside, isApart}
 use Rattle.workspace.specs.Operations.{fits, startsAt, lengthAt}
-use Rattle.workspace.specs.Places.{placeOf, isEnough}
+use Rattle.workspace.specs.declared.Test.the-variants.{HasUnits}
+use Rattle.workspace.specs.Places.{placeOf, passesOf}
 use Rattle.workspace.proofs.Basics.{cases, ways, and-left, and-right}
 use Rattle.workspace.proofs.Pieces.{Sound}
 use Rattle.workspace.proofs.Words.{Words, kept-words, sound-kept, All, all-left, all-right, across, pairs-across, either, Chain, free-chain}
@@ -40,7 +41,7 @@ at-all p (x ∷ xs) zero h e = and-left (p x) (every p xs) e
 at-all p (x ∷ xs) (suc i) h e = at-all p xs i (le-of-suc-le-suc h) (and-right (p x) (every p xs) e)
 
 -- the free stretch that is found is long enough
-pub found-long : (n : ℕ) (l : List Stretch) → fits n l ≡ true → n ≤ getD l (placeOf (isEnough n) l) none .length
+pub found-long : (n : ℕ) (l : List Stretch) → fits n l ≡ true → n ≤ getD l (placeOf (passesOf HasUnits n) l) none .length
 found-long n [] e = absurd (true≢false (sym e))
 found-long n (f ∷ fs) e = cases (leb n (f .length)) (λ q. rw q (leb-true n (f .length) q)) (λ q. let k : fits n fs ≡ true = rw q at e in rw q (found-long n fs k))
 

@@ -13,7 +13,8 @@ use borrow.Author.Tests.{ltb-true, ltb-false, eqb-true, eqb-false, lt-ltb, le-lt
 use Rattle.workspace.specs.declared.Stretch.{Stretch}
 use Rattle.workspace.specs.Rules.{if_then_else_, units, stretch, none, end}
 use Rattle.workspace.specs.Operations.{joined}
-use Rattle.workspace.specs.Places.{placeOf, startsBy, over, removeAt, insertAt}
+use Rattle.workspace.specs.declared.Test.the-variants.{StartsBehind}
+use Rattle.workspace.specs.Places.{placeOf, passesOf, over, removeAt, insertAt}
 use Rattle.workspace.specs.Steps.{touchesLow, touchesHigh, wholeAs, give, giveBack, countBack}
 use Rattle.workspace.proofs.Basics.{cases, ways, no}
 use Rattle.workspace.proofs.Pieces.{bit}
@@ -167,11 +168,11 @@ one-on b f K (suc j) fs q p g =
     }
 
 -- all that is free from a on starts behind b
-place-zero : (b : Stretch) (a : ℕ) (fs : List Stretch) → b .start < a → Chain 1 a fs → placeOf (startsBy false (b .start)) fs ≡ 0
+place-zero : (b : Stretch) (a : ℕ) (fs : List Stretch) → b .start < a → Chain 1 a fs → placeOf (passesOf StartsBehind (b .start)) fs ≡ 0
 place-zero b a [] h c = refl
 place-zero b a (f ∷ fs) h c = let p : a ≤ f .start = c .0 in rw (lt-ltb (b .start) (f .start) (omega (arith, h, p))) refl
 
-gives-back : (b : Stretch) (K a : ℕ) (fs : List Stretch) → 0 < b .length → end b ≤ units → Chain 1 a fs → Clear b fs → length fs ≤ K → length (joined b fs) ≤ K → Gives b K (placeOf (startsBy false (b .start)) fs) fs
+gives-back : (b : Stretch) (K a : ℕ) (fs : List Stretch) → 0 < b .length → end b ≤ units → Chain 1 a fs → Clear b fs → length fs ≤ K → length (joined b fs) ≤ K → Gives b K (placeOf (passesOf StartsBehind (b .start)) fs) fs
 gives-back b K a [] l h c d n j = alone b K l h j
 gives-back b zero a (f ∷ fs) l h c d n j = absurd (not-suc-le-zero n)
 gives-back b (suc K) a (f ∷ fs) l h c d n j =
@@ -179,22 +180,22 @@ gives-back b (suc K) a (f ∷ fs) l h c d n j =
     cases (ltb (b .start) (f .start))
     (λ p.
     let lt : b .start < f .start = ltb-true (b .start) (f .start) p in
-    let k : placeOf (startsBy false (b .start)) (f ∷ fs) ≡ 0 = rw p refl in
+    let k : placeOf (passesOf StartsBehind (b .start)) (f ∷ fs) ≡ 0 = rw p refl in
     let e : end b ≤ f .start = ways (d .0) (λ q. q) (λ q. no (omega (arith, q, lt))) in
     subst (λ (k : ℕ). Gives b (suc K) k (f ∷ fs)) (sym k) (in-front b f K fs l lt e lf (c .2) n j))
     (λ p.
     let le : f .start ≤ b .start = ltb-false (b .start) (f .start) p in
-    let k : placeOf (startsBy false (b .start)) (f ∷ fs) ≡ suc (placeOf (startsBy false (b .start)) fs) = rw p refl in
+    let k : placeOf (passesOf StartsBehind (b .start)) (f ∷ fs) ≡ suc (placeOf (passesOf StartsBehind (b .start)) fs) = rw p refl in
     let e : end f ≤ b .start = ways (d .0) (λ q. no (omega (arith, q, l, le))) (λ q. q) in
     cases (eqb (end f) (b .start))
     (λ q.
     let t : end f ≡ b .start = eqb-true (end f) (b .start) q in
-    let z : placeOf (startsBy false (b .start)) fs ≡ 0 = place-zero b (end f + 1) fs (omega (arith, t)) (c .3) in
+    let z : placeOf (passesOf StartsBehind (b .start)) fs ≡ 0 = place-zero b (end f + 1) fs (omega (arith, t)) (c .3) in
     subst (λ (k : ℕ). Gives b (suc K) k (f ∷ fs)) (sym (k ∙ ap suc z)) (next-to b f K fs l t lf h (c .3) (d .1) n))
     (λ q.
     let r : joined b (f ∷ fs) ≡ f ∷ joined b fs = rw (q, ne-eqb (end b) (f .start) (λ t. no (omega (arith, t, l, le))), p) refl in
     let m : length (f ∷ joined b fs) ≤ suc K = subst (λ (u : List Stretch). length u ≤ suc K) r j in
-    subst (λ (k : ℕ). Gives b (suc K) k (f ∷ fs)) (sym k) (one-on b f K (placeOf (startsBy false (b .start)) fs) fs r q (gives-back b K (end f + 1) fs l h (c .3) (d .1) (le-of-suc-le-suc n) (le-of-suc-le-suc m)))))
+    subst (λ (k : ℕ). Gives b (suc K) k (f ∷ fs)) (sym k) (one-on b f K (placeOf (passesOf StartsBehind (b .start)) fs) fs r q (gives-back b K (end f + 1) fs l h (c .3) (d .1) (le-of-suc-le-suc n) (le-of-suc-le-suc m)))))
 
 some : (b : Stretch) (fs : List Stretch) → 0 < length (joined b fs)
 some b [] = omega arith
@@ -206,7 +207,7 @@ some b (f ∷ fs) =
 -- ---- what the code does
 module _ (b : Stretch) (a : ℕ) (fs : List Stretch) (l : 0 < b .length) (h : end b ≤ units) (c : Chain 1 a fs) (d : Clear b fs) (n : length fs ≤ 32) (j : length (joined b fs) ≤ 32) where
   abbrev k : ℕ
-  k = placeOf (startsBy false (b .start)) fs
+  k = placeOf (passesOf StartsBehind (b .start)) fs
 
   g : Gives b 32 k fs
   g = gives-back b 32 a fs l h c d n j

@@ -15,7 +15,7 @@ use Rattle.workspace.specs.declared.Stretch.{Stretch}
 use Rattle.workspace.specs.declared.Table.{Table}
 use Rattle.workspace.proofs.Basics.{cases, and-true}
 use Rattle.workspace.specs.Rules.{if_then_else_, every, none, isNone}
-use Rattle.workspace.specs.Places.{placeOf, startsBy, over, removeAt, insertAt}
+use Rattle.workspace.specs.Places.{placeOf, passesOf, over, removeAt, insertAt}
 use Rattle.workspace.specs.Seen.{tableOf, noteOf}
 
 pub mapped-long : {A B : Type 0} (f : A → B) (l : List A) (n : ℕ) → length (map f l) ≡ n → length l ≡ n

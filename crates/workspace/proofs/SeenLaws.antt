@@ -48,10 +48,10 @@ over-rest (x ∷ xs) [] (suc i) = refl
 over-rest (x ∷ xs) (y ∷ ys) (suc i) = over-rest xs ys i
 
 -- what lies below the 32 places
-abbrev under : Bool → List Stretch → List Stretch
+abbrev pub under : Bool → List Stretch → List Stretch
 under clear l = if clear then replicate (length l) none else l
 
-under-length : (clear : Bool) (l : List Stretch) → length (under clear l) ≡ length l
+pub under-length : (clear : Bool) (l : List Stretch) → length (under clear l) ≡ length l
 under-length true l = replicate-length (length l) none
 under-length false l = refl
 

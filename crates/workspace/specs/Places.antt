@@ -4,6 +4,8 @@ use mathlib.Core.Bool.{Bool, true, false}
 use mathlib.Core.List.{List, [], _∷_, _++_}
 use lib.Dec.{leb, ltb, eqb}
 use Rattle.workspace.specs.declared.Stretch.{Stretch}
+use Rattle.workspace.specs.declared.Test.{Test}
+use Rattle.workspace.specs.declared.Test.the-variants.{StartsAt, StartsBehind, HasUnits}
 use Rattle.workspace.specs.Rules.{if_then_else_, none}
 
 -- the place of the first stretch that passes the test; the number of places where none does
@@ -11,13 +13,11 @@ abbrev pub placeOf : (Stretch → Bool) → List Stretch → ℕ
 placeOf f [] = 0
 placeOf f (s ∷ ss) = if f s then 0 else suc (placeOf f ss)
 
--- has n units
-abbrev pub isEnough : ℕ → Stretch → Bool
-isEnough n s = leb n (s .length)
-
--- starts at a (exact), or behind it
-abbrev pub startsBy : Bool → ℕ → Stretch → Bool
-startsBy exact a s = if exact then eqb (s .start) a else ltb a (s .start)
+-- starts at n; starts behind n; has n units
+abbrev pub passesOf : Test → ℕ → Stretch → Bool
+passesOf StartsAt n = λ s. eqb (s .start) n
+passesOf StartsBehind n = λ s. ltb n (s .start)
+passesOf HasUnits n = λ s. leb n (s .length)
 
 -- the second list laid over the first, from its start; what is behind it stays, and what has no place is left out
 abbrev pub over : {A : Type 0} → List A → List A → List A

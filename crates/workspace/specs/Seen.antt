@@ -8,7 +8,8 @@ use Rattle.workspace.specs.declared.Stretch.{Stretch}
 use Rattle.workspace.specs.declared.Table.{Table}
 use Rattle.workspace.specs.declared.Look.{Look}
 use Rattle.workspace.specs.Rules.{if_then_else_, every, none, isNone}
-use Rattle.workspace.specs.Places.{placeOf, isEnough, over}
+use Rattle.workspace.specs.declared.Test.the-variants.{HasUnits}
+use Rattle.workspace.specs.Places.{placeOf, passesOf, over}
 
 -- its first 32 places, and whether all places behind them are unused
 unfoldable pub tableOf : List Stretch → Table
@@ -32,4 +33,4 @@ seenAs b f m n place = record { blocks = b; free = f; places = record { blocks =
 
 -- what is seen of two lent tables, and the place of the first free stretch of n units
 unfoldable pub lookOf : List Stretch → List Stretch → ℕ → Look
-lookOf b f n = seenAs (tableOf b) (tableOf f) (length b) (length f) (placeOf (isEnough n) f)
+lookOf b f n = seenAs (tableOf b) (tableOf f) (length b) (length f) (placeOf (passesOf HasUnits n) f)

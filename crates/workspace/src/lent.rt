@@ -10,12 +10,13 @@ use crate::places::nth;
 use crate::places::with_at;
 ghost use mathlib.Core.Path.{_≡_};
 ghost use mathlib.Core.List.{[]};
-ghost use Rattle.workspace.specs.Places.{placeOf, isEnough};
+ghost use Rattle.workspace.specs.declared.Test.the-variants.{HasUnits};
+ghost use Rattle.workspace.specs.Places.{placeOf, passesOf};
 ghost use Rattle.workspace.specs.Seen.{tableOf, noteOf, placeAfter, laid, seenAs, lookOf};
 
 // The place of the first stretch that has at least `size` units; the number of places where there is none.
 pub fn first_fit(table: &[Stretch], size: u32) -> usize
-    ensures { λ r. ⌜ r ≡ placeOf (isEnough size) (now (table .entry)) ⌝ }
+    ensures { λ r. ⌜ r ≡ placeOf (passesOf HasUnits size) (now (table .entry)) ⌝ }
 {
     let mut i = 0;
     while i < table.len() {

@@ -6,6 +6,7 @@ mod lent; // lent.rt: the lent tables, searched, read and written
 mod places; // places.rt: 32 places by value: searched, set, taken out, put in
 mod rules; // rules.rt: the check that two tables keep the rules
 mod steps; // steps.rt: what each operation does to the places
+pub mod owned; // owned.rt: the same operations on two tables by value
 mod picks; // picks.rt: one of two values, and small sums
 
 use lent::look_at;
@@ -35,6 +36,13 @@ pub struct Answer {
     pub used: Used,
 }
 
+// Two tables of 32 places by value, and the last answer, which has the places used.
+pub struct Tables {
+    pub blocks: [Stretch; 32],
+    pub free: [Stretch; 32],
+    pub answer: Answer,
+}
+
 // What is seen of a lent table: its first 32 places, and whether all places behind them are unused.
 struct Table {
     places: [Stretch; 32],
@@ -54,6 +62,13 @@ struct Done {
     blocks: Table,
     free: Table,
     answer: Answer,
+}
+
+// What a search looks for: a stretch that starts at a number, behind it, or that has so many units.
+enum Test {
+    StartsAt,
+    StartsBehind,
+    HasUnits,
 }
 
 // How far the check has come: the unit reached, the places passed in each table, and whether the last stretch was free.

@@ -6,12 +6,6 @@ ghost use mathlib.Core.Path.{_≡_};
 ghost use Prim.Native.Nat.{_+_, _-_, min};
 ghost use Rattle.workspace.specs.Rules.{if_then_else_};
 
-pub fn pick_bool(b: bool, x: bool, y: bool) -> bool
-    ensures { λ r. ⌜ r ≡ (if b then x else y) ⌝ }
-{
-    if b { x } else { y }
-}
-
 pub fn pick_u8(b: bool, x: u8, y: u8) -> u8
     ensures { λ r. ⌜ r ≡ (if b then x else y) ⌝ }
 {

@@ -1,12 +1,12 @@
 // Tables of 32 places by value: searched, set, taken out and put in.
 use crate::Stretch;
-use crate::picks::pick_bool;
+use crate::Test;
 use crate::picks::wide;
 ghost use mathlib.Core.Path.{_≡_};
 ghost use Prim.Native.Nat.{_<_, _≤_};
 ghost use lib.ListN.{getD, set, take, drop};
 ghost use Rattle.workspace.specs.Rules.{every, none, isNone, end};
-ghost use Rattle.workspace.specs.Places.{placeOf, startsBy, removeAt, insertAt};
+ghost use Rattle.workspace.specs.Places.{placeOf, passesOf, removeAt, insertAt};
 
 pub fn is_none(x: Stretch) -> bool
     ensures { λ r. ⌜ r ≡ isNone x ⌝ }
@@ -21,11 +21,15 @@ pub fn end_of(x: Stretch) -> u64
     wide(x.start) + wide(x.length)
 }
 
-// Starts at s (exact), or behind it.
-pub fn starts_by(exact: bool, s: u32, x: Stretch) -> bool
-    ensures { λ r. ⌜ r ≡ startsBy exact s x ⌝ }
+// What a search looks for.
+pub fn passes(test: Test, n: u32, x: Stretch) -> bool
+    ensures { λ r. ⌜ r ≡ passesOf test n x ⌝ }
 {
-    pick_bool(exact, x.start == s, s < x.start)
+    match test {
+        Test::StartsAt => x.start == n,
+        Test::StartsBehind => n < x.start,
+        Test::HasUnits => n <= x.length,
+    }
 }
 
 // The places with x at i; the same where there is no place i.
@@ -69,15 +73,15 @@ pub fn used_at(a: [Stretch; 32], n: usize, i: usize) -> Stretch
     }
 }
 
-// The place of the first of the n places used that starts at s (exact), or behind it; n where there is none.
-pub fn place_of(a: [Stretch; 32], n: usize, exact: bool, s: u32) -> usize
+// The place of the first of the n places used that passes the test; n where there is none.
+pub fn place_of(a: [Stretch; 32], n: usize, test: Test, s: u32) -> usize
     requires { ⌜ n ≤ 32 ⌝ }
-    ensures { λ r. ⌜ r ≡ placeOf (startsBy exact s) (take n a) ⌝ }
+    ensures { λ r. ⌜ r ≡ placeOf (passesOf test s) (take n a) ⌝ }
 {
     let mut i = 0;
     while i < n {
         let x = nth(a, i);
-        let found = starts_by(exact, s, x);
+        let found = passes(test, s, x);
         if found {
             return i;
         }

@@ -4,6 +4,7 @@ use crate::Done;
 use crate::Look;
 use crate::Stretch;
 use crate::Table;
+use crate::Test;
 use crate::Used;
 use crate::lent::empty;
 use crate::picks::at_most_32;
@@ -111,7 +112,7 @@ pub fn granted(seen: Look, used: Used, size: u32) -> Done
     let p = seen.place;
     let s = nth(fs, p);
     let m = at_most_32(used.blocks);
-    let k = place_of(bs, m, false, s.start);
+    let k = place_of(bs, m, Test::StartsBehind, s.start);
     let block = Stretch {
         start: s.start,
         length: size,
@@ -145,7 +146,7 @@ pub fn block_at(seen: Look, used: Used, start: u32) -> usize
     let b = seen.blocks;
     let bs = b.places;
     let m = at_most_32(used.blocks);
-    place_of(bs, m, true, start)
+    place_of(bs, m, Test::StartsAt, start)
 }
 
 // The refusal of a release, 0 if there is none.
@@ -235,7 +236,7 @@ pub fn freed(seen: Look, used: Used, p: usize) -> Done
     let fs = f.places;
     let b = nth(bs, p);
     let n = at_most_32(used.free);
-    let k = place_of(fs, n, false, b.start);
+    let k = place_of(fs, n, Test::StartsBehind, b.start);
     let blocks = closed(bs, p);
     let free = give_back(b, k, fs);
     let fewer = down(used.blocks);

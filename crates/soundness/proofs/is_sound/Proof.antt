@@ -11,15 +11,13 @@ returns c = unsound-many (c .before .before .args .s) (c .if1 .taken)
 
 returns-2 : tie.Need-returns-2
 returns-2 c =
-    let l = c .before .before .before in
-    let s = l .before .before .before .before .before .before .args .s in
+    let l = c .before in
+    let s = l .before .before .before .before .before .args .s in
     let k : length (s .tasks) ≡ 31 = search (needs, mapped-long) in
-    sound-is s (c .before .all-unused .result) (c .all-good .result) (l .before .before .before .in-line .result) (l .before .before .in-line2 .result) (l .before .in-line3 .result) (l .in-line4 .result)
-    (c .before .before .in-order .result) (l .before .before .before .before .if1 .left) k (c .before .all-unused .ensures) (c .all-good .ensures)
-    (l .before .before .before .in-line .ensures) (l .before .before .in-line2 .ensures) (l .before .in-line3 .ensures) (l .in-line4 .ensures) (c .before .before .in-order .ensures)
+    sound-is s (l .before .before .all-unused .result) (l .before .all-good .result) (l .in-lines .result) (c .in-order .result) (l .before .before .before .if1 .left) k
+    (l .before .before .all-unused .ensures) (l .before .all-good .ensures) (l .in-lines .ensures) (c .in-order .ensures)
 
 pub is-sound-spec : {M : Type 1} → statement M
 is-sound-spec =
     tie.close
-    (tie.spec returns (λ c κs. search needs) (λ c κs. search needs) (λ c κs. search needs) (λ c κs. search needs)
-    (λ c κs. search needs) (λ c κs. search needs) (λ c κs. search needs) returns-2)
+    (tie.spec returns (λ c κs. search needs) (λ c κs. search needs) (λ c κs. search needs) (λ c κs. search needs) returns-2)

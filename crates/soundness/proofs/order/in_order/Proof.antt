@@ -6,22 +6,24 @@ use mathlib.Core.Path.{_≡_, refl, sym, _∙_, ap}
 use lib.ListN.{length, drop, getD}
 use Rattle.lists.specs.Line.{line}
 use Rattle.lists.proofs.Turns.{rest-blank, rest-entry, rest-end}
+use Rattle.rules.specs.State.{ticksLeft}
 use Rattle.rules.specs.Whole.{view}
+use Rattle.rules.specs.declared.Task.{Task}
+use Rattle.table.proofs.LeafLaws.{mapped-long, shown-at}
 use Rattle.soundness.specs.Check.{leftOf, ascending}
-use Rattle.soundness.proofs.TaskLaws.{left-is}
 use Rattle.soundness.proofs.Turns.{order-pass, order-fail}
 use Rattle.soundness.proofs.order.in_order.Statement.{statement}
 use Rattle.soundness.proofs.order.in_order.Tie as tie
 
 abbrev Inv-loop : tie.InvT-loop
 Inv-loop s last₀ i₀ last i =
-    (i ≤ 31) × (length (s .delays) ≡ 31) × (s .created ≤ 31) × (ascending (leftOf (view s)) 0 (line (s .delays)) ≡ ascending (leftOf (view s)) last (line (drop i (s .delays))))
+    (i ≤ 31) × (length (s .delays) ≡ 31) × (length (s .tasks) ≡ 31) × (ascending (leftOf (view s)) 0 (line (s .delays)) ≡ ascending (leftOf (view s)) last (line (drop i (s .delays))))
 
 abbrev μ-loop : tie.MeasureT-loop
 μ-loop s last₀ i₀ last i = 31 - i
 
 loop-holds : tie.Need-loop-holds Inv-loop μ-loop
-loop-holds c = (omega arith, search needs, c .pre, refl)
+loop-holds c = (omega arith, search needs, search (needs, mapped-long), refl)
 
 returns : tie.Need-returns Inv-loop μ-loop
 returns c =
@@ -29,13 +31,14 @@ returns c =
     sym (l .loop .inv .3 ∙ ap (ascending (leftOf (view s)) (l .loop .last)) (rest-blank (s .delays) (l .loop .i) (omega arith) (c .if1 .taken)))
 
 -- the ticks left that the code found, in the rules' words
-found : (c : tie.After-left-of Inv-loop μ-loop) →
+found : (c : tie.After-ticks-left Inv-loop μ-loop) →
     let l = c .before .before .before .before .before .before .before in
-    c .left-of .result ≡ leftOf (view (l .before .args .t1)) (getD (l .before .args .t1 .delays) (l .loop .i) 0)
+    c .ticks-left .result ≡ leftOf (view (l .before .args .t1)) (getD (l .before .args .t1 .delays) (l .loop .i) 0)
 found c =
     let l = c .before .before .before .before .before .before .before in let s = l .before .args .t1 in
-    left-is s (l .loop .inv .2) (getD (s .delays) (l .loop .i) 0) (c .before .before .before .index-of .result) (c .before .before .before .index-of .ensures .0)
-    (c .before .is-between .result) (c .left-of .result) (c .before .is-between .ensures) (c .left-of .ensures)
+    let at = c .before .before .before in
+    c .ticks-left .ensures
+    ∙ ap (λ (x : Task). ticksLeft (s .clock) (x .timer)) (shown-at s (getD (s .delays) (l .loop .i) 0) (at .index-of .result) (c .before .shown .result) (l .loop .inv .2) (at .index-of .ensures .0) (c .before .shown .ensures))
 
 returns-2 : tie.Need-returns-2 Inv-loop μ-loop
 returns-2 c =

@@ -9,40 +9,38 @@ use lib.ListN.{length}
 use Rattle.rules.specs.State.{taskOf}
 use Rattle.rules.specs.Whole.{view}
 use Rattle.table.proofs.LeafLaws.{mapped-long}
-use Rattle.soundness.specs.Marks.{Whole}
 use Rattle.soundness.specs.Check.{belongs, arrayOf, wanted, emptied, standsIn}
-use Rattle.soundness.proofs.MarkLaws.{none-whole, with-whole, written}
 use Rattle.soundness.proofs.TaskLaws.{task-at}
 use Rattle.soundness.proofs.LineLaws.{wanted-on, stands-is}
 use Rattle.soundness.proofs.stand.in_line.Statement.{statement}
 use Rattle.soundness.proofs.stand.in_line.Tie as tie
 
 abbrev Inv-loop : tie.InvT-loop
-Inv-loop l s m₀ t₀ m t =
-    (s .created ≤ 31) × (t ≤ s .created) × (length (s .tasks) ≡ 31) × Whole m × (m ≡ wanted (λ u. belongs l (taskOf (view s) u)) t)
+Inv-loop l s word₀ t₀ word t =
+    (s .created ≤ 31) × (t ≤ s .created) × (length (s .tasks) ≡ 31) × (word ≡ wanted (λ u. belongs l (taskOf (view s) u)) t)
 
 abbrev μ-loop : tie.MeasureT-loop
-μ-loop l s m₀ t₀ m t = s .created - t
+μ-loop l s word₀ t₀ word t = s .created - t
 
 loop-holds : tie.Need-loop-holds Inv-loop μ-loop
-loop-holds c = (c .pre, omega arith, search (needs, mapped-long), none-whole, refl)
+loop-holds c = (c .pre, omega arith, search (needs, mapped-long), refl)
 
 loop-again : tie.Need-loop-again Inv-loop μ-loop
 loop-again c =
-    let p = c .before .before .before in
+    let p = c .before .before .before .before in
     let s = p .before .args .t1 in let l = p .before .args .l in
-    let v = p .loop .inv in let t = p .loop .t in let m = p .loop .m in
-    let b = c .is-of .result in
-    let e : b ≡ belongs l (taskOf (view s) (t + 1)) = c .is-of .ensures ∙ ap (belongs l) (task-at (s .tasks) (s .created) t (omega arith)) in
-    (v .0, omega arith, v .2, rw (written m (t + 1) b) (with-whole m (t + 1) b (v .3)), written m (t + 1) b ∙ wanted-on (λ u. belongs l (taskOf (view s) u)) m t b (v .4) e)
+    let v = p .loop .inv in let t = p .loop .t in
+    let b = c .before .is-of .result in
+    let e : b ≡ belongs l (taskOf (view s) (t + 1)) = c .before .is-of .ensures ∙ ap (belongs l) (task-at (s .tasks) (s .created) t (omega arith)) in
+    (v .0, omega arith, v .2, c .with .ensures ∙ wanted-on (λ u. belongs l (taskOf (view s) u)) (p .loop .word) t b (v .3) e)
 
 -- behind the table: the walk of the array of line l gives the answer
 walked : (c : tie.After-loop Inv-loop μ-loop) →
     let p = c .before in
-    (a : List ℕ) (r : Bool) → a ≡ arrayOf (p .before .args .t1) (p .before .args .l) → r ≡ emptied (p .loop .m) a → r ≡ standsIn (p .before .args .t1) (p .before .args .l)
+    (a : List ℕ) (r : Bool) → a ≡ arrayOf (p .before .args .t1) (p .before .args .l) → r ≡ emptied (p .loop .word) a → r ≡ standsIn (p .before .args .t1) (p .before .args .l)
 walked c a r ea er =
     let p = c .before in let v = p .loop .inv in
-    stands-is (p .before .args .t1) (p .before .args .l) (p .loop .m) (p .loop .t) a r (v .0) (omega arith) (v .4) ea er
+    stands-is (p .before .args .t1) (p .before .args .l) (p .loop .word) (p .loop .t) a r (v .0) (omega arith) (v .3) ea er
 
 returns : tie.Need-returns Inv-loop μ-loop
 returns c =
@@ -68,6 +66,6 @@ pub in-line-spec : {M : Type 1} → statement M
 in-line-spec =
     tie.close
     (tie.spec Inv-loop μ-loop loop-holds (λ c. search needs) (λ c. search needs) (λ c. omega arith) (λ c. omega arith)
-    (λ c κs. search needs) (λ c. search needs) (λ c. search needs) (λ c. omega arith) (λ c. omega arith) loop-again
-    (λ c. search needs) (λ c κs. search needs) (λ c. search needs) (λ c κs. search needs) (λ c. search needs) (λ c κs. search needs)
-    (λ c. search needs) (λ c κs. search needs) returns returns-2 returns-3 returns-4)
+    (λ c κs. search needs) (λ c κs. search needs) (λ c. omega arith) loop-again (λ c. search needs) (λ c κs. search needs)
+    (λ c. search needs) (λ c κs. search needs) (λ c. search needs) (λ c κs. search needs) (λ c. search needs)
+    (λ c κs. search needs) returns returns-2 returns-3 returns-4)

@@ -33,33 +33,46 @@ alive-here c = let a = c .before .before .before .before .before .before .before
 
 returns : tie.Need-returns
 returns c =
-    let a = c .before .before .before .before .args in let s = a .s in
-    by-both s _ _ (enter-none (view s) (c .before .before .running .result) (a .g) (a .e) (a .m) (c .before .before .running .ensures) (c .before .if1 .taken)) (c .refused-by .ensures) refl
+    let a = c .before .before .before .before .args in
+    by-both (a .s) _ _ (enter-none (view (a .s)) (c .before .before .running .result) (a .g) (a .e) (a .m) (c .before .before .running .ensures) (c .before .if1 .taken)) (c .refused-by .ensures) refl
 
 returns-2 : tie.Need-returns-2
 returns-2 c =
-    let a = c .before .before .before .before .before .before .args in let s = a .s in let e1 = c .before .before .before in
-    by-both s _ _ (call-here e1 ∙ call-target (view s) _ (a .g) (a .e) (a .m) (no-task s _ (a .g) (c .before .before .before .before .before .before .pre .0) (c .before .before .is-between .ensures) (c .before .if2 .taken))) (c .refused-by2 .ensures) refl
+    let e1 = c .before .before .before in
+    let a = c .before .before .before .before .before .before .args in
+    let none = no-task (a .s) _ (a .g) (c .before .before .before .before .before .before .pre .0) (c .before .before .is-between .ensures) (c .before .if2 .taken) in
+    by-both (a .s) _ _ (call-here e1 ∙ call-target (view (a .s)) _ (a .g) (a .e) (a .m) none) (c .refused-by2 .ensures) refl
 
 returns-3 : tie.Need-returns-3
 returns-3 c =
-    let a = c .before .before .before .before .before .before .before .before .before .args in let s = a .s in let e2 = c .before .before .before .before in
-    let none = of-task (view s) (a .g) _ (λ x. ltb 0 (a .e) && leb (a .e) (x .entries)) _ _ (c .before .before .before .task-of .ensures) (c .before .before .is-between2 .ensures) (not-true _ (c .before .if3 .taken)) in
-    by-both s _ _ (call-here (e2 .before .before) ∙ call-entry (view s) _ (a .g) (a .e) (a .m) (task-here e2) none) (c .refused-by3 .ensures) refl
+    let e2 = c .before .before .before .before in
+    let e1 = c .before .before .before .before .before .before in
+    let a = c .before .before .before .before .before .before .before .before .before .args in
+    let none = of-task (view (a .s)) (a .g) _ (λ x. ltb 0 (a .e) && leb (a .e) (x .entries)) _ _ (c .before .before .before .task-of .ensures) (c .before .before .is-between2 .ensures) (not-true _ (c .before .if3 .taken)) in
+    by-both (a .s) _ _ (call-here e1 ∙ call-entry (view (a .s)) _ (a .g) (a .e) (a .m) (task-here e2) none) (c .refused-by3 .ensures) refl
 
 returns-4 : tie.Need-returns-4
 returns-4 c =
-    let a = c .before .before .before .before .before .before .before .before .before .before .before .args in let s = a .s in let e3 = c .before .before .before in let e2 = e3 .before .before .before in
-    let dead = of-task (view s) (a .g) _ (λ x. isCompleted (x .place)) _ _ (c .before .before .before .before .before .task-of .ensures) (c .before .before .is-completed .ensures) (c .before .if4 .taken) in
-    by-both s _ _ (call-here (e2 .before .before) ∙ call-dead (view s) _ (a .g) (a .e) (a .m) (task-here e2) (entry-here e3) dead) (stay-answers s _ [] (c .before .before .before .before .before .before .before .before .before .before .before .pre .0) (c .answered .ensures)) refl
+    let e3 = c .before .before .before in
+    let e2 = c .before .before .before .before .before .before in
+    let e1 = c .before .before .before .before .before .before .before .before in
+    let a = c .before .before .before .before .before .before .before .before .before .before .before .args in
+    let dead = of-task (view (a .s)) (a .g) _ (λ x. isCompleted (x .place)) _ _ (c .before .before .before .before .before .task-of .ensures) (c .before .before .is-completed .ensures) (c .before .if4 .taken) in
+    by-both (a .s) _ _ (call-here e1 ∙ call-dead (view (a .s)) _ (a .g) (a .e) (a .m) (task-here e2) (entry-here e3) dead) (stay-answers (a .s) _ [] (c .before .before .before .before .before .before .before .before .before .before .before .pre .0) (c .answered .ensures)) refl
 
 returns-5 : tie.Need-returns-5
 returns-5 c =
-    let a = c .before .before .before .before .before .before .before .before .before .before .before .before .before .before .before .before .before .before .before .args in let s = a .s in let v = view s in let t = c .before .before .before .before .before .before .before .before .before .before .before .before .before .before .before .before .before .running .result in
-    let e4 = c .before .before .before .before .before .before .before .before .before in let e3 = e4 .before .before in let e2 = e3 .before .before .before in let e1 = e2 .before .before in
+    let e4 = c .before .before .before .before .before .before .before .before .before in
+    let e3 = e4 .before .before in
+    let e2 = e3 .before .before .before in
+    let e1 = e2 .before .before in
+    let a = c .before .before .before .before .before .before .before .before .before .before .before .before .before .before .before .before .before .before .before .args in
+    let v = view (a .s) in
+    let t = e1 .before .running .result in
     let meets = of-task v (a .g) _ (λ x. accepts (x .place) (a .e)) _ _ (c .before .before .before .before .before .before .before .before .before .before .before .before .before .task-of .ensures) (c .before .before .before .before .before .before .before .before .accepts-at .ensures) (c .before .before .before .before .before .before .before .if5 .taken) in
-    by-both s _ _ (call-here e1 ∙ call-meets v t (a .g) (a .e) (a .m) (task-here e2) (entry-here e3) (alive-here e4) meets)
-    (answers s _ (meet (wake v (a .g)) (a .g) t (a .e)) _ (item (a .g) 5 (a .e) t ∷ []) (c .answered2 .ensures) (woken-met s _ _ (a .g) t (a .e) (c .before .before .before .before .before .before .before .before .before .before .before .before .before .before .before .before .before .before .before .pre .0) (task-here e2) (runs-here e1 .high) (c .before .before .moved .ensures) (c .before .met .ensures)))
+    let woken = woken-met (a .s) _ _ (a .g) t (a .e) (c .before .before .before .before .before .before .before .before .before .before .before .before .before .before .before .before .before .before .before .pre .0) (task-here e2) (runs-here e1 .high) (c .before .before .moved .ensures) (c .before .met .ensures) in
+    by-both (a .s) _ _ (call-here e1 ∙ call-meets v t (a .g) (a .e) (a .m) (task-here e2) (entry-here e3) (alive-here e4) meets)
+    (answers (a .s) _ (meet (wake v (a .g)) (a .g) t (a .e)) _ (item (a .g) 5 (a .e) t ∷ []) (c .answered2 .ensures) woken)
     (c .before .before .before .before .before .put .ensures)
 
 call-busy-requires : tie.Need-call-busy-requires
@@ -67,10 +80,15 @@ call-busy-requires c κs = (c .before .before .before .before .before .before .b
 
 returns-6 : tie.Need-returns-6
 returns-6 c =
-    let a = c .before .before .before .before .before .before .before .before .before .before .before .before .before .args in let s = a .s in let v = view s in let t = c .before .before .before .before .before .before .before .before .before .before .before .running .result in
-    let e4 = c .before .before .before in let e3 = e4 .before .before in let e2 = e3 .before .before .before in let e1 = e2 .before .before in
+    let e4 = c .before .before .before in
+    let e3 = e4 .before .before in
+    let e2 = e3 .before .before .before in
+    let e1 = e2 .before .before in
+    let a = c .before .before .before .before .before .before .before .before .before .before .before .before .before .args in
+    let v = view (a .s) in
+    let t = e1 .before .running .result in
     let busy = of-task v (a .g) _ (λ x. accepts (x .place) (a .e)) _ _ (c .before .before .before .before .before .before .before .task-of .ensures) (c .before .before .accepts-at .ensures) (c .before .if5 .left) in
-    by-both s _ _ (call-here e1 ∙ call-goes v t (a .g) (a .e) (a .m) (task-here e2) (entry-here e3) (alive-here e4) busy) (c .call-busy .ensures) (quiet-room _ (quiet-busy v t (a .g) (a .e) (a .m)))
+    by-both (a .s) _ _ (call-here e1 ∙ call-goes v t (a .g) (a .e) (a .m) (task-here e2) (entry-here e3) (alive-here e4) busy) (c .call-busy .ensures) (quiet-room _ (quiet-busy v t (a .g) (a .e) (a .m)))
 
 pub call-spec : {M : Type 1} → statement M
 call-spec =

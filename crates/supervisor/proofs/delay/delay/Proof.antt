@@ -1,32 +1,43 @@
 use borrow.Author.Needs.{needs}
-use mathlib.Core.Path.{_∙_, ap}
-use mir.Facts.{toZ-ofZ}
+use mathlib.Core.Path.{_≡_, _∙_, ap}
 use mathlib.Core.List.{[]}
+use mir.Facts.{toZ-ofZ}
 use Rattle.rules.specs.Step.{delayFor, ticks}
 use Rattle.rules.specs.Whole.{view}
+use Rattle.rules.proofs.Members.{Runs}
 use Rattle.supervisor.proofs.AnswerLaws.{no-runner, runner, by-outcome, move-answers}
 use Rattle.supervisor.proofs.DelayLaws.{delay-now, delay-later}
 use Rattle.supervisor.proofs.delay.delay.Statement.{statement}
 use Rattle.supervisor.proofs.delay.delay.Tie as tie
 
+runs-here : (c : tie.Else1) → Runs (view (c .before .before .args .s)) (c .before .running .result)
+runs-here c = runner (c .before .before .args .s) (c .before .running .result) (c .before .before .pre) (c .before .running .ensures) (c .if1 .left)
+
+ticks-here : (c : tie.After-ticks-of) → c .ticks-of .result ≡ ticks (c .before .before .before .args .d)
+ticks-here c = c .ticks-of .ensures ∙ ap ticks (toZ-ofZ (c .before .before .before .fits .d))
+
 returns : tie.Need-returns
 returns c =
-    let s = c .before .before .before .args .s in
-    by-outcome s (no-runner (view s) (c .before .before .running .result) (λ t. delayFor (view s) t (ticks (c .before .before .before .args .d))) (c .before .before .running .ensures) (c .before .if1 .taken)) (c .refused-by .ensures)
+    let a = c .before .before .before .args in
+    by-outcome (a .s) (no-runner (view (a .s)) (c .before .before .running .result) (λ t. delayFor (view (a .s)) t (ticks (a .d))) (c .before .before .running .ensures) (c .before .if1 .taken)) (c .refused-by .ensures)
 
 returns-2 : tie.Need-returns-2
 returns-2 c =
-    let s = c .before .before .before .before .before .before .args .s in
-    let r = runner s (c .before .before .before .before .before .running .result) (c .before .before .before .before .before .before .pre) (c .before .before .before .before .before .running .ensures) (c .before .before .before .before .if1 .left) in
-    by-outcome s (delay-now (view s) (c .before .before .before .before .before .running .result) (c .before .before .before .before .before .running .ensures) (c .before .before .before .before .if1 .left) (c .before .before .before .before .before .before .args .d) (c .before .before .before .ticks-of .result) (c .before .before .before .ticks-of .ensures ∙ ap ticks (toZ-ofZ (c .before .before .before .before .before .before .fits .d))) (c .before .before .if2 .taken))
-    (move-answers s _ _ _ _ _ [] (c .before .before .before .before .before .before .pre) (r .high) (c .answered .ensures) (c .before .moved .ensures))
+    let k = c .before .before .before in
+    let e1 = k .before in
+    let a = c .before .before .before .before .before .before .args in
+    let t = e1 .before .running .result in
+    by-outcome (a .s) (delay-now (view (a .s)) t (e1 .before .running .ensures) (e1 .if1 .left) (a .d) (k .ticks-of .result) (ticks-here k) (c .before .before .if2 .taken))
+    (move-answers (a .s) _ _ _ _ _ [] (c .before .before .before .before .before .before .pre) (runs-here e1 .high) (c .answered .ensures) (c .before .moved .ensures))
 
 returns-3 : tie.Need-returns-3
 returns-3 c =
-    let s = c .before .before .before .before .before .before .before .args .s in
-    let r = runner s (c .before .before .before .before .before .before .running .result) (c .before .before .before .before .before .before .before .pre) (c .before .before .before .before .before .before .running .ensures) (c .before .before .before .before .before .if1 .left) in
-    by-outcome s (delay-later (view s) (c .before .before .before .before .before .before .running .result) (c .before .before .before .before .before .before .running .ensures) (c .before .before .before .before .before .if1 .left) (c .before .before .before .before .before .before .before .args .d) (c .before .before .before .before .ticks-of .result) _ (c .before .before .before .before .ticks-of .ensures ∙ ap ticks (toZ-ofZ (c .before .before .before .before .before .before .before .fits .d))) (c .before .before .before .if2 .left) (c .before .before .wrapping-add-u32 .ensures))
-    (move-answers s _ _ _ _ _ [] (c .before .before .before .before .before .before .before .pre) (r .high) (c .answered2 .ensures) (c .before .moved2 .ensures))
+    let k = c .before .before .before .before in
+    let e1 = k .before in
+    let a = c .before .before .before .before .before .before .before .args in
+    let t = e1 .before .running .result in
+    by-outcome (a .s) (delay-later (view (a .s)) t (e1 .before .running .ensures) (e1 .if1 .left) (a .d) (k .ticks-of .result) _ (ticks-here k) (c .before .before .before .if2 .left) (c .before .before .wrapping-add-u32 .ensures))
+    (move-answers (a .s) _ _ _ _ _ [] (c .before .before .before .before .before .before .before .pre) (runs-here e1 .high) (c .answered2 .ensures) (c .before .moved2 .ensures))
 
 pub delay-spec : {M : Type 1} → statement M
 delay-spec =

@@ -1,16 +1,31 @@
 use borrow.Author.Needs.{needs}
-use mathlib.Core.Path.{_∙_, ap, refl}
+use mathlib.Core.Path.{_≡_, _∙_, ap, refl}
 use mathlib.Core.List.{[], _∷_}
+use Rattle.calls.specs.declared.Call.the-variants.{End}
 use Rattle.lists.specs.Lists.{last}
-use Rattle.rules.specs.State.{entryOf, placeOf}
-use Rattle.rules.specs.Step.{item}
+use Rattle.rules.specs.State.{entryOf, placeOf, heldBy}
+use Rattle.rules.specs.Step.{item, takeCall}
+use Rattle.rules.specs.Step as rules
 use Rattle.rules.specs.Whole.{view}
+use Rattle.rules.proofs.Members.{Runs}
 use Rattle.table.specs.declared.queues.Test.the-variants.{HeldBy}
-use Rattle.supervisor.proofs.AnswerLaws.{by-both, part-answers, runner}
-use Rattle.supervisor.proofs.EndLaws.{end-idle, end-none, end-one, end-runs, held-fits}
 use Rattle.supervisor.proofs.MoveLaws.{long-held, picked-line}
+use Rattle.supervisor.proofs.AnswerLaws.{by-both, part-answers, runner}
+use Rattle.supervisor.proofs.EndLaws.{end-idle, end-runs, end-none, end-one, held-fits}
 use Rattle.supervisor.proofs.end.end.Statement.{statement}
 use Rattle.supervisor.proofs.end.end.Tie as tie
+
+runs-here : (c : tie.Else1) → Runs (view (c .before .before .before .args .s)) (c .before .running .result)
+runs-here c = runner (c .before .before .before .args .s) (c .before .running .result) (c .before .before .before .pre .0) (c .before .running .ensures) (c .if1 .left)
+
+end-here : (c : tie.Else1) → takeCall (view (c .before .before .before .args .s)) End ≡ rules.end (view (c .before .before .before .args .s)) (c .before .running .result)
+end-here c = end-runs (view (c .before .before .before .args .s)) (c .before .running .result) (c .before .running .ensures) (c .if1 .left)
+
+-- the one that was picked is the last of those that t holds
+last-here : (c : tie.After-last-of) → c .last-of .result ≡ last (heldBy (view (c .before .before .before .before .before .before .args .s)) (c .before .before .before .before .running .result))
+last-here c =
+    let s = c .before .before .before .before .before .before .args .s in
+    c .last-of .ensures ∙ ap last (picked-line s (s .held) (HeldBy (c .before .before .before .before .running .result)) _ (long-held s (c .before .before .before .before .before .before .pre .0)) (c .before .picked .ensures))
 
 returns : tie.Need-returns
 returns c =
@@ -19,16 +34,22 @@ returns c =
 
 returns-2 : tie.Need-returns-2
 returns-2 c =
-    let s = c .before .before .before .before .before .before .before .before .args .s in let v = view s in let t = c .before .before .before .before .before .before .running .result in
-    let k = c .before .before .last-of .ensures ∙ ap last (picked-line s (s .held) (HeldBy t) _ (long-held s (c .before .before .before .before .before .before .before .before .pre .0)) (c .before .before .before .picked .ensures)) in
-    by-both s _ _ (end-runs v t (c .before .before .before .before .before .before .running .ensures) (c .before .before .before .before .before .if1 .left) ∙ end-none v t _ k (c .before .if2 .taken)) (c .refused-by2 .ensures) refl
+    let k = c .before .before in
+    let e1 = c .before .before .before .before .before in
+    let s = c .before .before .before .before .before .before .before .before .args .s in
+    by-both s _ _ (end-here e1 ∙ end-none (view s) (e1 .before .running .result) _ (last-here k) (c .before .if2 .taken)) (c .refused-by2 .ensures) refl
 
 returns-3 : tie.Need-returns-3
 returns-3 c =
-    let s = c .before .before .before .before .before .before .before .before .before .before .before .before .before .before .before .args .s in let v = view s in let t = c .before .before .before .before .before .before .before .before .before .before .before .before .before .running .result in
-    let k = c .before .before .before .before .before .before .before .before .before .last-of .ensures ∙ ap last (picked-line s (s .held) (HeldBy t) _ (long-held s (c .before .before .before .before .before .before .before .before .before .before .before .before .before .before .before .pre .0)) (c .before .before .before .before .before .before .before .before .before .before .picked .ensures)) in
-    by-both s _ _ (end-runs v t (c .before .before .before .before .before .before .before .before .before .before .before .before .before .running .ensures) (c .before .before .before .before .before .before .before .before .before .before .before .before .if1 .left) ∙ end-one v t (c .before .before .before .before .before .before .before .before .before .last-of .result) k (c .before .before .before .before .before .before .before .before .if2 .left))
-    (part-answers t (c .before .before .before .before .before .before .before .before .before .last-of .result) 0 s _ _ (item (c .before .before .before .before .before .before .before .before .before .last-of .result) 2 (entryOf (placeOf v (c .before .before .before .before .before .before .before .before .before .last-of .result))) t ∷ []) (c .before .before .before .before .before .before .before .before .before .before .before .before .before .before .before .pre .0) (runner s t (c .before .before .before .before .before .before .before .before .before .before .before .before .before .before .before .pre .0) (c .before .before .before .before .before .before .before .before .before .before .before .before .before .running .ensures) (c .before .before .before .before .before .before .before .before .before .before .before .before .if1 .left) .high) (held-fits v t _ k (c .before .before .before .before .before .before .before .before .if2 .left)) (c .answered .ensures) (c .before .parted .ensures))
+    let e2 = c .before .before .before .before .before .before .before .before in
+    let e1 = c .before .before .before .before .before .before .before .before .before .before .before .before in
+    let s = c .before .before .before .before .before .before .before .before .before .before .before .before .before .before .before .args .s in
+    let v = view s in
+    let t = e1 .before .running .result in
+    let k = e2 .before .last-of .result in
+    let held = last-here (e2 .before) in
+    by-both s _ _ (end-here e1 ∙ end-one v t k held (e2 .if2 .left))
+    (part-answers t k 0 s _ _ (item k 2 (entryOf (placeOf v k)) t ∷ []) (c .before .before .before .before .before .before .before .before .before .before .before .before .before .before .before .pre .0) (runs-here e1 .high) (held-fits v t k held (e2 .if2 .left)) (c .answered .ensures) (c .before .parted .ensures))
     (rw (c .before .before .before .before .before .entry-of .ensures, c .before .before .before .before .before .before .before .task-of .ensures) at (c .before .before .before .before .put .ensures))
 
 pub end-spec : {M : Type 1} → statement M

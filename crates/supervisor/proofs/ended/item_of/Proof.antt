@@ -3,9 +3,9 @@ use Rattle.supervisor.proofs.ended.item_of.Statement.{statement}
 use Rattle.supervisor.proofs.ended.item_of.Tie as tie
 
 returns : tie.Need-returns
-returns c = rw (c .before .before .reason .ensures, c .before .entry-of .ensures, c .partner-of .ensures, c .before .before .before .task-of .ensures)
+returns c = rw (c .before .before .reason .ensures, c .before .entry-of .ensures, c .partner-of .ensures)
 
 pub item-of-spec : {M : Type 1} → statement M
 item-of-spec =
     tie.close
-    (tie.spec (λ c κs. search needs) (λ c κs. search needs) (λ c κs. search needs) (λ c κs. search needs) returns)
+    (tie.spec (λ c κs. search needs) (λ c κs. search needs) (λ c κs. search needs) returns)

@@ -1,16 +1,30 @@
 use borrow.Author.Needs.{needs}
 use Prim.Native.Nat.{_^_}
-use mathlib.Core.Path.{_∙_, ap, sym}
+use mathlib.Core.Path.{_≡_, _∙_}
+use mathlib.Core.Bool.{false}
 use mathlib.Core.List.{[]}
 use lib.Dec.{leb}
-use Rattle.lists.specs.Lists.{first}
+use Rattle.calls.specs.declared.Call.the-variants.{Select}
+use Rattle.rules.specs.State.{taskOf}
+use Rattle.rules.specs.Step.{takeCall}
+use Rattle.rules.specs.Step as rules
 use Rattle.rules.specs.Whole.{view}
-use Rattle.table.specs.declared.queues.Test.the-variants.{QueuedOn}
-use Rattle.supervisor.proofs.AnswerLaws.{by-outcome, meet-answers, of-task, runner}
-use Rattle.supervisor.proofs.SelectLaws.{first-fits, select-alone, select-idle, select-runs, select-takes, select-wide}
-use Rattle.supervisor.proofs.MoveLaws.{long-callers, picked-line}
+use Rattle.rules.proofs.Members.{Runs}
+use Rattle.supervisor.proofs.AnswerLaws.{by-outcome, of-task, runner, meet-answers}
+use Rattle.supervisor.proofs.LowestLaws.{lowest-none, lowest-one}
+use Rattle.supervisor.proofs.SelectLaws.{select-alone, select-runs, select-wide, select-idle, select-takes, first-fits}
 use Rattle.supervisor.proofs.select.select.Statement.{statement}
 use Rattle.supervisor.proofs.select.select.Tie as tie
+
+-- What is known behind each test that has been passed.
+runs-here : (c : tie.Else1) → Runs (view (c .before .before .args .s)) (c .before .running .result)
+runs-here c = runner (c .before .before .args .s) (c .before .running .result) (c .before .before .pre) (c .before .running .ensures) (c .if1 .left)
+
+select-here : (c : tie.Else1) → let a = c .before .before .args in takeCall (view (a .s)) (Select (a .o) (a .m)) ≡ rules.select (view (a .s)) (c .before .running .result) (a .o) (a .m)
+select-here c = let a = c .before .before .args in select-runs (view (a .s)) (c .before .running .result) (c .before .running .ensures) (a .o) (a .m) (c .if1 .left)
+
+own-here : (c : tie.Else2) → let a = c .before .before .before .before .before .args in leb (2 ^ (taskOf (view (a .s)) (c .before .before .before .before .running .result) .entries)) (a .o) ≡ false
+own-here c = let a = c .before .before .before .before .before .args in of-task (view (a .s)) (c .before .before .before .before .running .result) _ (λ x. leb (2 ^ (x .entries)) (a .o)) _ _ (c .before .before .task-of .ensures) (c .before .is-too-wide .ensures) (c .if2 .left)
 
 returns : tie.Need-returns
 returns c =
@@ -19,31 +33,42 @@ returns c =
 
 returns-2 : tie.Need-returns-2
 returns-2 c =
-    let a = c .before .before .before .before .before .before .args in let v = view (a .s) in let t = c .before .before .before .before .before .running .result in
-    let q = of-task v t _ (λ x. leb (2 ^ (x .entries)) (a .o)) _ _ (c .before .before .before .task-of .ensures) (c .before .before .is-too-wide .ensures) (c .before .if2 .taken) in
-    by-outcome (a .s) (select-runs v t (c .before .before .before .before .before .running .ensures) (a .o) (a .m) (c .before .before .before .before .if1 .left) ∙ select-wide v t (a .o) (a .m) q) (c .refused-by2 .ensures)
+    let e1 = c .before .before .before .before in
+    let a = c .before .before .before .before .before .before .args in
+    let v = view (a .s) in
+    let t = e1 .before .running .result in
+    let wide = of-task v t _ (λ x. leb (2 ^ (x .entries)) (a .o)) _ _ (c .before .before .before .task-of .ensures) (c .before .before .is-too-wide .ensures) (c .before .if2 .taken) in
+    by-outcome (a .s) (select-here e1 ∙ select-wide v t (a .o) (a .m) wide) (c .refused-by2 .ensures)
 
 select-none-requires : tie.Need-select-none-requires
-select-none-requires c κs =
-    (c .before .before .before .before .before .before .before .pre, runner (c .before .before .before .before .before .before .before .args .s) (c .before .before .before .before .before .before .running .result) (c .before .before .before .before .before .before .before .pre) (c .before .before .before .before .before .before .running .ensures) (c .before .before .before .before .before .if1 .left) .high)
+select-none-requires c κs = (c .before .before .before .before .before .before .before .before .pre, runs-here (c .before .before .before .before .before .before) .high)
 
 returns-3 : tie.Need-returns-3
 returns-3 c =
-    let a = c .before .before .before .before .before .before .before .before .args in let v = view (a .s) in let t = c .before .before .before .before .before .before .before .running .result in
-    let q = of-task v t _ (λ x. leb (2 ^ (x .entries)) (a .o)) _ _ (c .before .before .before .before .before .task-of .ensures) (c .before .before .before .before .is-too-wide .ensures) (c .before .before .before .if2 .left) in
-    by-outcome (a .s) (select-runs v t (c .before .before .before .before .before .before .before .running .ensures) (a .o) (a .m) (c .before .before .before .before .before .before .if1 .left) ∙ select-idle v t (a .o) (a .m) q (sym (c .before .before .open-entry .ensures) ∙ c .before .if3 .taken)) (c .select-none .ensures)
+    let e2 = c .before .before .before .before in
+    let e1 = c .before .before .before .before .before .before .before in
+    let a = c .before .before .before .before .before .before .before .before .before .args in
+    let v = view (a .s) in
+    let t = e1 .before .running .result in
+    let none = lowest-none v t (a .o) (c .before .before .before .lowest .result) (c .before .before .before .lowest .ensures) (c .before .if3 .taken) in
+    by-outcome (a .s) (select-here e1 ∙ select-idle v t (a .o) (a .m) (own-here e2) none) (c .select-none .ensures)
 
 returns-4 : tie.Need-returns-4
 returns-4 c =
-    let a = c .before .before .before .before .before .before .before .before .before .before .before .before .args in let v = view (a .s) in let t = c .before .before .before .before .before .before .before .before .before .before .before .running .result in let e = c .before .before .before .before .before .before .open-entry .result in
-    let q = of-task v t _ (λ x. leb (2 ^ (x .entries)) (a .o)) _ _ (c .before .before .before .before .before .before .before .before .before .task-of .ensures) (c .before .before .before .before .before .before .before .before .is-too-wide .ensures) (c .before .before .before .before .before .before .before .if2 .left) in
-    let k = c .before .before .first-of .ensures ∙ ap first (picked-line (a .s) (a .s .callers) (QueuedOn t e) _ (long-callers (a .s) (c .before .before .before .before .before .before .before .before .before .before .before .before .pre)) (c .before .before .before .picked .ensures)) in
-    by-outcome (a .s) (select-runs v t (c .before .before .before .before .before .before .before .before .before .before .before .running .ensures) (a .o) (a .m) (c .before .before .before .before .before .before .before .before .before .before .if1 .left) ∙ select-takes v t (a .o) (a .m) e (c .before .before .first-of .result) q (c .before .before .before .before .before .before .open-entry .ensures) (c .before .before .before .before .before .if3 .left) k)
-    (meet-answers t (c .before .before .first-of .result) e (a .s) _ _ [] (c .before .before .before .before .before .before .before .before .before .before .before .before .pre) (runner (a .s) t (c .before .before .before .before .before .before .before .before .before .before .before .before .pre) (c .before .before .before .before .before .before .before .before .before .before .before .running .ensures) (c .before .before .before .before .before .before .before .before .before .before .if1 .left) .high) (first-fits v t (a .o) e _ (c .before .before .before .before .before .before .open-entry .ensures) (c .before .before .before .before .before .if3 .left) k) (c .answered .ensures) (c .before .met .ensures))
+    let e3 = c .before .before in
+    let e2 = c .before .before .before .before .before in
+    let e1 = c .before .before .before .before .before .before .before .before in
+    let a = c .before .before .before .before .before .before .before .before .before .before .args in
+    let v = view (a .s) in
+    let t = e1 .before .running .result in
+    let b = e3 .before .before .lowest .result in
+    let one = lowest-one v t (a .o) b (e3 .before .before .lowest .ensures) (e3 .if3 .left) in
+    by-outcome (a .s) (select-here e1 ∙ select-takes v t (a .o) (a .m) (b .entry) (b .task) (own-here e2) (one .0) (one .1) (one .2))
+    (meet-answers t (b .task) (b .entry) (a .s) _ _ [] (c .before .before .before .before .before .before .before .before .before .before .pre) (runs-here e1 .high) (first-fits v t (a .o) (b .entry) (b .task) (one .0) (one .1) (one .2)) (c .answered .ensures) (c .before .met .ensures))
 
 pub select-spec : {M : Type 1} → statement M
 select-spec =
     tie.close
     (tie.spec (λ c κs. search needs) (λ c κs. search needs) returns (λ c κs. search needs) (λ c κs. search needs)
     (λ c κs. search needs) returns-2 (λ c κs. search needs) select-none-requires returns-3 (λ c κs. search needs)
-    (λ c κs. search needs) (λ c κs. search needs) (λ c κs. search needs) returns-4)
+    (λ c κs. search needs) returns-4)

@@ -7,7 +7,8 @@ use Rattle.workspace.proofs.Prelude.{_≡_, refl, sym, ℕ, _+_, _-_, _
 use denote.Struct.Laws as LL
 use Rattle.workspace.specs.declared.Stretch.{Stretch}
 use Rattle.workspace.specs.Rules.{none}
-use Rattle.workspace.specs.Places.{placeOf, isEnough}
+use Rattle.workspace.specs.declared.Test.the-variants.{HasUnits}
+use Rattle.workspace.specs.Places.{placeOf, passesOf}
 use Rattle.workspace.proofs.PlaceLaws.{Passed, begin, pass, found, passed-all}
 use Rattle.workspace.proofs.Stretch as T
 use Rattle.workspace.proofs.Stretch.Laws as T′
@@ -72,7 +73,7 @@ module _ {M : Type 1} (𝓤 : URA M) (H : Heap 𝓤) (A : Atoms 𝓤) (W : Given
   abbrev Post : Val → SProp 𝓤
   Post = walkOf 𝓤 H A f.ended stayed (f.clauses 𝓤 H A mem run) .post (((κ, tt), (q, tt), tt, x, vals), tt)
 
-  exits : (i : ℕ) → i ≤ n → i ≡ placeOf (isEnough size) ys → ent 𝓤 (⋆ 𝓤 H A (‵ (flft κ q) ∷ ‵ (ShrSlice (named 0) κ T.the-row .own (x .0) (vals .0)) ∷ [])) (Post (vint w64 i))
+  exits : (i : ℕ) → i ≤ n → i ≡ placeOf (passesOf HasUnits size) ys → ent 𝓤 (⋆ 𝓤 H A (‵ (flft κ q) ∷ ‵ (ShrSlice (named 0) κ T.the-row .own (x .0) (vals .0)) ∷ [])) (Post (vint w64 i))
   exits i le e =
       qed W (‵ (flft κ q) ∷ ‵ (ShrSlice (named 0) κ T.the-row .own (x .0) (vals .0)) ∷ []) ∵
       suffices ! _ (ends-at 𝓤 H A f.ended stayed (f.clauses 𝓤 H A mem run) W (((κ, tt), (q, tt), tt, x, vals), tt) (vint w64 i) i (tt, (tt, tt)) (tt, (tt, tt))) $ says ! e $
@@ -81,7 +82,7 @@ module _ {M : Type 1} (𝓤 : URA M) (H : Heap 𝓤) (A : Atoms 𝓤) (W : Given
 
   -- where the search stands, and the order in which it comes nearer to the end
   abbrev Spot : Type 0
-  Spot = (i : ℕ) × (i ≤ n) × Passed (isEnough size) ys i
+  Spot = (i : ℕ) × (i ≤ n) × Passed (passesOf HasUnits size) ys i
 
   abbrev Nearer : Spot → Spot → Type 0
   Nearer j i = n - j .0 < n - i .0
@@ -93,7 +94,7 @@ module _ {M : Type 1} (𝓤 : URA M) (H : Heap 𝓤) (A : Atoms 𝓤) (W : Given
   fits i = lt-of-le-of-lt (i .1) (room .0)
 
   next : (i : Spot) → i .0 < n → leb size (getD ys (i .0) none .length) ≡ false → Spot
-  next i l e = (i .0 + 1, add-one-le l, pass (isEnough size) ys (i .0) (getD ys (i .0) none) _ l refl refl e (i .2))
+  next i l e = (i .0 + 1, add-one-le l, pass (passesOf HasUnits size) ys (i .0) (getD ys (i .0) none) _ l refl refl e (i .2))
 
   module _ (𝓣 : Tables 𝓤 H) (l₀ l₁ l₂ l₃ l₄ l₅ l₆ l₇ : ℕ) where
     abbrev C : Calls 𝓤 H
@@ -113,7 +114,7 @@ module _ {M : Type 1} (𝓤 : URA M) (H : Heap 𝓤) (A : Atoms 𝓤) (W : Given
         ∷ ‵ (fat fullShare word l₃ 0 (vint w64 (i .0))) ∷ ‵ (fdies word l₃) ∷ ‵ (fat fullShare (tyInt w32) l₂ 0 (vint w32 size)) ∷ ‵ (fdies (tyInt w32) l₂) ∷ ‵ (fat fullShare slice l₁ 0 (sliceVal (b, o) n)) ∷ ‵ (fdies slice l₁)
         ∷ ‵ (froom word l₀ 0) ∷ ‵ (fdies word l₀) ∷ ‵ (at-slice T.the-row (x .0) (vals .0)) ∷ ‵ (fres γ (codedHoleys T.the-row .code (heres T.the-row ys))) ∷ []
 
-    leaves : (i : Spot) → i .0 ≡ placeOf (isEnough size) ys → ent 𝓤 (⋆ 𝓤 H A (At i)) (Wp 𝓤 H C Λ En text.t-3 (atReturn 𝓤 H En Post))
+    leaves : (i : Spot) → i .0 ≡ placeOf (passesOf HasUnits size) ys → ent 𝓤 (⋆ 𝓤 H A (At i)) (Wp 𝓤 H C Λ En text.t-3 (atReturn 𝓤 H En Post))
     leaves i e =
         qed W (At i) ∵ exec ! C Λ En text.t-3 (atRet En Post) $
         assigns ! (of-opd ! (load ! (from ! (stop !)) (look ! 10 refl))) (from ! (stop !)) (init ! 16 refl (tt, record { fits = fits i })) $
@@ -143,11 +144,11 @@ module _ {M : Type 1} (𝓤 : URA M) (H : Heap 𝓤) (A : Atoms 𝓤) (W : Given
         elem-back ! T.the-row q′ ys (i .0) none (LL.vals T.the-type T′.the-laws (getD ys (i .0) none)) b o (ltb→lt (i .0) n less) $ shuts-slice ! tt T.the-row q′ ys b o $
         assigns ! (bin ! (load ! (from ! (stop !)) (look ! 12 refl)) (load ! (from ! (stop !)) (look ! 2 refl)) tt) (from ! (stop !)) (store ! 6 refl (tt, tt)) $
         first ! $ branches ! (load ! (from ! (stop !)) (look ! 6 refl))
-        (λ long. jumps ! $ forget ! 2 refl $ forget ! 4 refl $ forget ! 6 refl $ forget ! 8 refl $ by ! (leaves i (found (isEnough size) ys (i .0) (getD ys (i .0) none) _ (ltb→lt (i .0) n less) refl refl (is _ long) (i .2))))
+        (λ long. jumps ! $ forget ! 2 refl $ forget ! 4 refl $ forget ! 6 refl $ forget ! 8 refl $ by ! (leaves i (found (passesOf HasUnits size) ys (i .0) (getD ys (i .0) none) _ (ltb→lt (i .0) n less) refl refl (is _ long) (i .2))))
         (λ short. skips ! $ exec ! C Λ En onward (anyQ (Turned i)) $
         assigns-last ! (bin ! (load ! (from ! (stop !)) (look ! 10 refl)) (lit ! tt) (record { fits = fits (next i (ltb→lt (i .0) n less) (is-not _ short)) })) (from ! (stop !)) (store ! 10 refl (tt, record { fits = fits (next i (ltb→lt (i .0) n less) (is-not _ short)) })) $
         forget ! 2 refl $ forget ! 4 refl $ forget ! 6 refl $ forget ! 8 refl $ again ! Nearer At i (next i (ltb→lt (i .0) n less) (is-not _ short)) (add-one-dec n (i .0) (ltb→lt (i .0) n less))))))
-        (λ done. jumps ! $ forget ! 6 refl $ forget ! 8 refl $ by ! (leaves i (passed-all (isEnough size) ys (i .0) (nltb→le (i .0) n done) (i .2))))
+        (λ done. jumps ! $ forget ! 6 refl $ forget ! 8 refl $ by ! (leaves i (passed-all (passesOf HasUnits size) ys (i .0) (nltb→le (i .0) n done) (i .2))))
 
   walk : (𝓣 : Tables 𝓤 H) → ent 𝓤 (onEntry 𝓤 H A f.signature (κ, tt) (q, tt) x vals) (WpFn 𝓤 H (𝓣 .C) (𝓣 .Λ) code.function (sliceVal (b, o) n ∷ vint w32 size ∷ []) Post)
   walk 𝓣 =
@@ -158,7 +159,7 @@ module _ {M : Type 1} (𝓤 : URA M) (H : Heap 𝓤) (A : Atoms 𝓤) (W : Given
       move ! (17 ∷ []) $ fsplit ! $ fsplit ! $ move ! (1 ∷ []) $ fsplit ! $ move ! (20 ∷ []) $ split ! $
       -- [the token; true; res; the borrow; table's fact; size's; _7; …]
       keep ! (0 ∷ 3 ∷ 6 ∷ 7 ∷ 8 ∷ 9 ∷ 10 ∷ 11 ∷ 12 ∷ 13 ∷ 14 ∷ 15 ∷ 16 ∷ 17 ∷ 18 ∷ 19 ∷ 20 ∷ 21 ∷ 4 ∷ 2 ∷ []) $
-      first ! $ blocks ! $ loops ! 𝓣 Nearer Nearer-wf (At 𝓣 l₀ l₁ l₂ l₃ l₄ l₅ l₆ l₇) (turns 𝓣 l₀ l₁ l₂ l₃ l₄ l₅ l₆ l₇) (0, zero-le, begin (isEnough size) ys)))))))))
+      first ! $ blocks ! $ loops ! 𝓣 Nearer Nearer-wf (At 𝓣 l₀ l₁ l₂ l₃ l₄ l₅ l₆ l₇) (turns 𝓣 l₀ l₁ l₂ l₃ l₄ l₅ l₆ l₇) (0, zero-le, begin (passesOf HasUnits size) ys)))))))))
 
 module _ {M : Type 1} (𝓤 : URA M) (H : Heap 𝓤) (A : Atoms 𝓤) (W : Given 𝓤 H A) (mem : Memory → SProp 𝓤) (run : Routine → Fun 𝓤) where
   first-fit-walks : (𝓣 : Tables 𝓤 H) → Walks 𝓤 H A f.ended stayed (WpFn 𝓤 H (𝓣 .C) (𝓣 .Λ) code.function) (f.clauses 𝓤 H A mem run)

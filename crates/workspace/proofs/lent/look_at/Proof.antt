@@ -6,7 +6,8 @@ use denote.Struct.Laws as LL
 use Rattle.workspace.specs.declared.Stretch.{Stretch}
 use Rattle.workspace.specs.declared.Table.{Table}
 use Rattle.workspace.specs.declared.Look.{Look}
-use Rattle.workspace.specs.Places.{placeOf, isEnough}
+use Rattle.workspace.specs.declared.Test.the-variants.{HasUnits}
+use Rattle.workspace.specs.Places.{placeOf, passesOf}
 use Rattle.workspace.specs.Seen.{tableOf, seenAs, lookOf}
 use Rattle.workspace.proofs.Calls.{Told, tells-struct, seen, Seen, calls-told, Loaded, FirstFit, loads, searches}
 use Rattle.workspace.proofs.Stretch as T
@@ -112,8 +113,8 @@ module _ {M : Type 1} (𝓤 : URA M) (H : Heap 𝓤) (A : Atoms 𝓤) (W : Given
         land ! (from ! (stop !)) (init ! 8 refl (tt, record { fits = gp })) $
         assigns ! (of-opd ! (load ! (from ! (fld ! refl (stop !))) (look-in ! 18 (sub ! 1 refl (whole !))))) (from ! (stop !)) (init ! 6 refl (tt, record { fits = room₁ .0 })) $
         assigns ! (of-opd ! (load ! (from ! (fld ! refl (stop !))) (look-in ! 16 (sub ! 1 refl (whole !))))) (from ! (stop !)) (init ! 4 refl (tt, record { fits = room₂ .0 })) $
-        calls-told ! fm (SeenAs 𝓤 H A mem run) known-seen-as (to-seen-as 𝓤 H A W mem run (tableOf xs) (tableOf ys) (length xs) (length ys) (placeOf (isEnough size) ys)) (asks-seen-as 𝓤 H A W mem run (tableOf xs) (tableOf ys) (length xs) (length ys) (placeOf (isEnough size) ys) g₁ g₂ (room₁ .0) (room₂ .0) gp)
-        (looked (lookOf xs ys size)) (Is L.the-row (lookOf xs ys size) (looked (lookOf xs ys size) ∷ [])) (tells-seen-as 𝓤 H A W mem run (tableOf xs) (tableOf ys) (length xs) (length ys) (placeOf (isEnough size) ys))
+        calls-told ! fm (SeenAs 𝓤 H A mem run) known-seen-as (to-seen-as 𝓤 H A W mem run (tableOf xs) (tableOf ys) (length xs) (length ys) (placeOf (passesOf HasUnits size) ys)) (asks-seen-as 𝓤 H A W mem run (tableOf xs) (tableOf ys) (length xs) (length ys) (placeOf (passesOf HasUnits size) ys) g₁ g₂ (room₁ .0) (room₂ .0) gp)
+        (looked (lookOf xs ys size)) (Is L.the-row (lookOf xs ys size) (looked (lookOf xs ys size) ∷ [])) (tells-seen-as 𝓤 H A W mem run (tableOf xs) (tableOf ys) (length xs) (length ys) (placeOf (passesOf HasUnits size) ys))
         (and-then ! (load ! (from ! (stop !)) (look ! 13 refl)) (and-then ! (load ! (from ! (stop !)) (look ! 11 refl)) (and-then ! (load ! (from ! (stop !)) (look ! 7 refl)) (and-then ! (load ! (from ! (stop !)) (look ! 5 refl)) (and-then ! (load ! (from ! (stop !)) (look ! 9 refl)) (no-more !)))))) (λ g.
         land ! (from ! (stop !)) (init ! 20 refl (LL.lawful L.the-type L′.the-laws 𝓤 H A W .typed (lookOf xs ys size) _ g .0)) $
         returns ! (look ! 20 refl) $ forget ! 4 refl $ forget ! 6 refl $ forget ! 8 refl $ forget ! 10 refl $ forget ! 12 refl $ forget ! 14 refl $ forget ! 16 refl $ forget ! 18 refl $ forget ! 20 refl $

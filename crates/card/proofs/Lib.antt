@@ -1,0 +1,4 @@
+pub mod CodecLaws
+pub mod CardLaws
+pub mod Kept
+pub mod Unique

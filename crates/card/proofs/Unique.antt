@@ -1,0 +1,29 @@
+-- Any two answers that the contract of an exported function allows are equal, and so is each lent byte afterwards. Assumes nothing.
+use mathlib.Core.Path.{_≡_, sym, _∙_}
+use denote.Ref.{now}
+use Rattle.card.proofs.card_empty.Reads as empty
+use Rattle.card.proofs.card_sound.Reads as sound
+use Rattle.card.proofs.card_step.Reads as step
+use Rattle.card.proofs.card_count.Reads as count
+use Rattle.card.proofs.card_callable.Reads as callable
+use Rattle.card.proofs.card_running.Reads as running
+
+pub empty-once : (κs : _) (x : _) (r r′ : _) (y y′ : _) → empty.Post κs x r y → empty.Post κs x r′ y′ → (r ≡ r′) × (now (y .0) ≡ now (y′ .0))
+empty-once κs x r r′ y y′ p q = (p .0 ∙ sym (q .0), p .1 ∙ sym (q .1))
+
+pub sound-once : (κs : _) (x : _) (r r′ : _) (y y′ : _) → sound.Post κs x r y → sound.Post κs x r′ y′ → r ≡ r′
+sound-once κs x r r′ y y′ p q = p ∙ sym q
+
+pub step-once : (κs : _) (x : _) (r r′ : _) (y y′ : _) → step.Post κs x r y → step.Post κs x r′ y′
+    → (r ≡ r′) × (now (y .0) ≡ now (y′ .0)) × (now (y .1 .1 .0) ≡ now (y′ .1 .1 .0)) × (now (y .1 .1 .1 .0) ≡ now (y′ .1 .1 .1 .0))
+step-once κs x r r′ y y′ p q =
+    (p .0 ∙ sym (q .0), p .1 .0 ∙ sym (q .1 .0), p .1 .1 .0 ∙ sym (q .1 .1 .0), p .1 .1 .1 ∙ sym (q .1 .1 .1))
+
+pub count-once : (κs : _) (x : _) (r r′ : _) (y y′ : _) → count.Post κs x r y → count.Post κs x r′ y′ → (r ≡ r′) × (now (y .1 .1 .1 .0) ≡ now (y′ .1 .1 .1 .0))
+count-once κs x r r′ y y′ p q = (p .0 ∙ sym (q .0), p .1 ∙ sym (q .1))
+
+pub callable-once : (κs : _) (x : _) (r r′ : _) (y y′ : _) → callable.Post κs x r y → callable.Post κs x r′ y′ → (r ≡ r′) × (now (y .1 .1 .0) ≡ now (y′ .1 .1 .0))
+callable-once κs x r r′ y y′ p q = (p .0 ∙ sym (q .0), p .1 ∙ sym (q .1))
+
+pub running-once : (κs : _) (x : _) (r r′ : _) (y y′ : _) → running.Post κs x r y → running.Post κs x r′ y′ → (r ≡ r′) × (now (y .1 .0) ≡ now (y′ .1 .0))
+running-once κs x r r′ y y′ p q = (p .0 ∙ sym (q .0), p .1 ∙ sym (q .1))

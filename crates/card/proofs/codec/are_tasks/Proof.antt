@@ -1,0 +1,59 @@
+use native.Mathlib.Omega.{arith}
+use borrow.Author.Needs.{needs}
+use Prim.Native.Nat.{_+_, _-_, _*_, _≤_}
+use mathlib.Core.Path.{_≡_, refl, sym, ap, _∙_}
+use lib.ListN.{length, drop, length-take, length-drop}
+use denote.Ref.{now}
+use Rattle.card.specs.Layout.{isTask, areTasks}
+use Rattle.card.proofs.CodecLaws.{rest-all, are-pass, are-fail}
+use Rattle.card.proofs.codec.are_tasks.Statement.{statement}
+use Rattle.card.proofs.codec.are_tasks.Tie as tie
+
+abbrev Inv-loop : tie.InvT-loop
+Inv-loop b i₀ i = (i ≤ 31) × (439 ≤ length b) × (areTasks 31 (drop 5 b) ≡ areTasks (31 - i) (drop (5 + i * 10) b))
+
+abbrev μ-loop : tie.MeasureT-loop
+μ-loop b i₀ i = 31 - i
+
+loop-holds : tie.Need-loop-holds Inv-loop μ-loop
+loop-holds c = (omega arith, c .before .pre, refl)
+
+is-task-requires : tie.Need-is-task-requires Inv-loop μ-loop
+is-task-requires c κs = simp (length-take, length-drop) (omega arith)
+
+loop-again : tie.Need-loop-again Inv-loop μ-loop
+loop-again c =
+    let l = c .before .before .before .before .loop in
+    let long : 5 + l .i * 10 ≤ length (now (c .before .before .before .before .before .before .args .b)) = omega arith in
+    let e = sym (c .before .is-task .ensures ∙ ap isTask (rest-all (now (c .before .before .before .before .before .before .args .b)) (5 + l .i * 10) long)) ∙ c .if1 .taken in
+    (omega arith, l .inv .1, l .inv .2 ∙ are-pass (now (c .before .before .before .before .before .before .args .b)) (l .i) (omega arith) e)
+
+returns : tie.Need-returns Inv-loop μ-loop
+returns c =
+    let l = c .before .before .before .before .loop in
+    let long : 5 + l .i * 10 ≤ length (now (c .before .before .before .before .before .before .args .b)) = omega arith in
+    let e = sym (c .before .is-task .ensures ∙ ap isTask (rest-all (now (c .before .before .before .before .before .before .args .b)) (5 + l .i * 10) long)) ∙ c .if1 .left in
+    sym (l .inv .2 ∙ are-fail (now (c .before .before .before .before .before .before .args .b)) (l .i) (omega arith) e)
+
+returns-2 : tie.Need-returns-2 Inv-loop μ-loop
+unfolding areTasks
+returns-2 c = let l = c .before .loop in let z : l .i ≡ 31 = omega arith in sym (l .inv .2 ∙ rw z)
+
+pub are-tasks-spec : {M : Type 1} → statement M
+are-tasks-spec =
+    tie.close
+    (tie.spec
+    Inv-loop
+    μ-loop
+    loop-holds
+    (λ c. search needs)
+    (λ c. search needs)
+    (λ c. search needs)
+    (λ c. search needs)
+    (λ c. search needs)
+    is-task-requires
+    (λ c. search needs)
+    (λ c. search needs)
+    loop-again
+    returns
+    returns-2)

@@ -1,0 +1,43 @@
+use mathlib.Core.Path.{ap, _∙_}
+use lib.ListN.{length}
+use denote.Ref.{now}
+use Rattle.rules.specs.Step.{roomAfter}
+use Rattle.rules.specs.Whole.{steppedOf, stepWhole}
+use Rattle.rules.specs.declared.Supervisor.{Supervisor}
+use Rattle.card.specs.Layout.{stateIn}
+use Rattle.card.proofs.CardLaws.{did-take, did-refuse}
+use borrow.Author.Needs.{needs}
+use Rattle.card.proofs.take_call.Statement.{statement}
+use Rattle.card.proofs.take_call.Tie as tie
+
+returns : tie.Need-returns
+returns c =
+    let a = c .before .before .before .before .before .before .before .before .before .before .before .before .before .before .before .before .args in
+    let n = length (now (a .room)) in
+    let e = c .before .before .before .before .before .before .before .before .before .before .before .before .state-in .ensures in
+    let q = c .before .before .before .before .before .before .before .before .before .before .step .ensures .0 ∙ ap (λ (s : Supervisor). steppedOf (stepWhole s (a .c) n)) e in
+    let r = c .before .before .before .before .before .before .before .before .before .before .step .ensures .1 ∙ ap (λ (s : Supervisor). roomAfter (now (a .room)) (stepWhole s (a .c) n .ended)) e in
+    did-take (now (a .state)) (now (a .room)) (stepWhole (stateIn (now (a .state))) (a .c) n) (c .before .before .before .before .before .before .before .before .before .before .step .result) q _ r _ (c .before .before .before .before .if1 .taken) (c .before .before .store .ensures)
+
+returns-2 : tie.Need-returns-2
+returns-2 c =
+    let a = c .before .before .before .before .before .before .before .before .before .before .before .before .args in
+    let n = length (now (a .room)) in
+    let e = c .before .before .before .before .before .before .before .before .state-in .ensures in
+    let q = c .before .before .before .before .before .before .step .ensures .0 ∙ ap (λ (s : Supervisor). steppedOf (stepWhole s (a .c) n)) e in
+    let r = c .before .before .before .before .before .before .step .ensures .1 ∙ ap (λ (s : Supervisor). roomAfter (now (a .room)) (stepWhole s (a .c) n .ended)) e in
+    did-refuse (now (a .state)) (now (a .room)) (stepWhole (stateIn (now (a .state))) (a .c) n) (c .before .before .before .before .before .before .step .result) q _ r (c .if1 .left)
+
+pub take-call-spec : {M : Type 1} → statement M
+take-call-spec =
+    tie.close
+    (tie.spec
+    (λ c κs. search needs)
+    (λ c κs. search needs)
+    (λ c κs. search needs)
+    (λ c. search needs)
+    (λ c. search needs)
+    returns
+    (λ c. search needs)
+    (λ c. search needs)
+    returns-2)

@@ -1,0 +1,176 @@
+-- A supervisor's 439 bytes: clock 4, created 1, 31 tasks of 10, four lines of 31. Numbers have their high byte first.
+use Prim.Native.Nat.{ℕ, zero, suc, _+_}
+use mathlib.Core.Bool.{Bool, true, false, _&&_, _||_}
+use mathlib.Core.List.{List, [], _∷_, _++_}
+use lib.ListN.{length, take, drop}
+use lib.Dec.{eqb, ltb, leb}
+use Rattle.lists.specs.Lists.{if_then_else_}
+use Rattle.calls.specs.Duration.{bytesOf}
+use Rattle.calls.specs.Record.{byte, fourFrom}
+use Rattle.rules.specs.State.{empty}
+use Rattle.rules.specs.Whole.{pack}
+use Rattle.rules.specs.declared.Waiting.{Waiting}
+use Rattle.rules.specs.declared.Meeting.{Meeting}
+use Rattle.rules.specs.declared.Offer.{Offer}
+use Rattle.rules.specs.declared.Task.{Task}
+use Rattle.rules.specs.declared.Timer.{Timer}
+use Rattle.rules.specs.declared.Timer.the-variants.{Off, Due}
+use Rattle.rules.specs.declared.Place.{Place}
+use Rattle.rules.specs.declared.Place.the-variants.{Blank, Ready, Delayed, Queued, Held, Accepting, Completed}
+use Rattle.rules.specs.declared.Supervisor.{Supervisor}
+
+-- ── the bytes of a state ──
+
+-- a place's tag
+abbrev pub placeTag : Place → ℕ
+placeTag Blank = 0
+placeTag Ready = 1
+placeTag Delayed = 2
+placeTag (Queued q) = 3
+placeTag (Held m) = 4
+placeTag (Accepting o) = 5
+placeTag Completed = 6
+
+-- the first byte of a place: the called task, the holder or the open set
+abbrev pub placeFirst : Place → ℕ
+placeFirst Blank = 0
+placeFirst Ready = 0
+placeFirst Delayed = 0
+placeFirst (Queued q) = q .target
+placeFirst (Held m) = m .holder
+placeFirst (Accepting o) = o .opens
+placeFirst Completed = 0
+
+-- the second byte of a place: the called entry
+abbrev pub placeSecond : Place → ℕ
+placeSecond Blank = 0
+placeSecond Ready = 0
+placeSecond Delayed = 0
+placeSecond (Queued q) = q .entry
+placeSecond (Held m) = m .entry
+placeSecond (Accepting o) = 0
+placeSecond Completed = 0
+
+-- a time's tag
+abbrev pub timerTag : Timer → ℕ
+timerTag Off = 0
+timerTag (Due d) = 1
+
+-- the clock reading at which a time is due, 0 if there is none
+abbrev pub timerDue : Timer → ℕ
+timerDue Off = 0
+timerDue (Due d) = d
+
+-- the ten bytes of a task: priority, entries, place, time
+abbrev pub taskBytes : Task → List ℕ
+taskBytes x =
+    x .priority ∷ x .entries ∷ placeTag (x .place) ∷ placeFirst (x .place) ∷ placeSecond (x .place) ∷ timerTag (x .timer) ∷ bytesOf (timerDue (x .timer))
+
+-- the tasks one behind the other
+abbrev pub tasksBytes : List Task → List ℕ
+tasksBytes [] = []
+tasksBytes (x ∷ xs) = taskBytes x ++ tasksBytes xs
+
+-- the bytes of a state: clock, created, tasks, ready, callers, held, delays
+unfoldable pub encode : Supervisor → List ℕ
+encode s = (bytesOf (s .clock) ++ (s .created ∷ [])) ++ tasksBytes (s .tasks) ++ s .ready ++ s .callers ++ s .held ++ s .delays
+
+-- ── the state of bytes ──
+
+-- bytes that are a place: a tag up to 6, and 0 in each byte that its place does not use
+abbrev pub isPlace : ℕ → ℕ → ℕ → Bool
+isPlace tag a b = leb tag 6 && ((leb 3 tag && leb tag 5) || eqb a 0) && ((leb 3 tag && leb tag 4) || eqb b 0)
+
+-- bytes that are a time: off with 0, or due at a reading
+abbrev pub isTimer : ℕ → ℕ → Bool
+isTimer tag due = (eqb tag 0 && eqb due 0) || eqb tag 1
+
+-- the place of a tag and its two bytes
+abbrev pub placeFrom : ℕ → ℕ → ℕ → Place
+placeFrom tag a b =
+    if eqb tag 0 then Blank
+    else if eqb tag 1 then Ready
+    else if eqb tag 2 then Delayed
+    else if eqb tag 3 then Queued (record { target = a; entry = b })
+    else if eqb tag 4 then Held (record { holder = a; entry = b })
+    else if eqb tag 5 then Accepting (record { opens = a })
+    else Completed
+
+-- the time of a tag and a reading
+abbrev pub timerFrom : ℕ → ℕ → Timer
+timerFrom tag due = if eqb tag 0 then Off else Due due
+
+-- the first ten bytes are a task
+abbrev pub isTask : List ℕ → Bool
+isTask b = isPlace (byte b 2) (byte b 3) (byte b 4) && isTimer (byte b 5) (fourFrom b 6)
+
+-- the task of the first ten bytes
+abbrev pub taskFrom : List ℕ → Task
+taskFrom b = record {
+  priority = byte b 0;
+  entries = byte b 1;
+  place = placeFrom (byte b 2) (byte b 3) (byte b 4);
+  timer = timerFrom (byte b 5) (fourFrom b 6);
+}
+
+-- the first n times ten bytes are tasks
+unfoldable pub areTasks : ℕ → List ℕ → Bool
+areTasks zero b = true
+areTasks (suc n) b = isTask b && areTasks n (drop 10 b)
+
+-- the tasks of the first n times ten bytes
+unfoldable pub tasksFrom : ℕ → List ℕ → List Task
+tasksFrom zero b = []
+tasksFrom (suc n) b = taskFrom b ∷ tasksFrom n (drop 10 b)
+
+-- bytes that begin with a state: long enough, with no other tag and no unused byte but 0
+unfoldable pub isEncoding : List ℕ → Bool
+isEncoding b = leb 439 (length b) && areTasks 31 (drop 5 b)
+
+-- the state with which bytes begin
+unfoldable pub decode : List ℕ → Supervisor
+decode b = record {
+  clock = fourFrom b 0;
+  created = byte b 4;
+  tasks = tasksFrom 31 (drop 5 b);
+  ready = take 31 (drop 315 b);
+  callers = take 31 (drop 346 b);
+  held = take 31 (drop 377 b);
+  delays = take 31 (drop 408 b);
+}
+
+-- a state that says it has 255 tasks: it is not sound
+abbrev pub overfull : Supervisor → Supervisor
+overfull s = record {
+  clock = s .clock;
+  created = 255;
+  tasks = s .tasks;
+  ready = s .ready;
+  callers = s .callers;
+  held = s .held;
+  delays = s .delays;
+}
+
+-- the state that stands for bytes that are no encoding
+unfoldable pub lost : Supervisor
+lost = overfull (pack (empty 0))
+
+-- the state of lent bytes: one that is not sound where they are no encoding
+unfoldable pub stateIn : List ℕ → Supervisor
+stateIn b = if isEncoding b then decode b else lost
+
+-- bytes with a piece put into them at an index
+abbrev pub putAt : List ℕ → ℕ → List ℕ → List ℕ
+putAt b at piece = take at b ++ (piece ++ drop (at + length piece) b)
+
+-- the same, where they have room for it there
+unfoldable pub placedAt : List ℕ → ℕ → List ℕ → List ℕ
+placedAt b at piece = if leb (at + length piece) (length b) then putAt b at piece else b
+
+-- the four lines behind the tasks
+abbrev pub placedLines : List ℕ → List ℕ → List ℕ → List ℕ → List ℕ → List ℕ
+placedLines b ready callers held delays = placedAt (placedAt (placedAt (placedAt b 315 ready) 346 callers) 377 held) 408 delays
+
+-- lent bytes with a state put into them; bytes behind the 439th stay, and so do all where there are fewer
+unfoldable pub stored : Supervisor → List ℕ → List ℕ
+stored s b = if ltb (length b) 439 then b else encode s ++ drop 439 b

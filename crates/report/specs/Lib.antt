@@ -1,0 +1,2 @@
+-- The lines that stepper prints.
+pub mod Lines

@@ -1,0 +1,2 @@
+-- A log on its way through the supervisor.
+pub mod Turn

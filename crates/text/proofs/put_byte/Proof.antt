@@ -1,0 +1,13 @@
+use borrow.Author.Needs.{needs}
+use Rattle.text.proofs.put_byte.Statement.{statement}
+use Rattle.text.proofs.put_byte.Tie as tie
+use Rattle.text.proofs.Puts.{put-one, put-no-room}
+
+returns : tie.Need-returns
+returns c = put-one (c .before .args .out .now) (c .before .args .at) (c .before .args .b) (c .if1 .taken)
+
+returns-2 : tie.Need-returns-2
+returns-2 c = put-no-room (c .before .args .out .now) (c .before .args .at) (c .before .args .b) (c .if1 .left)
+
+pub put-byte-spec : {M : Type 1} → statement M
+put-byte-spec = tie.close (tie.spec (λ c. search needs) (λ c. search needs) (λ c. search needs) returns returns-2)

@@ -1,0 +1,2 @@
+-- Decimal numbers, and text written into lent room.
+pub mod Text

@@ -1,0 +1,57 @@
+-- Tables of 32 places by value: what is seen of them is the tables, and what is done is what is left of them.
+-- Assumes nothing.
+use mathlib.Core.Path.{_≡_, refl, sym, _∙_, ap, subst}
+use Prim.Native.Nat.{ℕ, _≤_}
+use native.Mathlib.Omega.{arith}
+use mathlib.Core.Bool.{Bool, true, false}
+use mathlib.Core.List.{List}
+use lib.ListN.{length, take, drop, replicate, drop-of-length-le}
+use lib.Seq.{take-all}
+use Rattle.workspace.specs.declared.Stretch.{Stretch}
+use Rattle.workspace.specs.declared.Table.{Table}
+use Rattle.workspace.specs.declared.Tables.{Tables}
+use Rattle.workspace.specs.declared.Used.{Used}
+use Rattle.workspace.specs.declared.Look.{Look}
+use Rattle.workspace.specs.declared.Done.{Done}
+use Rattle.workspace.specs.declared.Test.the-variants.{HasUnits}
+use Rattle.workspace.specs.Rules.{if_then_else_, every, none, isNone}
+use Rattle.workspace.specs.Operations.{Outcome, freshOf, requestOf, releaseOf, blocksAfter, freeAfter, answerOf, unused}
+use Rattle.workspace.specs.Owning.{tablesAs, ownedAfter, ownedFresh}
+use Rattle.workspace.specs.Places.{placeOf, passesOf, over}
+use Rattle.workspace.specs.Seen.{tableOf, laid, seenAs, lookOf}
+use Rattle.workspace.specs.Steps.{freshSeen, requestSeen, releaseSeen}
+use Rattle.workspace.proofs.PlaceLaws.{over-same}
+use Rattle.workspace.proofs.SeenLaws.{replicate-length, under, under-length}
+use Rattle.workspace.proofs.Bridge.{Says, fresh-says, request-says, release-says}
+
+-- all of a table of 32 places is seen
+table-32 : (l : List Stretch) → length l ≡ 32 → _≡_ {A = Table} (record { places = l; clear = true }) (tableOf l)
+unfolding tableOf
+table-32 l h = λ i. record { places = sym (over-same (replicate 32 none) l (replicate-length 32 none ∙ sym h)) i; clear = ap (every isNone) (sym (drop-of-length-le l (let k : length l ≤ 32 = omega (arith, h) in k))) i }
+
+pub looked-law : (b f : List Stretch) (n p : ℕ) (r : Look) → length b ≡ 32 → length f ≡ 32 → p ≡ placeOf (passesOf HasUnits n) (take 32 f) → r ≡ seenAs (record { places = b; clear = true }) (record { places = f; clear = true }) 32 32 p → r ≡ lookOf b f n
+unfolding lookOf
+looked-law b f n p r hb hf ep er =
+    let q : p ≡ placeOf (passesOf HasUnits n) f = ep ∙ ap (placeOf (passesOf HasUnits n)) (take-all 32 f (omega (arith, hf))) in
+    er ∙ (λ i. seenAs (table-32 b hb i) (table-32 f hf i) (sym hb i) (sym hf i) (q i))
+
+-- all of a table of 32 places is written
+laid-32 : (t : Table) (l : List Stretch) → length l ≡ 32 → length (t .places) ≡ 32 → t .places ≡ laid t l
+unfolding laid
+laid-32 t l h k = sym (over-same (under (t .clear) l) (t .places) (under-length (t .clear) l ∙ h ∙ sym k))
+
+module _ (a : Tables) (s : Look) (d : Done) (r : Tables) (hb : length (a .blocks) ≡ 32) (hf : length (a .free) ≡ 32) (kb : length (d .blocks .places) ≡ 32) (kf : length (d .free .places) ≡ 32) (er : r ≡ tablesAs (d .blocks .places) (d .free .places) (d .answer)) where
+  left-is : (u : Used) (o : Outcome) → Says d (a .blocks) (a .free) u o → r ≡ record { blocks = blocksAfter (a .blocks) o; free = freeAfter (a .free) o; answer = answerOf u o }
+  left-is u o w = er ∙ (λ i. record { blocks = (laid-32 (d .blocks) (a .blocks) hb kb ∙ w .writes) i; free = (laid-32 (d .free) (a .free) hf kf ∙ w .frees) i; answer = w .answers i })
+
+  pub fresh-left : s ≡ lookOf (a .blocks) (a .free) 0 → d ≡ freshSeen s → r ≡ ownedFresh a
+  unfolding ownedFresh
+  fresh-left es ed = left-is unused (freshOf (a .blocks) (a .free)) (subst (λ (z : Done). Says z (a .blocks) (a .free) unused (freshOf (a .blocks) (a .free))) (sym (ed ∙ ap freshSeen es)) (fresh-says (a .blocks) (a .free)))
+
+  pub request-left : (n : ℕ) → s ≡ lookOf (a .blocks) (a .free) n → d ≡ requestSeen s (a .answer .used) n → r ≡ ownedAfter a (requestOf (a .blocks) (a .free) (a .answer .used) n)
+  unfolding ownedAfter
+  request-left n es ed = left-is (a .answer .used) (requestOf (a .blocks) (a .free) (a .answer .used) n) (subst (λ (z : Done). Says z (a .blocks) (a .free) (a .answer .used) (requestOf (a .blocks) (a .free) (a .answer .used) n)) (sym (ed ∙ ap (λ (y : Look). requestSeen y (a .answer .used) n) es)) (request-says (a .blocks) (a .free) (a .answer .used) n))
+
+  pub release-left : (n : ℕ) → s ≡ lookOf (a .blocks) (a .free) 0 → d ≡ releaseSeen s (a .answer .used) n → r ≡ ownedAfter a (releaseOf (a .blocks) (a .free) (a .answer .used) n)
+  unfolding ownedAfter
+  release-left n es ed = left-is (a .answer .used) (releaseOf (a .blocks) (a .free) (a .answer .used) n) (subst (λ (z : Done). Says z (a .blocks) (a .free) (a .answer .used) (releaseOf (a .blocks) (a .free) (a .answer .used) n)) (sym (ed ∙ ap (λ (y : Look). releaseSeen y (a .answer .used) n) es)) (release-says (a .blocks) (a .free) (a .answer .used) n))
