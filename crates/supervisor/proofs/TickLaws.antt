@@ -1,10 +1,12 @@
 -- TICK.
 -- Assumes nothing.
 use Prim.Native.Nat.{ℕ, _*_, _≤_}
-use mathlib.Core.Path.{_≡_, sym, ap, _∙_}
+use mathlib.Core.Path.{_≡_, refl, sym, ap, _∙_}
 use mathlib.Core.Bool.{false}
-use mathlib.Core.List.{List, map}
+use mathlib.Core.List.{List, [], _∷_, map}
 use native.Mathlib.Omega.{arith}
+use borrow.Author.Tests.{eq-eqb}
+use Rattle.lists.specs.Lists.{first}
 use lib.ListN.{length, length-map}
 use Rattle.rules.specs.State.{State, after, timerOf, wakeAll, setClock}
 use Rattle.rules.specs.Step.{took, item, DONE, takeCall, isDue, dueAt, expired, tickTo, endsAt, roomAfter}
@@ -48,3 +50,20 @@ due-room v now n h k = times (length (endsAt v now)) (few-due v now h)
   where
     times : (l : ℕ) → l ≤ 31 → l * 4 ≤ n
     times l j = omega (arith, j, k)
+
+-- nobody is due
+pub due-none : (v : State) (now : ℕ) → first (dueAt v now) ≡ 0 → dueAt v now ≡ []
+due-none v now z = go (dueAt v now) (due-all v now) z
+  where
+    go : (l : List ℕ) → AllThere v l → first l ≡ 0 → l ≡ []
+    go [] h z = refl
+    go (x ∷ xs) h z = absurd (omega (arith, h x (rw (eq-eqb x x refl) (omega arith)) .0))
+
+-- nobody is due: the clock alone goes on
+pub passed-still : (v : State) (s : Supervisor) (now : ℕ) (room : List ℕ) → s ≡ pack v → dueAt v now ≡ []
+    → PassedTo v now (record { clock = now; created = s .created; tasks = s .tasks; ready = s .ready; callers = s .callers; held = s .held; delays = s .delays }) 0 room room
+passed-still v s now room e z = record {
+  state = clock-packed s v now e ∙ ap (λ (l : List ℕ). pack (setClock (wakeAll v l) now)) (sym z);
+  number = ap (λ (l : List ℕ). length (map (expired v) l)) (sym z);
+  written = ap (λ (l : List ℕ). roomAfter room (map (expired v) l)) (sym z);
+}

@@ -78,6 +78,7 @@ fn cross(s: Supervisor, n: u32, room: &mut [u8]) -> Crossing
     }
 }
 
+// The clock goes on by n, and those due on the way become ready, one due moment after the other.
 pub fn advance(s: Supervisor, n: u32, room: &mut [u8]) -> Taken
     requires { ⌜ Stands s × (124 ≤ length (now room)) ⌝ }
     ensures { λ r. ⌜ r ≡ takenOf s (takeCall (view s) (Advance n)) ⌝ }

@@ -36,12 +36,13 @@ returns c =
 rest-here : (c : tie.Else1 Inv-loop μ-loop) → let l = c .before .before .before .before .args .t2 in let i = c .before .before .loop .i in line (drop i l) ≡ getD l i 0 ∷ line (drop (i + 1) l)
 rest-here c = rest-entry (c .before .before .before .before .args .t2) (c .before .before .loop .i) (search needs) (c .if1 .left)
 
--- the room has place for one more item
-room-here : (c : tie.Else1 Inv-loop μ-loop) → let l = c .before .before .loop in l .i * 4 + 4 ≤ length (l .room)
-room-here c = let l = c .before .before .loop in omega (arith, l .inv .1, l .inv .2 .long, l .inv .2 .number, ap length (rest-here c))
-
 put-requires : tie.Need-put-requires Inv-loop μ-loop
-put-requires c κs = simp (length-take, length-drop) (omega (arith, room-here (c .before .before .before .before .before)))
+put-requires c κs =
+    let l = c .before .before .before .before .before .before .before .loop in
+    let n = l .inv .2 .number in
+    let g = l .inv .2 .long in
+    let z = ap length (rest-here (c .before .before .before .before .before)) in
+    simp (length-take, length-drop) (omega arith)
 
 -- the item that is written is that of the task at place i
 item-here : (c : tie.After-item-of Inv-loop μ-loop) → let a = c .before .before .before .before .before .before .before .before .args in c .item-of .result ≡ itemOf (view (a .t1)) (a .failed) (getD (a .t2) (c .before .before .before .before .before .before .loop .i) 0)

@@ -52,7 +52,7 @@ wake-all-requires : tie.Need-wake-all-requires
 wake-all-requires c κs =
     let q = c .before in
     let v = view (c .before .before .before .before .before .before .before .before .before .args .s) in
-    (c .before .before .before .before .before .before .before .before .before .pre .0, in-room (q .queued-on .result) _ (ap length (q .queued-on .ensures) ∙ length-pad (queuedOn v (c .before .before .before .before .before .before .before .running .result))) (c .before .before .before .before .before .before .before .before .before .pre .1), subst (AllThere v) (sym (queued-here q)) (queued-all v (c .before .before .before .before .before .before .before .running .result)))
+    (c .before .before .before .before .before .before .before .before .before .pre .0, in-room (q .queued-on .result) _ (ap length (q .queued-on .ensures) ∙ length-pad _) (c .before .before .before .before .before .before .before .before .before .pre .1), subst (AllThere v) (sym (queued-here q)) (queued-all v (c .before .before .before .before .before .before .before .running .result)))
 
 returns-3 : tie.Need-returns-3
 returns-3 c =
