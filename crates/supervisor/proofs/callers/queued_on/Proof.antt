@@ -1,5 +1,5 @@
 use borrow.Author.Needs.{needs}
-use mathlib.Core.Path.{_≡_, sym, ap, _∙_}
+use mathlib.Core.Path.{sym, ap, _∙_}
 use Rattle.lists.specs.Line.{pad}
 use Rattle.lists.proofs.Turns.{fill-none}
 use Rattle.rules.specs.Whole.{view}
