@@ -3,7 +3,7 @@
  * Link target/staticlib/libcard.a (x86-64). Every function takes every input. A slice is a pointer and a number of bytes; the slices of
  * one call must not overlap. Each function but card_sound answers a refusal number, 0 for none:
  *   1 SHORT_ROOM   2 BAD_STATE   3 BAD_FIELD   4 NO_TASK   5 NO_TARGET   6 NO_ENTRY   7 NOT_SERVING   8 STILL_SERVING   9 FULL
- *   10 QUEUE_FULL  11 BAD_RECORD  12 END_OF_LOG
+ *   10 (retired)  11 BAD_RECORD  12 END_OF_LOG
  * A refused call changes nothing but the answer. Bytes behind those named here are left as they are.
  */
 #ifndef FUZGERLINT_H

@@ -1,6 +1,6 @@
 # Puts the name beside each refusal and result of what stepper prints, in columns for people.
 BEGIN {
-    split("SHORT_ROOM BAD_STATE BAD_FIELD NO_TASK NO_TARGET NO_ENTRY NOT_SERVING STILL_SERVING FULL QUEUE_FULL BAD_RECORD END_OF_LOG", refusals, " ")
+    split("SHORT_ROOM BAD_STATE BAD_FIELD NO_TASK NO_TARGET NO_ENTRY NOT_SERVING STILL_SERVING FULL RETIRED BAD_RECORD END_OF_LOG", refusals, " ")
     split("WAITS ELAPSED SERVED CALL_EXPIRED TASKING_ERROR ACCEPTED DELAY_TAKEN ELSE_TAKEN NOT_NOW PROGRAM_ERROR DONE", results, " ")
     form = "%-8s %-16s %-16s %-4s %-5s %-7s %-4s"
 }

@@ -48,7 +48,7 @@ pub fn call_for(aim: Aim, random: &mut Random, state: &Supervisor) -> Option<Cal
     match aim {
         Aim::Create => return (state.tasks.len() == TASKS && random.once_in(8)).then(|| any_create(random)),
         Aim::BadCreate => return Some(bad_create(random)),
-        Aim::Tick => return Some(Call::Tick),
+        Aim::Tick => return Some(tick(random, state)),
         Aim::Anything => return Some(anything(random)),
         _ if running == 0 => return random.once_in(24).then(|| anything(random)),
         _ => {}
@@ -279,7 +279,7 @@ fn anything(random: &mut Random) -> Call {
         0 => random.between(-1, 3) as i32,
         _ => random.next() as i32,
     };
-    match random.below(7) {
+    match random.below(8) {
         0 => Call::Create { priority: random.between(0, 17) as u8, entries: random.between(0, 9) as u8 },
         1 => Call::Delay(d),
         2 => {
@@ -292,6 +292,25 @@ fn anything(random: &mut Random) -> Call {
         }
         4 => Call::End,
         5 => Call::Finish,
+        6 => Call::Advance(random.next() as u32),
         _ => Call::Tick,
     }
+}
+
+/// A tick, or a stretch of them: none, up to a due moment, one short of it or past it, or anything.
+fn tick(random: &mut Random, state: &Supervisor) -> Call {
+    if !random.once_in(8) {
+        return Call::Tick;
+    }
+    let some = random.below(state.delays.len().max(1));
+    let left = state.delays.get(some).map_or(5, |timer| state.left(timer.due));
+    Call::Advance(match random.below(16) {
+        0 => 0,
+        1..=4 => left,
+        5 | 6 => left - 1,
+        7..=9 => left.wrapping_add(random.between(1, 5) as u32),
+        10 => u32::MAX,
+        11 => random.next() as u32,
+        _ => random.between(1, 12) as u32,
+    })
 }

@@ -25,6 +25,7 @@ pub enum Call {
     End,
     Finish,
     Tick,
+    Advance(u32),
 }
 
 /// Why a record is bad; the reader's answer is 11 for each.
@@ -56,6 +57,7 @@ fn length_of(tag: u8) -> Option<usize> {
         3 => Some(7),
         4 => Some(6),
         5 | 6 | 7 => Some(0),
+        8 => Some(4),
         _ => None,
     }
 }
@@ -96,6 +98,7 @@ fn fields(tag: u8, f: &[u8]) -> Result<Call, Fault> {
         4 => Call::Select { open: f[0], mode: select_mode(f[1], number(&f[2..]) as i32)? },
         5 => Call::End,
         6 => Call::Finish,
+        8 => Call::Advance(number(f)),
         _ => Call::Tick,
     })
 }
@@ -144,6 +147,7 @@ pub fn record(call: &Call) -> Vec<u8> {
         Call::End => (5, vec![]),
         Call::Finish => (6, vec![]),
         Call::Tick => (7, vec![]),
+        Call::Advance(n) => (8, n.to_be_bytes().to_vec()),
     };
     [&[tag, 0, fields.len() as u8], &fields[..]].concat()
 }

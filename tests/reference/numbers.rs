@@ -33,6 +33,5 @@ pub mod refusal {
     pub const NOT_SERVING: u8 = 7;
     pub const STILL_SERVING: u8 = 8;
     pub const FULL: u8 = 9;
-    pub const QUEUE_FULL: u8 = 10;
     pub const BAD_RECORD: u8 = 11;
 }

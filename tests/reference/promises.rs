@@ -88,9 +88,12 @@ impl Ledger {
             let same = bytes == flat::write(before) && *a == Answer::refused(a.refusal, before.running());
             return demand(same, "a refused step changes nothing and answers 0");
         }
-        if matches!(call, Call::Tick) {
-            self.waits.iter_mut().for_each(|waits| waits.ticks_left = waits.ticks_left.map(|ticks| ticks - 1));
-        }
+        let passed = match *call {
+            Call::Tick => 1,
+            Call::Advance(n) => n,
+            _ => 0,
+        };
+        self.waits.iter_mut().for_each(|waits| waits.ticks_left = waits.ticks_left.map(|ticks| ticks.saturating_sub(passed)));
         for item in room.chunks(4).take(a.ended as usize) {
             self.ended(before, item)?;
         }

@@ -5,13 +5,14 @@ use crate::random::Random;
 
 /// A good record to be spoilt.
 fn some_record(random: &mut Random) -> Vec<u8> {
-    let call = match random.below(7) {
+    let call = match random.below(8) {
         0 => Call::Create { priority: 5, entries: 2 },
         1 => Call::Delay(random.next() as i32),
         2 => Call::Call { target: 1, entry: 1, mode: CallMode::Timed(random.next() as i32) },
         3 => Call::Select { open: 0, mode: SelectMode::Delay(random.next() as i32) },
         4 => Call::End,
         5 => Call::Finish,
+        6 => Call::Advance(random.next() as u32),
         _ => Call::Tick,
     };
     calls::record(&call)
@@ -40,7 +41,7 @@ fn with_length(random: &mut Random) -> Vec<u8> {
 
 /// A tag next to the known ones, with the fields of one that is known.
 fn with_tag(random: &mut Random) -> Vec<u8> {
-    let tag = random.one_of(&[0, 0, 8, 8, 255]);
+    let tag = random.one_of(&[0, 0, 9, 9, 255]);
     let call = random.one_of(&[Call::Create { priority: 5, entries: 2 }, Call::Tick]);
     [&[tag][..], &calls::record(&call)[1..]].concat()
 }

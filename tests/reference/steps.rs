@@ -19,6 +19,9 @@ impl Ended<'_> {
     }
 }
 
+/// Up to so many ticks ADVANCE ticks plainly.
+const PLAIN: u32 = 4096;
+
 /// Result, entry and partner of an accepted step.
 type Outcome = (u8, u8, u8);
 
@@ -40,7 +43,7 @@ impl Supervisor {
         let (result, entry, partner) = self.perform(call, running, &mut ended);
         let task = match call {
             Call::Create { .. } => self.tasks.len() as u8,
-            Call::Tick => 0,
+            Call::Tick | Call::Advance(_) => 0,
             _ => running,
         };
         Answer { refusal: refusal::NONE, result, task, entry, partner, ended: ended.items as u8, next: self.running() }
@@ -48,7 +51,7 @@ impl Supervisor {
 
     /// The first refusal of the table that applies in a sound state.
     fn refusal(&self, call: &Call, running: u8) -> Option<u8> {
-        let from_outside = matches!(call, Call::Create { .. } | Call::Tick);
+        let from_outside = matches!(call, Call::Create { .. } | Call::Tick | Call::Advance(_));
         if running == 0 && !from_outside {
             return Some(refusal::NO_TASK);
         }
@@ -66,7 +69,7 @@ impl Supervisor {
             }
             Call::End => self.task(running).held.is_empty().then_some(refusal::NOT_SERVING),
             Call::Finish => (!self.task(running).held.is_empty()).then_some(refusal::STILL_SERVING),
-            Call::Delay(_) | Call::Tick => None,
+            Call::Delay(_) | Call::Tick | Call::Advance(_) => None,
         }
     }
 
@@ -77,7 +80,7 @@ impl Supervisor {
         if entry < 1 || entry as usize > self.task(target).queues.len() {
             return Some(refusal::NO_ENTRY);
         }
-        (self.count(target, entry) as usize >= TASKS).then_some(refusal::QUEUE_FULL)
+        None
     }
 
     fn perform(&mut self, call: &Call, running: u8, ended: &mut Ended) -> Outcome {
@@ -89,6 +92,7 @@ impl Supervisor {
             Call::End => self.end(running, ended),
             Call::Finish => self.finish(running, ended),
             Call::Tick => self.tick(ended),
+            Call::Advance(n) => self.advance(n, ended),
         }
     }
 
@@ -234,5 +238,27 @@ impl Supervisor {
             self.make_ready(task);
         }
         (result::DONE, 0, 0)
+    }
+
+    /// n ticks, one after the other, and the number of clock readings at which a wait ended. Of a long stretch the ticks
+    /// at which nobody can be due are left out.
+    fn advance(&mut self, n: u32, ended: &mut Ended) -> Outcome {
+        let mut readings = 0;
+        let mut rest = n;
+        while rest > 0 {
+            if n > PLAIN {
+                let quiet = self.delays.first().map_or(rest, |timer| rest.min(self.left(timer.due) - 1));
+                self.clock = self.clock.wrapping_add(quiet);
+                rest -= quiet;
+                if rest == 0 {
+                    break;
+                }
+            }
+            let before = ended.items;
+            self.tick(ended);
+            readings += u8::from(ended.items > before);
+            rest -= 1;
+        }
+        (result::DONE, readings, 0)
     }
 }

@@ -60,6 +60,15 @@ const EVENTS: &[&str] = &[
     "TICK, waits of two kinds due",
     "TICK, equal times begun at different readings",
     "TICK that preempts",
+    "ADVANCE 0",
+    "ADVANCE, nothing due",
+    "ADVANCE over one due moment",
+    "ADVANCE over several due moments",
+    "ADVANCE over equal times",
+    "ADVANCE to exactly a due moment",
+    "ADVANCE that ends one tick before a due moment",
+    "ADVANCE round the clock, over a due moment",
+    "ADVANCE of the largest number",
     "TICK round the clock",
     "a wait that crosses the wrap ends",
     "an expired call leaves others queued before and behind it",
@@ -192,6 +201,7 @@ impl Tally {
             Call::End => self.ended(seen),
             Call::Finish => self.finish(seen),
             Call::Tick => self.tick(seen),
+            Call::Advance(n) => self.advance(seen, n),
         }
         if seen.answer.result == result::WAITS {
             self.begun[seen.running as usize] = (seen.before.clock, self.wraps);
@@ -308,6 +318,23 @@ impl Tally {
         self.hit("TICK round the clock", seen.after.clock == 0);
         self.hit("a wait that crosses the wrap ends", crossed);
         self.hit("an expired call leaves others queued before and behind it", middle);
+    }
+
+    fn advance(&mut self, seen: &Seen, n: u32) {
+        let ended = seen.items.len();
+        let readings = seen.answer.entry as usize;
+        let round = n > 0 && seen.after.clock <= seen.before.clock;
+        let last = seen.items.last().map(|item| seen.before.timer(item[0]).map_or(0, |timer| seen.before.left(timer.due)));
+        self.wraps += usize::from(round);
+        self.hit("ADVANCE 0", n == 0);
+        self.hit("ADVANCE, nothing due", n > 0 && ended == 0);
+        self.hit("ADVANCE over one due moment", readings == 1);
+        self.hit("ADVANCE over several due moments", readings > 1);
+        self.hit("ADVANCE over equal times", readings < ended);
+        self.hit("ADVANCE to exactly a due moment", last == Some(n));
+        self.hit("ADVANCE that ends one tick before a due moment", seen.before.delays.iter().any(|timer| Some(seen.before.left(timer.due)) == n.checked_add(1)));
+        self.hit("ADVANCE round the clock, over a due moment", round && ended > 0);
+        self.hit("ADVANCE of the largest number", n == u32::MAX);
     }
 
     fn refused(&mut self, seen: &Seen) {

@@ -1,6 +1,6 @@
 //! Logs as text in the words of document 01, both ways.
 //!
-//! CREATE 5 1 / DELAY -1 / CALL 1 1 timed 3 / SELECT 1,2 delay 2 / SELECT none plain / END / FINISH / TICK; raw bytes are
+//! CREATE 5 1 / DELAY -1 / CALL 1 1 timed 3 / SELECT 1,2 delay 2 / SELECT none plain / END / FINISH / TICK / ADVANCE 1000; raw bytes are
 //! `bytes 07 00`. A file of logs has `log NAME` before each, then perhaps `clock N`, then the calls, `N times CALL` where
 //! one comes N times; a line `= 0 10 0 0 0 1 | 2 3 1 1` says what is printed for the call before it, behind its step
 //! number.
@@ -21,6 +21,7 @@ pub fn of_call(call: &Call) -> String {
         Call::End => "END".to_string(),
         Call::Finish => "FINISH".to_string(),
         Call::Tick => "TICK".to_string(),
+        Call::Advance(n) => format!("ADVANCE {n}"),
     }
 }
 
@@ -127,6 +128,7 @@ fn to_call(words: &[&str]) -> Option<Call> {
         ["END"] => Call::End,
         ["FINISH"] => Call::Finish,
         ["TICK"] => Call::Tick,
+        ["ADVANCE", n] => Call::Advance(n.parse().ok()?),
         _ => return None,
     })
 }

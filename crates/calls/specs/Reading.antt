@@ -12,7 +12,7 @@ use Rattle.calls.specs.declared.CallMode.the-variants.{Simple, Timed, Co
 use Rattle.calls.specs.declared.SelectMode.{SelectMode}
 use Rattle.calls.specs.declared.SelectMode.the-variants as S
 use Rattle.calls.specs.declared.Call as C
-use Rattle.calls.specs.declared.Call.the-variants.{Create, Delay, Call, Select, End, Finish, Tick}
+use Rattle.calls.specs.declared.Call.the-variants.{Create, Delay, Call, Select, End, Finish, Tick, Advance}
 use Rattle.calls.specs.declared.Read.{Read}
 use Rattle.calls.specs.declared.Read.the-variants.{Record, BadRecord, EndOfLog}
 
@@ -65,7 +65,8 @@ callIn tag s =
     else if eqb tag 4 then Select (byte s 3) (selectModeOf (modeOf 4 s) (timeOf 4 s))
     else if eqb tag 5 then End
     else if eqb tag 6 then Finish
-    else Tick
+    else if eqb tag 7 then Tick
+    else Advance (fourFrom s 3)
 
 -- ── what reading finds ──
 

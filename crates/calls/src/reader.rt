@@ -31,7 +31,7 @@ fn half(a: u8, b: u8) -> usize
 fn is_unknown(tag: u8) -> bool
     ensures { λ r. ⌜ r ≡ isUnknown tag ⌝ }
 {
-    (tag < 1) | (7 < tag)
+    (tag < 1) | (8 < tag)
 }
 
 // The length that belongs to a tag.
@@ -46,6 +46,7 @@ fn length_of(tag: u8) -> usize
         5 => 0,
         6 => 0,
         7 => 0,
+        8 => 4,
         _ => 0,
     }
 }
@@ -139,6 +140,18 @@ fn read_select(s: &[u8]) -> Read
     }
 }
 
+// An ADVANCE record whose frame is right.
+fn read_advance(s: &[u8]) -> Read
+    requires { ⌜ 7 ≤ length (now s) ⌝ }
+    ensures { λ r. ⌜ r ≡ bodyRead 8 (now (s .entry)) ⌝ }
+{
+    let n = four_from(s, 3);
+    Read::Record {
+        call: Call::Advance(n),
+        count: 7,
+    }
+}
+
 // A record whose frame is right. There is no other tag: the frame would be wrong.
 fn read_body(s: &[u8], tag: u8) -> Read
     requires { ⌜ isUnknown tag ≡ false ⌝ }
@@ -168,6 +181,7 @@ fn read_body(s: &[u8], tag: u8) -> Read
             call: Call::Tick,
             count: 3,
         },
+        8 => read_advance(s),
         _ => Read::BadRecord,
     }
 }

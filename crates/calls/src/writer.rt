@@ -130,6 +130,24 @@ fn put_select(set: u8, mode: SelectMode, room: &mut [u8]) -> Written
     )
 }
 
+fn put_advance(n: u32, room: &mut [u8]) -> Written
+    ensures { λ r. ⌜ r ≡ writtenOf (encode (Call.Advance n)) (now (room .entry)) ⌝ }
+    ensures { λ r. ⌜ now (room .exit) ≡ roomAfter (encode (Call.Advance n)) (now (room .entry)) ⌝ }
+{
+    put(
+        &[
+            8,
+            0,
+            4,
+            (n / 16777216) as u8,
+            (n / 65536 % 256) as u8,
+            (n / 256 % 256) as u8,
+            (n % 256) as u8,
+        ],
+        room,
+    )
+}
+
 // Writes the record of c at the start of room.
 pub fn write_record(c: Call, room: &mut [u8]) -> Written
     ensures { λ r. ⌜ r ≡ writtenOf (encode c) (now (room .entry)) ⌝ }
@@ -147,5 +165,6 @@ pub fn write_record(c: Call, room: &mut [u8]) -> Written
         Call::End => put(&[5, 0, 0], room),
         Call::Finish => put(&[6, 0, 0], room),
         Call::Tick => put(&[7, 0, 0], room),
+        Call::Advance(n) => put_advance(n, room),
     }
 }

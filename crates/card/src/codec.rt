@@ -239,7 +239,7 @@ fn decoded(b: &[u8]) -> Supervisor
 fn lost_state() -> Supervisor
     ensures { λ r. ⌜ r ≡ lost ⌝ }
 {
-    let mut s = rules::made(0);
+    let mut s = supervisor::empty(0);
     s.created = 255;
     s
 }

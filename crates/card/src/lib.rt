@@ -20,8 +20,6 @@ use codec::put_at;
 use codec::state_in;
 use codec::store;
 use rules::Answer;
-use soundness::is_sound;
-use table::dispatch::running_of;
 
 // 1 for yes, 0 for no.
 fn flag(yes: bool) -> u8
@@ -39,7 +37,7 @@ pub extern "C" fn card_empty(state: &mut [u8], clock: u32) -> u8
     if state.len() < 439 {
         return 1;
     }
-    let s = rules::made(clock);
+    let s = supervisor::empty(clock);
     store(s, state);
     0
 }
@@ -50,7 +48,7 @@ pub extern "C" fn card_sound(state: &[u8]) -> u8
     ensures { λ r. ⌜ r ≡ bit (soundWhole (stateIn (now (state .entry)))) ⌝ }
 {
     let s = state_in(state);
-    flag(is_sound(s))
+    flag(supervisor::sound(s))
 }
 
 fn unread(refusal: u8) -> Answer
@@ -158,7 +156,7 @@ pub extern "C" fn card_count(state: &[u8], task: u8, entry: u8, answer: &mut [u8
     ensures { λ _. ⌜ now (answer .exit) ≡ oneAfter (now (answer .entry)) (countWhole (stateIn (now (state .entry))) task entry .count) ⌝ }
 {
     let s = state_in(state);
-    let k = supervisor::count_of(s, task, entry);
+    let k = supervisor::count(s, task, entry);
     put_one(answer, k.refusal, k.count as u8)
 }
 
@@ -169,7 +167,7 @@ pub extern "C" fn card_callable(state: &[u8], task: u8, answer: &mut [u8]) -> u8
     ensures { λ _. ⌜ now (answer .exit) ≡ oneAfter (now (answer .entry)) (bit (callableWhole (stateIn (now (state .entry))) task .yes)) ⌝ }
 {
     let s = state_in(state);
-    let k = supervisor::is_callable(s, task);
+    let k = supervisor::callable(s, task);
     put_one(answer, k.refusal, flag(k.yes))
 }
 
@@ -180,8 +178,8 @@ pub extern "C" fn card_running(state: &[u8], answer: &mut [u8]) -> u8
     ensures { λ _. ⌜ now (answer .exit) ≡ oneAfter (now (answer .entry)) (runningTask (stateIn (now (state .entry)))) ⌝ }
 {
     let s = state_in(state);
-    if is_sound(s) {
-        put_one(answer, 0, running_of(s))
+    if supervisor::sound(s) {
+        put_one(answer, 0, supervisor::running(s))
     } else {
         put_one(answer, 2, 0)
     }

@@ -1,2 +1,3 @@
 pub mod AllHold
 pub mod FullQueue
+pub mod LargeAdvance

@@ -1,4 +1,4 @@
--- The starred cases of document 01 and its sample, as one table of values, and the test of a row.
+-- The starred cases of document 01, its sample, and four of ADVANCE, as one table of values, and the test of a row.
 -- A row: the clock of an empty supervisor, the calls made from there, each with 124 bytes of room, and what the last of
 -- them gives: the line as the sample prints it, the clock afterwards, and the ended waits.
 -- Assumes nothing.
@@ -19,7 +19,7 @@ use Rattle.calls.specs.declared.CallMode.the-variants.{Simple, Timed, Condition
 use Rattle.calls.specs.declared.SelectMode.the-variants.{Plain}
 use Rattle.calls.specs.declared.SelectMode.the-variants as S
 use Rattle.calls.specs.declared.Call as C
-use Rattle.calls.specs.declared.Call.the-variants.{Create, Delay, Call, Select, End, Finish, Tick}
+use Rattle.calls.specs.declared.Call.the-variants.{Create, Delay, Call, Select, End, Finish, Tick, Advance}
 
 -- ── the supervisor that the table is about ──
 
@@ -132,6 +132,14 @@ cases =
     ∷ row 0 (take 7 sample) (says 0 10 0 0 0 1) 3 []
     ∷ row 0 (take 8 sample) (says 0 10 1 0 0 2) 3 (item 2 2 1 1 ∷ [])
     ∷ row 0 (take 9 sample) (says 7 0 0 0 0 2) 3 []
+    -- ADVANCE 0 changes nothing
+    ∷ row 7 (Create 4 0 ∷ Advance 0 ∷ []) (says 0 10 0 0 0 1) 7 []
+    -- case J with ADVANCE 2: both waits end, at one reading
+    ∷ row 0 (Create 4 2 ∷ Create 9 0 ∷ Call 1 1 (Timed (pos 2)) ∷ Select 2 (S.Delay (pos 2)) ∷ Advance 2 ∷ []) (says 0 10 0 1 0 2) 2 (item 2 3 1 1 ∷ item 1 6 0 0 ∷ [])
+    -- two waits end at two readings, the shorter one first, and the clock goes on
+    ∷ row 0 (Create 4 0 ∷ Delay (pos 3) ∷ Create 4 0 ∷ Delay (pos 1) ∷ Advance 5 ∷ []) (says 0 10 0 2 0 2) 5 (item 2 1 0 0 ∷ item 1 1 0 0 ∷ [])
+    -- across the clock's last reading
+    ∷ row 4294967294 (Create 4 0 ∷ Delay (pos 3) ∷ Advance 4 ∷ []) (says 0 10 0 1 0 1) 2 (item 1 1 0 0 ∷ [])
     ∷ []
 
 -- 31 tasks, each of which calls entry 1 of task 1, task 1 itself first: the fullest that a queue can be
@@ -141,3 +149,7 @@ crowd = replicate 31 (Create 1 1) ++ replicate 31 (Call 1 1 Simple)
 -- COUNT of that queue
 abbrev pub crowdCount : Count
 crowdCount = countWhole (lastOf (pack (empty 0)) crowd .state) 1 1
+
+-- two tasks that delay, for 2000000000 ticks and for 3
+unfoldable pub sleepers : List C.Call
+sleepers = Create 4 0 ∷ Delay (pos 2000000000) ∷ Create 4 0 ∷ Delay (pos 3) ∷ []

@@ -6,7 +6,7 @@ ghost use mathlib.Core.Bool.{_&&_};
 ghost use lib.Dec.{ltb};
 ghost use lib.ListN.{length, set};
 ghost use Rattle.lists.specs.Lists.{if_then_else_, remove, rejoin, first, last};
-ghost use Rattle.lists.specs.Line.{line, pad, insertAt, tidy};
+ghost use Rattle.lists.specs.Line.{line, pad, insertAt};
 
 // How many stand in the line.
 pub fn len(a: [u8; 31]) -> usize
@@ -144,19 +144,4 @@ pub fn last_of(a: [u8; 31]) -> u8
         return 0;
     }
     a[n - 1]
-}
-
-// Whether all that stands behind the first blank is blank.
-pub fn is_tidy(a: [u8; 31]) -> bool
-    ensures { λ r. ⌜ r ≡ tidy a ⌝ }
-{
-    let mut ended = false;
-    for i in 0..31 {
-        if a[i] == 0 {
-            ended = true;
-        } else if ended {
-            return false;
-        }
-    }
-    true
 }

@@ -10,7 +10,7 @@ use mathlib.Core.List.{List, [], _∷_, _++_, nil≢cons, tail-eq-of-cons-eq}
 use lib.Dec.{eqb, eqb·suc-zero}
 use lib.ListN.{length, take, drop, getD, length-append}
 use borrow.Author.Tests.{eqb-true, eqb-false, eq-eqb, ne-eqb, not-true}
-use Rattle.lists.specs.Lists.{if_then_else_, filter, remove, rejoin, insert, first, last}
+use Rattle.lists.specs.Lists.{if_then_else_, filter, remove, insert, first, last}
 use Rattle.lists.specs.Line.{line, padTo, pad, insertAt, slotOf, blanks, tidy}
 use Rattle.lists.proofs.Tests.{cases, and-first, and-second}
 
@@ -189,12 +189,7 @@ last-at (suc x ∷ xs) n e z = go (line xs) refl (last-at xs (length (line xs)) 
         let k : n - 1 ≡ suc (length (line xs) - 1) = omega (arith, ap length q) in
         rw k (ih (λ w. omega (arith, ap length q)) ∙ ap last q)
 
--- what `without` left of a line, and the line with t behind it
+-- what `without` left of a line
 module _ (a : List ℕ) (t : ℕ) (l : List ℕ) (long : length a ≡ 31) (e : l ≡ pad (remove t (line a))) where
-  -- what is left of the line
   pub left-over : line l ≡ remove t (line a)
   left-over = ap line e ∙ line-picked (λ x. not (eqb x t)) a long
-
-  -- and that with t behind it
-  pub rejoin-on : pad (line l ++ (t ∷ [])) ≡ pad (rejoin true t (line a))
-  rejoin-on = rw left-over

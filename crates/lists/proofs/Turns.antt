@@ -7,11 +7,10 @@ use native.Mathlib.Omega.{arith}
 use mathlib.Core.Path.{_≡_, refl, sym, ap, _∙_, subst}
 use mathlib.Core.Bool.{Bool, true, false}
 use mathlib.Core.List.{List, [], _∷_, _++_, append-nil}
-use borrow.Author.Tests.{ne-eqb}
 use lib.ListN.{length, replicate, take, drop, getD, set, drop-of-length-le}
 use lib.Seq.{take-suc, drop-cons, take-suc-set, take-all, length-take-le, append-snoc}
 use Rattle.lists.specs.Lists.{if_then_else_, filter}
-use Rattle.lists.specs.Line.{line, pad, padTo, insertAt, slotOf, blanks, tidy}
+use Rattle.lists.specs.Line.{line, pad, padTo, insertAt, slotOf}
 use Rattle.lists.proofs.LineLaws.{take-pad, length-padTo, padTo-full}
 
 -- ---- reading: the entries from place i on
@@ -86,28 +85,6 @@ filled-up r j ys h e =
 pub insert-front : (x : ℕ) (xs : List ℕ) → insertAt 0 x xs ≡ x ∷ xs
 insert-front x [] = refl
 insert-front x (y ∷ ys) = refl
-
--- ---- blanks behind the line
-
--- a blank: look on
-pub blank-on : (a : List ℕ) (i : ℕ) → i < length a → getD a i 0 ≡ 0 → blanks (drop i a) ≡ blanks (drop (i + 1) a)
-blank-on a i l e = rw (drop-cons a i 0 l, add-one i, e)
-
--- a number: not blank
-pub blank-off : (a : List ℕ) (i : ℕ) → i < length a → (getD a i 0 ≡ 0 → ⊥) → blanks (drop i a) ≡ false
-blank-off a i l n = simp (drop-cons a i 0 l, ne-eqb (getD a i 0) 0 n)
-
--- the first blank: the rest must be blank
-pub tidy-end : (a : List ℕ) (i : ℕ) → i < length a → getD a i 0 ≡ 0 → tidy (drop i a) ≡ blanks (drop (i + 1) a)
-tidy-end a i l e = rw (drop-cons a i 0 l, add-one i, e)
-
--- a number: look on
-pub tidy-on : (a : List ℕ) (i : ℕ) → i < length a → (getD a i 0 ≡ 0 → ⊥) → tidy (drop i a) ≡ tidy (drop (i + 1) a)
-tidy-on a i l n = rw (drop-cons a i 0 l, add-one i) (entry (getD a i 0) n)
-  where
-    entry : (x : ℕ) → (x ≡ 0 → ⊥) → tidy (x ∷ drop (suc i) a) ≡ tidy (drop (suc i) a)
-    entry zero n = absurd (n refl)
-    entry (suc x) n = refl
 
 -- ---- an array that another function laid out
 

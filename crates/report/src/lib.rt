@@ -9,9 +9,6 @@ use text::put_byte;
 use text::put_bytes;
 use text::put_number;
 
-// The longest line: 20 digits of the step's number, six numbers and 255 ended waits of up to three digits each.
-pub const LONGEST: usize = 4635;
-
 // The header.
 pub fn put_header(out: &mut [u8], at: usize) -> usize
     ensures { λ r. ⌜ Put (now (out .entry)) at header (now (out .exit)) r ⌝ }

@@ -79,10 +79,10 @@ were-waiting s a h = all-tasks (λ u. isWaiting (placeOf s u)) (entry s a .out .
 
 -- ── how many ──
 
-abbrev taskIn : Item → ℕ
+abbrev pub taskIn : Item → ℕ
 taskIn i = i .task
 
-count-tasks : (u : ℕ) (l : List Item) → count u (map taskIn l) ≡ length (reasons u l)
+pub count-tasks : (u : ℕ) (l : List Item) → count u (map taskIn l) ≡ length (reasons u l)
 count-tasks u [] = refl
 count-tasks u (i ∷ is) = by-bool (eqb (i .task) u) (λ e. rw e (omega (arith, count-tasks u is))) (λ e. rw e (omega (arith, count-tasks u is)))
 

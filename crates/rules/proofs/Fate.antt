@@ -29,15 +29,15 @@ use Rattle.calls.specs.declared.SelectMode.{SelectMode}
 use Rattle.calls.specs.declared.SelectMode.the-variants.{Plain, Else}
 use Rattle.calls.specs.declared.SelectMode.the-variants as S
 use Rattle.calls.specs.declared.Call as C
-use Rattle.calls.specs.declared.Call.the-variants.{Create, Delay, Call, Select, End, Finish, Tick}
+use Rattle.calls.specs.declared.Call.the-variants.{Create, Delay, Call, Select, End, Finish, Tick, Advance}
 use Rattle.lists.proofs.ListLaws.{by-eq, by-bool, by-test, and-l, and-r, both, is-true, true-T, count-append, count-filter-yes, count-filter-no, count-filter-le, Ordered, ordered-cong}
 use Rattle.rules.proofs.Invariant.{Lined, Calls, Fits, InTime, Good, GoodAt, Sound}
 use Rattle.rules.proofs.Members.{in-filter, first-member, some-length, and-true, and-false, in-queue, of-queue, queued-good, queued-there, of-held, in-held, held-there, last-in, there, timed-there, bit-true, nth-beyond, Runs, runs}
 use Rattle.rules.proofs.MoveLaws.{Alike, alike, alike-trans, place-same, place-other, meet-same, meet-other, part-same, part-other, moved, task-same, task-other, length-move}
 use Rattle.rules.specs.Step.{failed, expired, expiry, WAITS, ELAPSED, SERVED, CALL-EXPIRED, TASKING-ERROR, ACCEPTED, DELAY-TAKEN, DONE}
 use Rattle.rules.specs.Runs.{isWaiting, reasons, duration, ticksOf}
-use Rattle.rules.specs.Step.{tickTo, endsAt}
-use Rattle.rules.proofs.Passes.{reasons-none, reasons-one, bit-le, in-time, Passes, stays, comes, tick-passes, later}
+use Rattle.rules.specs.Step.{tickTo, endsAt, advanced, advanceEnds, readings}
+use Rattle.rules.proofs.Passes.{reasons-none, reasons-one, bit-le, in-time, Passes, stays, comes, tick-passes, advance-passes, later, later-is, advance-clock}
 use Rattle.rules.proofs.StepSound.{by-runner, wakeAll-clock, between, wakeAll-out, wakeAll-in, wakeAll-length, of-queuedFrom, one-open, nth-old, nth-new, nth-further, by-number, due-is}
 
 -- where a wait that begins with a call stands, and its time
@@ -49,6 +49,7 @@ placeFor s (Select o m) = Accepting (offer o)
 placeFor s End = Blank
 placeFor s Finish = Blank
 placeFor s Tick = Blank
+placeFor s (Advance n) = Blank
 
 abbrev pub timerIn : ℕ → ℕ → Timer
 timerIn now zero = Off
@@ -97,7 +98,7 @@ delay-fate s d u t (suc n) e r = wait-fate s (Delay d) u t Delayed (Due (after (
 -- ── CALL ──
 
 enqueue-fate : (s : State) (u t g e : ℕ) (m : CallMode) (w : Timer) → Runs s t → w ≡ timerIn (s .clock) (duration (Call g e m)) → FateOf s (Call g e m) u (enqueue s t g e w)
-enqueue-fate s u t g e m w r f = by-test (FateOf s (Call g e m) u) (leb 31 (length (queue s g e))) (λ _. tt) (λ _. wait-fate s (Call g e m) u t (Queued (waiting s g e)) w r refl refl f)
+enqueue-fate s u t g e m w r f = wait-fate s (Call g e m) u t (Queued (waiting s g e)) w r refl refl f
 
 busy-fate : (s : State) (u t g e : ℕ) (m : CallMode) → Runs s t → FateOf s (Call g e m) u (callBusy s t g e m)
 busy-fate s u t g e Simple r = enqueue-fate s u t g e Simple Off r refl
@@ -223,7 +224,7 @@ finish-fate s u t h r = by-test (FateOf s Finish u) (ltb 0 (length (heldBy s t))
         (λ z. awake (rw (z, r .place)) (rw (z, place-same (wakeAll s l) t Completed Off (r .low) (omega (arith, r .high, wakeAll-length l s)))) (reasons-none (failed s) (λ x. refl) u l k) refl)
         (λ n. untouched (alike (task-other (wakeAll s l) t Completed Off u n ∙ wakeAll-out l s u k)) (reasons-none (failed s) (λ x. refl) u l k) refl)
 
--- ── TICK ──
+-- ── TICK and ADVANCE ──
 
 pass-fate : (s : State) (c : C.Call) (u n k : ℕ) (s′ : State) (l : List Item) → ticksOf c ≡ n → Passes s n u s′ l → Fate s c u s′ (item 0 DONE k 0) l
 pass-fate s c u n k s′ l e (stays q f r) = untouched (alike q) r refl
@@ -253,6 +254,7 @@ fate s (Select o m) u h = by-runner (FateOf s (Select o m) u) s (λ t. select s 
 fate s End u h = by-runner (FateOf s End u) s (λ t. end s t) h tt (λ t e r. end-fate s u t e r)
 fate s Finish u h = by-runner (FateOf s Finish u) s (λ t. finish s t) h tt (λ t e r. finish-fate s u t h r)
 fate s Tick u h = pass-fate s Tick u 1 0 (tickTo s (after (s .clock) 1)) (endsAt s (after (s .clock) 1)) refl (tick-passes s u h)
+fate s (Advance n) u h = pass-fate s (Advance n) u n (readings n s) (advanced n s) (advanceEnds n s) refl (advance-passes n s u h)
 
 -- ── the clock, and FINISH ──
 
@@ -283,7 +285,7 @@ clock-of s (Call g e m) h = by-runner P s (λ t. call s t g e m) h tt (λ t z r.
     P = ClockOf s (Call g e m)
 
     queues : (t : ℕ) (w : Timer) → P (enqueue s t g e w)
-    queues t w = by-test P (leb 31 (length (queue s g e))) (λ _. tt) (λ _. refl)
+    queues t w = refl
 
     timed : (t n : ℕ) → P (timedCall s t g e n)
     timed t zero = refl
@@ -323,6 +325,7 @@ clock-of s Finish h = by-runner P s (λ t. finish s t) h tt (λ t z r. by-test P
     P : Outcome → Type 0
     P = ClockOf s Finish
 clock-of s Tick h = refl
+clock-of s (Advance n) h = advance-clock n s (h .clock) ∙ sym (later-is (s .clock) n (h .clock))
 
 -- whose time has not been dropped waits for more ticks than the call has
 abbrev pub LastsOf : State → C.Call → ℕ → ℕ → Outcome → Type 0
@@ -348,6 +351,7 @@ lasts s c u d h q = go c
     go End = still End refl (takeCall s End)
     go Finish = still Finish refl (takeCall s Finish)
     go Tick = passed 1 (tickTo s (after (s .clock) 1)) (endsAt s (after (s .clock) 1)) (tick-passes s u h)
+    go (Advance n) = passed n (advanced n s) (advanceEnds n s) (advance-passes n s u h)
 
 abbrev pub Finished : Outcome → Type 0
 Finished (refused r) = Unit {0}

@@ -15,3 +15,7 @@ pub mod Bounds
 pub mod Dispatch
 pub mod WholeRuns
 pub mod Uses
+pub mod Quiet
+pub mod Jumps
+pub mod AsTicks
+pub mod Advances

@@ -13,7 +13,7 @@ use borrow.Author.Tests.{eqb-true, eqb-false, eq-eqb, ne-eqb, ltb-true, ltb-fals
 use Rattle.lists.specs.Lists.{if_then_else_, bit, count, every, last}
 use Rattle.rules.specs.State.{State, empty, nth, taskOf, placeOf, timerOf, blank, isReady, isQueued, isHeld, heldBy, running, after, left, ticksLeft, hasTime, partnerOf}
 use Rattle.rules.specs.Sound.{sound}
-use Rattle.rules.specs.Step.{Refusal, SHORT-ROOM, BAD-STATE, BAD-FIELD, NO-TASK, NO-TARGET, NO-ENTRY, NOT-SERVING, STILL-SERVING, FULL, QUEUE-FULL, number, Outcome, refused, took, item, takeCall, expiry, WAITS, SERVED}
+use Rattle.rules.specs.Step.{Refusal, SHORT-ROOM, BAD-STATE, BAD-FIELD, NO-TASK, NO-TARGET, NO-ENTRY, NOT-SERVING, STILL-SERVING, FULL, number, Outcome, refused, took, item, takeCall, expiry, WAITS, SERVED}
 use Rattle.rules.specs.declared.Item.{Item}
 use Rattle.rules.specs.Runs.{Ask, Given, Entry, duration, isWaiting, begins, begun, reasons, ended}
 use Rattle.rules.specs.OverRuns.{WaitsCounted, EndsOnce, WereWaiting, isReason, SixReasons, FewEnds, Stays, Released, HeldTillEnd}
@@ -30,7 +30,7 @@ use Rattle.calls.specs.declared.SelectMode.{SelectMode}
 use Rattle.calls.specs.declared.SelectMode.the-variants.{Plain, Else}
 use Rattle.calls.specs.declared.SelectMode.the-variants as S
 use Rattle.calls.specs.declared.Call as C
-use Rattle.calls.specs.declared.Call.the-variants.{Create, Delay, Call, Select, End, Finish, Tick}
+use Rattle.calls.specs.declared.Call.the-variants.{Create, Delay, Call, Select, End, Finish, Tick, Advance}
 use Rattle.lists.proofs.ListLaws.{by-eq, by-bool, by-test}
 use Rattle.rules.proofs.Invariant.{Calls, Fits, InTime, Good, Sound}
 use Rattle.rules.proofs.Members.{timed-there, and-first, and-true}
@@ -53,6 +53,7 @@ duration-small (Select o Else) = omega arith
 duration-small End = omega arith
 duration-small Finish = omega arith
 duration-small Tick = omega arith
+duration-small (Advance n) = omega arith
 
 -- what holds of each refusal that leaves all as it was, and of each taken call, holds of a step
 pub by-step {κ} : (P : Given → Type κ) (s : State) (c : C.Call) (room : ℕ) → Sound s
@@ -114,7 +115,6 @@ number-pos NO-ENTRY = refl
 number-pos NOT-SERVING = refl
 number-pos STILL-SERVING = refl
 number-pos FULL = refl
-number-pos QUEUE-FULL = refl
 
 -- nobody else has a time than those who wait in one of three places
 timed-place : (me g : Task) (p : Place) (w : Timer) → Fits me g p w → hasTime w ≡ true → (isWaiting p ≡ true) × (isReason (expiry p) ≡ true) × (isHeld p ≡ false)

@@ -3,22 +3,23 @@
 use Prim.Native.Nat.{ℕ, zero, suc, _+_, _≤_, _<_}
 use mathlib.Core.Path.{_≡_, refl, sym, _∙_, ap}
 use mathlib.Core.Bool.{Bool, true, false}
-use mathlib.Core.List.{List, [], _∷_, map}
+use mathlib.Core.List.{List, [], _∷_, _++_, map}
 use native.Mathlib.Omega.{arith}
 use lib.ListN.{length}
 use lib.Dec.{eqb, ltb}
 use borrow.Author.Tests.{eqb-false, eq-eqb, ne-eqb, ltb-true, ltb-false}
 use Rattle.lists.specs.Lists.{bit, count}
 use Rattle.rules.specs.State.{State, taskOf, placeOf, timerOf, hasTime, left, after}
-use Rattle.rules.specs.Step.{dueAt, isDue, expired, expiry, tickTo, endsAt}
+use Rattle.rules.specs.Step.{dueAt, isDue, expired, expiry, tickTo, endsAt, advanced, advanceEnds}
 use Rattle.rules.specs.Runs.{reasons}
 use Rattle.rules.specs.declared.Item.{Item}
+use Rattle.rules.specs.declared.Task.{Task}
 use Rattle.rules.specs.declared.Timer.the-variants.{Off, Due}
 use Rattle.rules.specs.declared.Place.the-variants.{Ready}
 use Rattle.lists.proofs.ListLaws.{by-eq, by-bool, count-filter-yes, count-filter-le}
 use Rattle.rules.proofs.Invariant.{InTime, Sound}
 use Rattle.rules.proofs.Members.{in-filter, timed-there}
-use Rattle.rules.proofs.StepSound.{due-is, wakeAll-in, wakeAll-out}
+use Rattle.rules.proofs.StepSound.{tick-kept, due-is, wakeAll-in, wakeAll-out}
 
 -- ── lists of items ──
 
@@ -33,6 +34,10 @@ module _ (f : ℕ → Item) (own : (x : ℕ) → f x .task ≡ x) (u : ℕ) wher
       by-eq x u
       (λ e. rw (own x, eq-eqb x u e, e, reasons-none xs (omega (arith, rw (eq-eqb x u e) at h))))
       (λ n. rw (own x, ne-eqb x u n) (reasons-one xs (omega (arith, rw (ne-eqb x u n) at h))))
+
+pub reasons-append : (u : ℕ) (l m : List Item) → reasons u (l ++ m) ≡ reasons u l ++ reasons u m
+reasons-append u [] m = refl
+reasons-append u (i ∷ is) m = let ih = reasons-append u is m in by-bool (eqb (i .task) u) (λ e. rw (e, ih)) (λ e. rw (e, ih))
 
 pub bit-le : (b : Bool) → bit b ≤ 1
 bit-le true = omega arith
@@ -89,3 +94,32 @@ tick-passes s u h = by-bool (ltb 0 (count u l)) woken other
 
     other : ltb 0 (count u l) ≡ false → Passes s 1 u (tickTo s n) (endsAt s n)
     other b = let k : count u l ≡ 0 = omega (arith, ltb-false 0 (count u l) b) in stays (wakeAll-out l s u k) (further k) (reasons-none (expired s) (λ x. refl) u l k)
+
+-- ── ADVANCE ──
+
+pub advance-passes : (n : ℕ) (s : State) (u : ℕ) → Sound s → Passes s n u (advanced n s) (advanceEnds n s)
+advance-passes zero s u h = stays refl (λ d q. in-time s u d h q .0) refl
+advance-passes (suc n) s u h = go (tick-passes s u h) (advance-passes n s1 u (tick-kept s h))
+  where
+    s1 : State
+    s1 = tickTo s (after (s .clock) 1)
+
+    l : List Item
+    l = endsAt s (after (s .clock) 1)
+
+    less : (d : ℕ) → timerOf s u ≡ Due d → left (after (s .clock) 1) d + 1 ≡ left (s .clock) d
+    less d q = let i = in-time s u d h q in left-later (s .clock) d 1 (h .clock) (i .2) (i .0)
+
+    go : Passes s 1 u s1 l → Passes s1 n u (advanced n s1) (advanceEnds n s1) → Passes s (suc n) u (advanced n s1) (l ++ advanceEnds n s1)
+    go (stays e f r) (stays e2 f2 r2) =
+        stays (e2 ∙ e) (λ d q. omega (arith, less d q, f2 d (ap (λ (x : Task). x .timer) e ∙ q))) (rw (reasons-append u l (advanceEnds n s1), r, r2))
+    go (stays e f r) (comes d q k p t r2) =
+        let q0 : timerOf s u ≡ Due d = sym (ap (λ (x : Task). x .timer) e) ∙ q in
+        comes d q0 (omega (arith, less d q0, k)) p t (rw (reasons-append u l (advanceEnds n s1), r, r2, ap (λ (x : Task). x .place) e))
+    go (comes d q k p t r) (stays e2 f2 r2) =
+        comes d q (omega (arith, k)) (ap (λ (x : Task). x .place) e2 ∙ p) (ap (λ (x : Task). x .timer) e2 ∙ t) (rw (reasons-append u l (advanceEnds n s1), r, r2))
+    go (comes d q k p t r) (comes d2 q2 k2 p2 t2 r2) = absurd (let z : _≡_ {A = ℕ} 0 1 = cc in omega arith)
+
+pub advance-clock : (n : ℕ) (s : State) → s .clock < 4294967296 → advanced n s .clock ≡ after (s .clock) n
+advance-clock zero s h = omega arith
+advance-clock (suc n) s h = advance-clock n (tickTo s (after (s .clock) 1)) (omega arith) ∙ omega arith

@@ -13,7 +13,7 @@ use borrow.Author.Tests.{eqb-true, eqb-false, eq-eqb, ne-eqb, ltb-true, ltb-fals
 use Rattle.lists.specs.Lists.{if_then_else_, bit, count, filter, first, last, remove, insert}
 use Rattle.rules.specs.State.{State, blank, nth, setNth, taskOf, placeOf, timerOf, created, isTask, isReady, isQueued, isHeld, isCompleted, partnerOf, entryOf, accepts, opens, hasTime, ticksLeft, left, after, round, fresh, move, wake, meet, part, wakeAll, add, setClock, queue, heldBy, running, waiting, offer}
 use Rattle.rules.specs.Sound.{inRange}
-use Rattle.rules.specs.Step.{NO-TASK, Outcome, refused, took, item, create, delayFor, enqueue, timedCall, callBusy, call, openFrom, openEntry, selectDelay, selectNone, selectAt, select, endLast, end, queuedFrom, queuedOn, finish, dueAt, isDue, tick, ofRunning, takeCall, ticks}
+use Rattle.rules.specs.Step.{NO-TASK, Outcome, refused, took, item, create, delayFor, enqueue, timedCall, callBusy, call, openFrom, openEntry, selectDelay, selectNone, selectAt, select, endLast, end, queuedFrom, queuedOn, finish, dueAt, isDue, tick, tickTo, advanced, ofRunning, takeCall, ticks}
 use Rattle.rules.specs.declared.Item.{Item}
 use Rattle.rules.specs.declared.Task.{Task}
 use Rattle.rules.specs.declared.Timer.{Timer}
@@ -28,7 +28,7 @@ use Rattle.calls.specs.declared.SelectMode.{SelectMode}
 use Rattle.calls.specs.declared.SelectMode.the-variants.{Plain, Else}
 use Rattle.calls.specs.declared.SelectMode.the-variants as S
 use Rattle.calls.specs.declared.Call as C
-use Rattle.calls.specs.declared.Call.the-variants.{Create, Delay, Call, Select, End, Finish, Tick}
+use Rattle.calls.specs.declared.Call.the-variants.{Create, Delay, Call, Select, End, Finish, Tick, Advance}
 use Rattle.lists.proofs.ListLaws.{by-eq, by-bool, by-test, and-l, and-r, both, is-true, true-T, count-append, count-filter-yes, count-filter-no, Ordered, ordered-cong}
 use Rattle.rules.proofs.Invariant.{Lined, Calls, Fits, InTime, Good, GoodAt, Sound}
 use Rattle.rules.proofs.Members.{in-filter, first-member, some-length, and-true, and-false, in-queue, of-queue, queued-good, queued-there, of-held, in-held, held-there, last-in, there, timed-there, bit-true, nth-beyond, Runs, runs}
@@ -59,7 +59,7 @@ delay-kept s t (suc d) h r k = delay-sound s t (after (s .clock) (suc d)) (r .lo
 -- ── CALL ──
 
 enqueue-kept : (s : State) (t g e : ℕ) (w : Timer) → Sound s → Runs s t → Calls (taskOf s g) e → accepts (placeOf s g) e ≡ false → InTime (s .clock) w → Kept (enqueue s t g e w)
-enqueue-kept s t g e w h r c a i = by-test Kept (leb 31 (length (queue s g e))) (λ _. tt) (λ _. queue-sound s t (waiting s g e) w (r .low) (r .high) h c a i)
+enqueue-kept s t g e w h r c a i = queue-sound s t (waiting s g e) w (r .low) (r .high) h c a i
 
 busy-kept : (s : State) (t g e : ℕ) (m : CallMode) → Sound s → Runs s t → Calls (taskOf s g) e → accepts (placeOf s g) e ≡ false → Kept (callBusy s t g e m)
 busy-kept s t g e Simple h r c a = enqueue-kept s t g e Off h r c a tt
@@ -308,6 +308,12 @@ tick-kept s h =
             other false e z = e
             other true e z = absurd (omega (arith, z, count-filter-yes (λ t. isDue n (timerOf s t)) u (s .delays) e, rw (due-is n (timerOf s u) e) at (h .delays u)))
 
+-- ── ADVANCE ──
+
+pub advance-kept : (n : ℕ) (s : State) → Sound s → Sound (advanced n s)
+advance-kept zero s h = h
+advance-kept (suc n) s h = advance-kept n (tickTo s (after (s .clock) 1)) (tick-kept s h)
+
 -- ── CREATE ──
 
 module _ (ts : List Task) (x : Task) where
@@ -413,3 +419,4 @@ call-sound s (Select o m) h = by-runner Kept s (λ t. select s t o m) h tt (λ t
 call-sound s End h = by-runner Kept s (λ t. end s t) h tt (λ t e r. end-kept s t h r)
 call-sound s Finish h = by-runner Kept s (λ t. finish s t) h tt (λ t e r. finish-kept s t h r)
 call-sound s Tick h = tick-kept s h
+call-sound s (Advance n) h = advance-kept n s h

@@ -32,7 +32,7 @@ use Rattle.calls.specs.declared.SelectMode.{SelectMode}
 use Rattle.calls.specs.declared.SelectMode.the-variants.{Plain, Else}
 use Rattle.calls.specs.declared.SelectMode.the-variants as S
 use Rattle.calls.specs.declared.Call as C
-use Rattle.calls.specs.declared.Call.the-variants.{Create, Delay, Call, Select, End, Finish, Tick}
+use Rattle.calls.specs.declared.Call.the-variants.{Create, Delay, Call, Select, End, Finish, Tick, Advance}
 use Rattle.lists.proofs.ListLaws.{clash, by-eq, by-bool, by-test}
 use Rattle.rules.proofs.Invariant.{Calls, Fits, InTime, Good, Sound}
 use Rattle.rules.proofs.Members.{timed-there, and-first, and-true}
@@ -104,6 +104,7 @@ finish-is (Call g j m) e = cc
 finish-is (Select o m) e = cc
 finish-is End e = cc
 finish-is Tick e = cc
+finish-is (Advance n) e = cc
 
 not-completed : (s s′ : State) (c : C.Call) (b : Item) (l : List Item) (p : Place) → Sound s → takeCall s c ≡ took s′ b l → isCompleted (placeOf s′ (partnerOf p)) ≡ false
     → (isFinish c && eqb (b .task) (partnerOf p)) ≡ false
@@ -235,6 +236,7 @@ timely s (Select o m) e = (accepting (offer o), refl, refl, refl)
 timely s End e = no (cc)
 timely s Finish e = no (cc)
 timely s Tick e = no (cc)
+timely s (Advance n) e = no (cc)
 
 timer-in : (now d : ℕ) → 0 < d → timerIn now d ≡ Due (after now d)
 timer-in now zero h = absurd (omega arith)
@@ -266,6 +268,7 @@ reason-not (Select o m) = refl
 reason-not End = refl
 reason-not Finish = refl
 reason-not Tick = refl
+reason-not (Advance n) = refl
 
 -- a wait that began in the step x, and the step y behind the run mid
 module _ (x : Entry) (mid : List Ask) (b : Ask) (t : ℕ) (h : Sound (x .out .state)) where

@@ -12,7 +12,7 @@ use Rattle.rules.specs.declared.Item.{Item}
 use Rattle.rules.specs.declared.Stepped.{Stepped}
 use Rattle.rules.specs.declared.Supervisor.{Supervisor}
 
-items-back : (is : List Item) (room : List ℕ) → itemsIn (length is) (roomAfter room is) ≡ is
+pub items-back : (is : List Item) (room : List ℕ) → itemsIn (length is) (roomAfter room is) ≡ is
 items-back [] room = refl
 items-back (i ∷ is) room = ap (λ (l : List Item). i ∷ l) (items-back is (drop 4 room))
 

@@ -17,7 +17,7 @@ use Rattle.calls.specs.declared.CallMode.the-variants.{Simple, Timed, Condition
 use Rattle.calls.specs.declared.SelectMode.the-variants.{Plain, Else}
 use Rattle.calls.specs.declared.SelectMode.the-variants as S
 use Rattle.calls.specs.declared.Call as C
-use Rattle.calls.specs.declared.Call.the-variants.{Create, Delay, Call, Select, End, Finish, Tick}
+use Rattle.calls.specs.declared.Call.the-variants.{Create, Delay, Call, Select, End, Finish, Tick, Advance}
 
 -- ── a run and its log ──
 
@@ -103,7 +103,7 @@ ended t (x ∷ xs) = length (reasons t (x .out .ended)) + ended t xs
 
 -- ── ticks ──
 
--- the ticks of a call
+-- the ticks of a call: ADVANCE n counts as n
 abbrev pub ticksOf : C.Call → ℕ
 ticksOf (Create p n) = 0
 ticksOf (Delay d) = 0
@@ -112,6 +112,7 @@ ticksOf (Select o m) = 0
 ticksOf End = 0
 ticksOf Finish = 0
 ticksOf Tick = 1
+ticksOf (Advance n) = n
 
 -- the ticks of a step, refused ones not counted
 abbrev pub ticksIn : Entry → ℕ
@@ -135,6 +136,7 @@ duration (Select o Else) = 0
 duration End = 0
 duration Finish = 0
 duration Tick = 0
+duration (Advance n) = 0
 
 -- the reason for which the wait that begins with a call ends by time
 abbrev pub timeReason : C.Call → ℕ
@@ -145,6 +147,7 @@ timeReason (Select o m) = DELAY-TAKEN
 timeReason End = 0
 timeReason Finish = 0
 timeReason Tick = 0
+timeReason (Advance n) = 0
 
 -- ── rendezvous and completion ──
 
@@ -171,6 +174,7 @@ isFinish (Select o m) = false
 isFinish End = false
 isFinish Finish = true
 isFinish Tick = false
+isFinish (Advance n) = false
 
 -- task g completes: an accepted FINISH of it
 abbrev pub completes : ℕ → Entry → Bool
@@ -190,3 +194,4 @@ target (Select o m) = 0
 target End = 0
 target Finish = 0
 target Tick = 0
+target (Advance n) = 0

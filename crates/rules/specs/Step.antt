@@ -5,7 +5,7 @@ use mathlib.Core.Bool.{Bool, true, false, not, _&&_}
 use mathlib.Core.List.{List, [], _∷_, _++_, map}
 use lib.ListN.{length}
 use lib.Dec.{eqb, ltb, leb}
-use Rattle.lists.specs.Lists.{if_then_else_, filter, first, last}
+use Rattle.lists.specs.Lists.{if_then_else_, bit, filter, first, last}
 use Rattle.rules.specs.State.{State, taskOf, placeOf, timerOf, created, isTask, isCompleted, partnerOf, entryOf, accepts, opens, queue, heldBy, running, after, move, wake, meet, part, wakeAll, add, setClock, waiting, offer}
 use Rattle.rules.specs.Sound.{inRange}
 use Rattle.rules.specs.declared.Item.{Item}
@@ -19,7 +19,7 @@ use Rattle.calls.specs.declared.SelectMode.{SelectMode}
 use Rattle.calls.specs.declared.SelectMode.the-variants.{Plain, Else}
 use Rattle.calls.specs.declared.SelectMode.the-variants as S
 use Rattle.calls.specs.declared.Call as C
-use Rattle.calls.specs.declared.Call.the-variants.{Create, Delay, Call, Select, End, Finish, Tick}
+use Rattle.calls.specs.declared.Call.the-variants.{Create, Delay, Call, Select, End, Finish, Tick, Advance}
 -- a duration's ticks
 pub use Rattle.calls.specs.Duration.{ticks}
 
@@ -33,9 +33,9 @@ none = item 0 0 0 0
 
 -- the refusals of a step, in order of checking
 pub data Refusal : Type 0 where
-  SHORT-ROOM BAD-STATE BAD-FIELD NO-TASK NO-TARGET NO-ENTRY NOT-SERVING STILL-SERVING FULL QUEUE-FULL : Refusal
+  SHORT-ROOM BAD-STATE BAD-FIELD NO-TASK NO-TARGET NO-ENTRY NOT-SERVING STILL-SERVING FULL : Refusal
 
--- their numbers in document 01
+-- their numbers in document 01 (10 is retired and given to nothing)
 abbrev pub number : Refusal → ℕ
 number SHORT-ROOM = 1
 number BAD-STATE = 2
@@ -46,7 +46,6 @@ number NO-ENTRY = 6
 number NOT-SERVING = 7
 number STILL-SERVING = 8
 number FULL = 9
-number QUEUE-FULL = 10
 
 -- a call is refused, or taken: the next state, the answer and the ended waits in order
 pub data Outcome : Type 0 where
@@ -93,7 +92,7 @@ NOT-NOW = 8
 abbrev pub PROGRAM-ERROR : ℕ
 PROGRAM-ERROR = 9
 
--- CREATE, END, FINISH and TICK
+-- CREATE, END, FINISH, TICK and ADVANCE
 abbrev pub DONE : ℕ
 DONE = 10
 
@@ -117,9 +116,7 @@ delayFor s t (suc d) = took (move s t Delayed (Due (after (s .clock) (suc d)))) 
 
 -- t waits in the queue of entry e of task g, at the tail, with a time or none
 abbrev pub enqueue : State → ℕ → ℕ → ℕ → Timer → Outcome
-enqueue s t g e w =
-    if leb 31 (length (queue s g e)) then refused QUEUE-FULL
-    else took (move s t (Queued (waiting s g e)) w) (item t WAITS 0 0) []
+enqueue s t g e w = took (move s t (Queued (waiting s g e)) w) (item t WAITS 0 0) []
 
 -- timed with d above 0 waits with a time; with d zero or below it gives CALL_EXPIRED
 abbrev pub timedCall : State → ℕ → ℕ → ℕ → ℕ → Outcome
@@ -243,6 +240,27 @@ endsAt s now = map (expired s) (dueAt s now)
 abbrev pub tick : State → Outcome
 tick s = let now = after (s .clock) 1 in took (tickTo s now) (item 0 DONE 0 0) (endsAt s now)
 
+-- ── ADVANCE ──
+
+-- the state after n ticks, one after the other
+abbrev pub advanced : ℕ → State → State
+advanced zero s = s
+advanced (suc n) s = advanced n (tickTo s (after (s .clock) 1))
+
+-- their lists of ended waits, joined
+abbrev pub advanceEnds : ℕ → State → List Item
+advanceEnds zero s = []
+advanceEnds (suc n) s = endsAt s (after (s .clock) 1) ++ advanceEnds n (tickTo s (after (s .clock) 1))
+
+-- the number of different clock readings at which a wait ended
+abbrev pub readings : ℕ → State → ℕ
+readings zero s = 0
+readings (suc n) s = bit (ltb 0 (length (endsAt s (after (s .clock) 1)))) + readings n (tickTo s (after (s .clock) 1))
+
+-- ADVANCE n: n ticks in one step; the entry field gives the number of readings at which a wait ended
+abbrev pub advance : State → ℕ → Outcome
+advance s n = took (advanced n s) (item 0 DONE (readings n s) 0) (advanceEnds n s)
+
 -- ── a call ──
 
 -- a call of the running task t, or of nobody
@@ -259,6 +277,7 @@ takeCall s (Select o m) = ofRunning (running s) (λ t. select s t o m)
 takeCall s End = ofRunning (running s) (λ t. end s t)
 takeCall s Finish = ofRunning (running s) (λ t. finish s t)
 takeCall s Tick = tick s
+takeCall s (Advance n) = advance s n
 
 -- ── the lent room ──
 

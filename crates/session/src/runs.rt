@@ -15,7 +15,8 @@ use libc::STDOUT_FILENO;
 use report::put_header;
 use text::least;
 
-// A header and a line need less than this, so that no line is cut off.
+// Room for a header and the longest line, so that none is cut off: the header has 44 bytes, and a line with 20 digits of the
+// step's number, six numbers and 255 ended waits of three digits each 4635.
 const SPARE: usize = 8192;
 
 // The bytes of a log that goes on to the end of the input.

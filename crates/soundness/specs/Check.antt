@@ -25,6 +25,7 @@ goodIn v t = goodTask (v .clock) (taskOf v t) (taskOf v (partnerOf (placeOf v t)
 
 -- ── the delay queue ──
 
+-- ticks left of task x; 0 without a time
 abbrev pub leftOf : State → ℕ → ℕ
 leftOf v x = ticksLeft (v .clock) (timerOf v x)
 
@@ -42,12 +43,14 @@ belongs Callers x = isQueued (x .place)
 belongs Held x = isHeld (x .place)
 belongs Delays x = hasTime (x .timer)
 
+-- where the code keeps the line
 abbrev pub arrayOf : Supervisor → Line → List ℕ
 arrayOf s Ready = s .ready
 arrayOf s Callers = s .callers
 arrayOf s Held = s .held
 arrayOf s Delays = s .delays
 
+-- all four
 abbrev pub lines : List Line
 lines = Ready ∷ Callers ∷ Held ∷ Delays ∷ []
 
@@ -55,6 +58,7 @@ lines = Ready ∷ Callers ∷ Held ∷ Delays ∷ []
 unfoldable pub lineHas : ℕ → (ℕ → Bool) → List ℕ → Bool
 lineHas n f a = (tidy a && every (named n) (line a)) && every (λ t. eqb (count t (line a)) (bit (f t))) (downFrom n)
 
+-- the line holds the created tasks that stand in it, each once, and nothing else
 abbrev pub standsIn : Supervisor → Line → Bool
 standsIn s l = lineHas (s .created) (λ t. belongs l (taskOf (view s) t)) (arrayOf s l)
 

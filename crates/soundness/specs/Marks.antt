@@ -6,6 +6,7 @@ use lib.Bits.{bitOr, bitXor}
 use lib.Dec.{eqb, ltb}
 use Rattle.lists.specs.Lists.{if_then_else_, bit}
 
+-- which tasks are still to be met
 abbrev pub Marks : Type 0
 Marks = ℕ
 
@@ -29,5 +30,6 @@ withMark m t here = if ltb t 32 then bitOr m (bit here * 2 ^ t) else m
 unfoldable pub withoutMark : Marks → ℕ → Marks
 withoutMark m t = if ltb t 32 then bitXor m (2 ^ t) else m
 
+-- no task is still to be met
 unfoldable pub isNone : Marks → Bool
 isNone m = eqb m 0

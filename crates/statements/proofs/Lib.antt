@@ -2,3 +2,4 @@ pub mod Refusals
 pub mod Statement1
 pub mod Statement2
 pub mod Statement3
+pub mod Cutting

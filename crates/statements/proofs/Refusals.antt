@@ -7,24 +7,23 @@ use mathlib.Core.List.{List, [], _∷_}
 use native.Mathlib.Omega.{arith}
 use lib.Dec.{eqb, ltb, leb}
 use lib.ListN.{length}
-use borrow.Author.Tests.{eqb-true, eqb-false, eq-eqb, ne-eqb, lt-ltb, le-ltb, ltb-true, ltb-false, le-leb, lt-leb}
+use borrow.Author.Tests.{eqb-true, eqb-false, eq-eqb, ne-eqb, lt-ltb, le-ltb, ltb-true, ltb-false, le-leb}
 use Rattle.lists.specs.Lists.{if_then_else_, count, last}
 use Rattle.lists.proofs.ListLaws.{by-bool}
 use Rattle.rules.specs.State.{State, created, taskOf, placeOf, isTask, isCompleted, accepts, heldBy, queue, running}
 use Rattle.rules.specs.Sound.{inRange, sound}
-use Rattle.rules.specs.Step.{Outcome, refused, took, Refusal, number, BAD-STATE, SHORT-ROOM, ticks, create, delayFor, enqueue, timedCall, callBusy, call, selectAt, selectNone, selectDelay, select, openEntry, endLast, end, finish, ofRunning, takeCall}
+use Rattle.rules.specs.Step.{Outcome, refused, took, Refusal, number, BAD-STATE, SHORT-ROOM, ticks, create, delayFor, timedCall, callBusy, call, selectAt, selectNone, selectDelay, select, openEntry, endLast, end, finish, ofRunning, takeCall}
 use Rattle.rules.specs.Whole.{view, packed, soundWhole, done, decline, stepWhole}
 use Rattle.rules.specs.declared.Supervisor.{Supervisor}
 use Rattle.calls.specs.declared.Call as C
-use Rattle.calls.specs.declared.Call.the-variants.{Create, Delay, Call, Select, End, Finish, Tick}
+use Rattle.calls.specs.declared.Call.the-variants.{Create, Delay, Call, Select, End, Finish, Tick, Advance}
 use Rattle.calls.specs.declared.CallMode.{CallMode}
 use Rattle.calls.specs.declared.CallMode.the-variants.{Simple, Timed, Conditional}
 use Rattle.calls.specs.declared.SelectMode.{SelectMode}
 use Rattle.calls.specs.declared.SelectMode.the-variants.{Plain, Else}
 use Rattle.calls.specs.declared.SelectMode.the-variants as S
 use Rattle.rules.proofs.Invariant.{Sound}
-use Rattle.rules.proofs.Members.{Runs, runs, and-first, and-true, of-held, held-there}
-use Rattle.rules.proofs.Bounds.{queue-has-room}
+use Rattle.rules.proofs.Members.{and-true, of-held, held-there}
 use Rattle.rules.proofs.SoundTest.{sound-props}
 use Rattle.statements.specs.Refusals.{badField, needsTask, noTask, noTarget, noEntry, notServing, stillServing, full, Row, row, rows, firstRow}
 
@@ -59,16 +58,13 @@ delays v t (suc n) = refl
 creates : (v : State) (p n : ℕ) → refusalOf (create v p n) ≡ (if not (inRange p n) then 3 else if leb 31 (created v) then 9 else 0)
 creates v p n = by-bool (not (inRange p n)) (λ e. rw e) (λ e. by-bool (leb 31 (created v)) (λ f. rw (e, f)) (λ f. rw (e, f)))
 
-module _ (v : State) (h : Sound v) (t : ℕ) (runs-now : Runs v t) (g e : ℕ) where
-  queues : (w : _) → refusalOf (enqueue v t g e w) ≡ 0
-  queues w = rw (lt-leb 31 (length (queue v g e)) (omega (arith, queue-has-room v t g e h runs-now)))
-
+module _ (v : State) (t g e : ℕ) where
   waits : (n : ℕ) → refusalOf (timedCall v t g e n) ≡ 0
   waits zero = refl
-  waits (suc n) = queues _
+  waits (suc n) = refl
 
   busy : (m : CallMode) → refusalOf (callBusy v t g e m) ≡ 0
-  busy Simple = queues _
+  busy Simple = refl
   busy (Timed d) = waits (ticks d)
   busy Conditional = refl
 
@@ -106,14 +102,6 @@ ends v t = ends-at v t (last (heldBy v t)) ∙ ap (λ (b : Bool). if b then 7 el
 finishes : (v : State) (t : ℕ) → refusalOf (finish v t) ≡ (if ltb 0 (length (heldBy v t)) then 8 else 0)
 finishes v t = by-bool (ltb 0 (length (heldBy v t))) (λ e. rw e) (λ e. rw e)
 
--- the running task's record of soundness
-runs-of : (v : State) → Sound v → (running v ≡ 0 → ⊥) → Runs v (running v)
-runs-of v h n = go (running v) refl n
-  where
-    go : (t : ℕ) → running v ≡ t → (t ≡ 0 → ⊥) → Runs v t
-    go zero e n = absurd (n refl)
-    go (suc t) e n = runs v t h e
-
 -- the rows of a sound state, with room
 tableOf : State → C.Call → List Row
 tableOf v c =
@@ -130,11 +118,12 @@ taken : (v : State) (c : C.Call) → Sound v → refusalOf (takeCall v c) ≡ fi
 unfolding tableOf
 taken v (Create p n) h = creates v p n
 taken v (Delay d) h = runner (running v) (λ t. delayFor v t (ticks d)) 0 (λ _. delays v (running v) (ticks d))
-taken v (Call g e m) h = runner (running v) (λ t. call v t g e m) _ (λ n. called v h (running v) (runs-of v h n) g e m)
+taken v (Call g e m) h = runner (running v) (λ t. call v t g e m) _ (λ _. called v (running v) g e m)
 taken v (Select o m) h = runner (running v) (λ t. select v t o m) _ (λ _. selects v (running v) o m)
 taken v End h = runner (running v) (λ t. end v t) _ (λ _. ends v (running v))
 taken v Finish h = runner (running v) (λ t. finish v t) _ (λ _. finishes v (running v))
 taken v Tick h = refl
+taken v (Advance n) h = refl
 
 done-refusal : (s : Supervisor) (o : Outcome) → done s o .refusal ≡ refusalOf o
 done-refusal s (refused r) = refl

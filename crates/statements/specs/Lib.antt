@@ -4,3 +4,5 @@ pub mod Refusals
 pub mod Statement1
 pub mod Statement2
 pub mod Statement3
+-- ADVANCE as ticks, and cut in two
+pub mod Cutting

@@ -11,7 +11,7 @@ use Rattle.rules.specs.Sound.{inRange}
 use Rattle.rules.specs.Whole.{view, soundWhole}
 use Rattle.rules.specs.declared.Supervisor.{Supervisor}
 use Rattle.calls.specs.declared.Call as C
-use Rattle.calls.specs.declared.Call.the-variants.{Create, Delay, Call, Select, End, Finish, Tick}
+use Rattle.calls.specs.declared.Call.the-variants.{Create, Delay, Call, Select, End, Finish, Tick, Advance}
 
 -- 3 BAD_FIELD: CREATE, priority outside 1..15 or above 8 entries
 abbrev pub badField : C.Call → Bool
@@ -22,8 +22,9 @@ badField (Select o m) = false
 badField End = false
 badField Finish = false
 badField Tick = false
+badField (Advance n) = false
 
--- the running task makes every call but CREATE and TICK
+-- the running task makes every call but CREATE, TICK and ADVANCE
 abbrev pub needsTask : C.Call → Bool
 needsTask (Create p n) = false
 needsTask (Delay d) = true
@@ -32,6 +33,7 @@ needsTask (Select o m) = true
 needsTask End = true
 needsTask Finish = true
 needsTask Tick = false
+needsTask (Advance n) = false
 
 -- 4 NO_TASK: a call that needs a running task, none is ready
 abbrev pub noTask : State → C.Call → Bool
@@ -46,6 +48,7 @@ noTarget s (Select o m) = false
 noTarget s End = false
 noTarget s Finish = false
 noTarget s Tick = false
+noTarget s (Advance n) = false
 
 -- 6 NO_ENTRY: CALL names an entry the target has not; SELECT opens one the task has not
 abbrev pub noEntry : State → C.Call → Bool
@@ -56,6 +59,7 @@ noEntry s (Select o m) = leb (2 ^ (taskOf s (running s) .entries)) o
 noEntry s End = false
 noEntry s Finish = false
 noEntry s Tick = false
+noEntry s (Advance n) = false
 
 -- 7 NOT_SERVING: END, nobody held
 abbrev pub notServing : State → C.Call → Bool
@@ -66,6 +70,7 @@ notServing s (Select o m) = false
 notServing s End = eqb (length (heldBy s (running s))) 0
 notServing s Finish = false
 notServing s Tick = false
+notServing s (Advance n) = false
 
 -- 8 STILL_SERVING: FINISH, somebody held
 abbrev pub stillServing : State → C.Call → Bool
@@ -76,6 +81,7 @@ stillServing s (Select o m) = false
 stillServing s End = false
 stillServing s Finish = ltb 0 (length (heldBy s (running s)))
 stillServing s Tick = false
+stillServing s (Advance n) = false
 
 -- 9 FULL: CREATE with 31 tasks created
 abbrev pub full : State → C.Call → Bool
@@ -86,6 +92,7 @@ full s (Select o m) = false
 full s End = false
 full s Finish = false
 full s Tick = false
+full s (Advance n) = false
 
 -- a row of the table: its number, and whether it applies
 pub record Row : Type 0 where
@@ -96,7 +103,7 @@ abbrev pub row : ℕ → Bool → Row
 row n b = record { number = n; applies = b }
 
 -- the rows for a step with a room of so many bytes, in order of checking
--- (10 QUEUE_FULL would stand at the end, but never applies: `Statement1.no-overflow`)
+-- (10 is retired: `no-overflow` of statement 1 says why it could never be given)
 abbrev pub rows : Supervisor → C.Call → ℕ → List Row
 rows s c room =
     row 1 (ltb room 124)

@@ -62,5 +62,5 @@ pub record Statement1 : Type 2 where
   pub end-of-log : (s : List ℕ) → (refusalOf (readOf s) ≡ 12) ↔ (length s ≡ 0)
   -- the writer: SHORT_ROOM exactly when the room is below the record
   pub short-room : (c : C.Call) (room : List ℕ) → (writtenOf (encode c) room .refusal ≡ 1) ↔ (length room < length (encode c))
-  -- QUEUE_FULL is never given: a queue that the running task would join has at most 30 callers
+  -- how to provoke refusal 10? Not at all: a queue that the running task would join has at most 30 callers (so 10 is retired)
   pub no-overflow : (s : Supervisor) → Typed s → soundWhole s ≡ true → 0 < state.running (view s) → (g e : ℕ) → length (queue (view s) g e) ≤ 30

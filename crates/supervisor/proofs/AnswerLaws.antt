@@ -71,6 +71,13 @@ many-answers s m st a f l xs n e q k z =
     e ∙ ap (λ (x : Supervisor). record { state = x; refusal = 0; answer = a; ended = n }) q
     ∙ ap (λ (j : ℕ). record { state = pack st; refusal = 0; answer = a; ended = j }) (k ∙ ap length z ∙ sym (length-map xs f))
 
+-- an answer with a list that was written
+pub list-answers : (s m : Supervisor) (st : State) (a : Item) (l : List Item) (k : ℕ) (room after : List ℕ) {o : Outcome} {r : Taken} → o ≡ took st a l
+    → r ≡ record { state = m; refusal = 0; answer = a; ended = k } → m ≡ pack st → k ≡ length l → after ≡ roomAfter room l → (r ≡ takenOf s o) × (after ≡ roomAfter room (endedBy o))
+list-answers s m st a l k room after e h q n w =
+    by-both s after room e
+    (h ∙ ap (λ (x : Supervisor). record { state = x; refusal = 0; answer = a; ended = k }) q ∙ ap (λ (j : ℕ). record { state = pack st; refusal = 0; answer = a; ended = j }) n) w
+
 -- a test of the called task, made on its record
 pub of-task : (v : State) (g : ℕ) (x : Task) (f : Task → Bool) (b c : Bool) → x ≡ taskOf v g → b ≡ f x → b ≡ c → f (taskOf v g) ≡ c
 of-task v g x f b c ex e z = sym (ap f ex) ∙ sym e ∙ z

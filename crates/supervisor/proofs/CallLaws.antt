@@ -9,7 +9,7 @@ use lib.Dec.{ltb, leb}
 use lib.ListN.{length}
 use borrow.Author.Tests.{not-true, not-false, le-leb, lt-leb}
 use Rattle.rules.specs.State.{State, created, taskOf, move, wake, running, after, isTask, placeOf, isCompleted, accepts, queue, waiting, meet}
-use Rattle.rules.specs.Step.{refused, took, NO-TASK, NO-TARGET, NO-ENTRY, QUEUE-FULL, item, WAITS, CALL-EXPIRED, TASKING-ERROR, ACCEPTED, ticks, enqueue, timedCall, callBusy, call, takeCall}
+use Rattle.rules.specs.Step.{refused, took, NO-TASK, NO-TARGET, NO-ENTRY, item, WAITS, CALL-EXPIRED, TASKING-ERROR, ACCEPTED, ticks, enqueue, timedCall, callBusy, call, takeCall}
 use Rattle.rules.specs.Sound.{sound}
 use Rattle.rules.specs.Whole.{view, pack}
 use Rattle.rules.specs.declared.Supervisor.{Supervisor}
@@ -59,13 +59,6 @@ module _ (v : State) (t g e : ℕ) (m : CallMode) where
   pub call-goes : isTask v g ≡ true → (ltb 0 e && leb e (taskOf v g .entries)) ≡ true → isCompleted (placeOf v g) ≡ false → accepts (placeOf v g) e ≡ false → call v t g e m ≡ callBusy v t g e m
   call-goes q1 q2 q3 q4 = rw (q1, q2, q3, q4)
 
-module _ (v : State) (t g e : ℕ) (w : Timer) (n : ℕ) (is : n ≡ length (queue v g e)) where
-  pub queue-full : 31 ≤ n → enqueue v t g e w ≡ refused QUEUE-FULL
-  queue-full k = rw (le-leb 31 (length (queue v g e)) (omega arith))
-
-  pub queue-free : n < 31 → enqueue v t g e w ≡ took (move v t (Queued (waiting v g e)) w) (item t WAITS 0 0) []
-  queue-free k = rw (lt-leb 31 (length (queue v g e)) (omega arith))
-
 module _ (v : State) (t g e : ℕ) (d : ℤ) (n : ℕ) (is : n ≡ ticks d) where
   pub timed-now : n ≡ 0 → callBusy v t g e (Timed d) ≡ took v (item t CALL-EXPIRED e g) []
   timed-now z = rw (← is, z)
@@ -78,7 +71,7 @@ module _ (v : State) (t g e : ℕ) (d : ℤ) (n : ℕ) (is : n ≡ ticks d) wher
       go (suc n) z = refl
 
 pub quiet-enqueue : (v : State) (t g e : ℕ) (w : Timer) → endedBy (enqueue v t g e w) ≡ []
-quiet-enqueue v t g e w = by-test (λ o. endedBy o ≡ []) (leb 31 (length (queue v g e))) (λ _. refl) (λ _. refl)
+quiet-enqueue v t g e w = refl
 
 pub quiet-busy : (v : State) (t g e : ℕ) (m : CallMode) → endedBy (callBusy v t g e m) ≡ []
 quiet-busy v t g e Simple = quiet-enqueue v t g e Off

@@ -73,9 +73,6 @@ module _ (g c e : ℕ) where
   parted-packed s h i k = moved-packed s c Ready Off h k
 
 module _ (s : Supervisor) (h : Stands s) where
-  pub long-ready : length (s .ready) ≡ 31
-  long-ready = ap (λ (r : Supervisor). length (r .ready)) (h .packs) ∙ length-pad (line (s .ready))
-
   pub long-callers : length (s .callers) ≡ 31
   long-callers = ap (λ (r : Supervisor). length (r .callers)) (h .packs) ∙ length-pad (line (s .callers))
 

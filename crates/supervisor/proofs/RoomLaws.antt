@@ -1,6 +1,6 @@
 -- The lent room, and the loop that wakes a list of tasks with an item for each.
 -- Assumes nothing.
-use Prim.Native.Nat.{ℕ, _+_, _-_, _*_, _≤_, _<_}
+use Prim.Native.Nat.{ℕ, suc, _+_, _-_, _*_, _≤_}
 use mathlib.Core.Path.{_≡_, refl, sym, ap, subst, _∙_}
 use mathlib.Core.Bool.{Bool}
 use mathlib.Core.List.{List, [], _∷_, _++_, map, append-assoc, append-nil}
@@ -9,6 +9,8 @@ use lib.ListN.{length, set, take, drop, take-append-drop, length-take, length-dr
 use lib.Seq.{take-at, drop-at, take-all}
 use borrow.Rule.Slice.PartMut.{putMid}
 use borrow.Author.Tests.{eq-eqb}
+use Rattle.lists.specs.Line.{line}
+use Rattle.lists.proofs.LineLaws.{length-line}
 use Rattle.rules.specs.State.{State, wake, wakeAll}
 use Rattle.rules.specs.Step.{bytes, roomAfter}
 use Rattle.rules.specs.Whole.{view, pack}
@@ -21,6 +23,10 @@ use Rattle.rules.proofs.WholeLaws.{view-pack}
 use Rattle.table.specs.Moved.{movedOf}
 use Rattle.supervisor.specs.Taken.{Stands, itemOf, AllThere, WokenAs}
 use Rattle.supervisor.proofs.MoveLaws.{stands-pack, moved-packed}
+
+-- 124 bytes are room for what stands in an array
+pub in-room : (a : List ℕ) (n : ℕ) → length a ≡ 31 → 124 ≤ n → length (line a) * 4 ≤ n
+in-room a n l h = omega (arith, length-line a, l, h)
 
 pub four : (xs : List ℕ) → 4 ≤ length xs → {a b c d : ℕ} → set (set (set (set xs 0 a) 1 b) 2 c) 3 d ≡ a ∷ b ∷ c ∷ d ∷ drop 4 xs
 four [] h = absurd (omega arith)
@@ -37,15 +43,27 @@ pub from-none : (room : List ℕ) (k : ℕ) → roomFrom room k [] ≡ room
 unfolding roomFrom
 from-none room k = take-append-drop k room
 
--- the rest of the room from k on is lent, and an item written at its front
+-- from the front
+pub from-start : (room : List ℕ) (is : List Item) → roomAfter room is ≡ roomFrom room 0 is
+unfolding roomFrom
+from-start room is = refl
+
+-- the rest of the room from k on is lent, and items written at its front
+pub put-items : (room last : List ℕ) (k : ℕ) (is : List Item) → k ≤ length room → last ≡ roomAfter (take (length room - k) (drop k room)) is
+    → putMid k (length room - k) room last ≡ roomFrom room k is
+unfolding roomFrom
+put-items room last k is h e =
+    let l : length (drop k room) ≤ length room - k = simp length-drop (omega arith) in
+    let t : last ≡ roomAfter (drop k room) is = e ∙ ap (λ (r : List ℕ). roomAfter r is) (take-all (length room - k) (drop k room) l) in
+    ap (λ (x : List ℕ). take k room ++ (x ++ drop (length room - k) (drop k room))) t
+    ∙ ap (λ (x : List ℕ). take k room ++ (roomAfter (drop k room) is ++ x)) (drop-of-length-le (drop k room) l)
+    ∙ ap (λ (x : List ℕ). take k room ++ x) (append-nil (roomAfter (drop k room) is))
+
+-- and one item
 pub put-part : (room last : List ℕ) (k : ℕ) (w : Item) → k ≤ length room → last ≡ roomAfter (take (length room - k) (drop k room)) (w ∷ [])
     → putMid k (length room - k) room last ≡ take k room ++ (bytes w ++ drop 4 (drop k room))
-put-part room last k w h e =
-    let l : length (drop k room) ≤ length room - k = simp length-drop (omega arith) in
-    let t : last ≡ bytes w ++ drop 4 (drop k room) = e ∙ ap (λ (r : List ℕ). roomAfter r (w ∷ [])) (take-all (length room - k) (drop k room) l) in
-    ap (λ (x : List ℕ). take k room ++ (x ++ drop (length room - k) (drop k room))) t
-    ∙ ap (λ (x : List ℕ). take k room ++ ((bytes w ++ drop 4 (drop k room)) ++ x)) (drop-of-length-le (drop k room) l)
-    ∙ ap (λ (x : List ℕ). take k room ++ x) (append-nil (bytes w ++ drop 4 (drop k room)))
+unfolding roomFrom
+put-part room last k w h e = put-items room last k (w ∷ []) h e
 
 module _ (room : List ℕ) (k : ℕ) (w : Item) (h : k + 4 ≤ length room) where
   four-on : length (take k room ++ bytes w) ≡ k + 4
@@ -63,6 +81,25 @@ module _ (room : List ℕ) (k : ℕ) (w : Item) (h : k + 4 ≤ length room) wher
 
   pub put-length : length (take k room ++ (bytes w ++ drop 4 (drop k room))) ≡ length room
   put-length = simp (length-append, length-take, length-drop) (omega arith)
+
+-- items written behind those before them
+pub from-length : (is : List Item) (room : List ℕ) (k : ℕ) → k + length is * 4 ≤ length room → length (roomFrom room k is) ≡ length room
+from-length [] room k h = ap length (from-none room k)
+from-length (w ∷ is) room k h =
+    let fit : k + 4 ≤ length room = omega arith in
+    let p = put-length room k w fit in
+    ap length (put-on room k w fit is) ∙ from-length is (take k room ++ (bytes w ++ drop 4 (drop k room))) (k + 4) (omega (arith, h, p)) ∙ p
+
+pub from-append : (is js : List Item) (room : List ℕ) (k : ℕ) → k + length is * 4 ≤ length room → roomFrom room k (is ++ js) ≡ roomFrom (roomFrom room k is) (k + length is * 4) js
+from-append [] js room k h = let z : k + 0 * 4 ≡ k = omega arith in rw (from-none room k, z)
+from-append (w ∷ is) js room k h =
+    let fit : k + 4 ≤ length room = omega arith in
+    let p = put-length room k w fit in
+    let z : k + 4 + length is * 4 ≡ k + suc (length is) * 4 = omega arith in
+    put-on room k w fit (is ++ js)
+    ∙ from-append is js (take k room ++ (bytes w ++ drop 4 (drop k room))) (k + 4) (omega (arith, h, p))
+    ∙ ap (λ (r : List ℕ). roomFrom r (k + 4 + length is * 4) js) (sym (put-on room k w fit is))
+    ∙ ap (λ (j : ℕ). roomFrom (roomFrom room k (w ∷ is)) j js) z
 
 -- i of the list are woken, their items are written, and the rest is to do
 pub record Going (v : State) (failed : Bool) (l : List ℕ) (room₀ : List ℕ) (n : Supervisor) (room : List ℕ) (i : ℕ) (rest : List ℕ) : Type 0 where
@@ -88,10 +125,11 @@ module _ (v : State) (failed : Bool) (l : List ℕ) (room₀ : List ℕ) where
       }
 
   pub going-on : (n m : Supervisor) (room last : List ℕ) (i t : ℕ) (rest ys : List ℕ) (w : Item) → Going v failed l room₀ n room i rest → rest ≡ t ∷ ys → w ≡ itemOf v failed t
-      → last ≡ roomAfter (take (length room - i * 4) (drop (i * 4) room)) (w ∷ []) → m ≡ movedOf n t Ready Off → i < 31 → 124 ≤ length room₀
+      → last ≡ roomAfter (take (length room - i * 4) (drop (i * 4) room)) (w ∷ []) → m ≡ movedOf n t Ready Off → length l * 4 ≤ length room₀
       → Going v failed l room₀ m (putMid (i * 4) (length room - i * 4) room last) (i + 1) ys
-  going-on n m room last i t rest ys w g q ew el em hi hr =
+  going-on n m room last i t rest ys w g q ew el em hr =
       let len = g .long in
+      let fit : i * 4 + 4 ≤ length room = omega (arith, g .number, ap length q, len, hr) in
       let here = g .there t (rw (q, eq-eqb t t refl) (omega arith)) in
       let st = wake (view n) t in
       let snd = wake-sound (view n) t (here .0) (here .1) (g .stands .sound) in

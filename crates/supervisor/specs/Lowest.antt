@@ -7,7 +7,7 @@ use lib.Dec.{eqb, ltb, leb}
 use Rattle.lists.specs.Lists.{if_then_else_}
 use Rattle.rules.specs.State.{State, placeOf, isQueued, partnerOf, entryOf, opens}
 use Rattle.rules.specs.declared.Place.{Place}
-use Rattle.supervisor.specs.declared.select.Caller.{Caller}
+use Rattle.supervisor.specs.declared.callers.Caller.{Caller}
 
 -- the open entry that a task in place p has called at task t; 9 where there is none
 abbrev pub openCall : ℕ → ℕ → Place → ℕ

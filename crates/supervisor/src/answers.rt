@@ -12,6 +12,7 @@ pub struct Taken {
     pub ended: u8,
 }
 
+// The call is refused: the state stays, and all other numbers are 0.
 pub fn refused_by(s: Supervisor, n: u8) -> Taken
     ensures { λ r. ⌜ r ≡ record { state = s; refusal = n; answer = none; ended = 0 } ⌝ }
 {
@@ -28,6 +29,7 @@ pub fn refused_by(s: Supervisor, n: u8) -> Taken
     }
 }
 
+// The call is taken: s is the state afterwards.
 pub fn answered(s: Supervisor, t: u8, result: u8, entry: u8, partner: u8, ended: u8) -> Taken
     ensures { λ r. ⌜ r ≡ record { state = s; refusal = 0; answer = item t result entry partner; ended = ended } ⌝ }
 {

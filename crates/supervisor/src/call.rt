@@ -11,6 +11,14 @@ use super::answers::answered;
 use super::answers::refused_by;
 use super::answers::ticks_of;
 use super::ended::put;
+use super::numbers::ACCEPTED;
+use super::numbers::CALL_EXPIRED;
+use super::numbers::NO_ENTRY;
+use super::numbers::NO_TARGET;
+use super::numbers::NO_TASK;
+use super::numbers::NOT_NOW;
+use super::numbers::TASKING_ERROR;
+use super::numbers::WAITS;
 use calls::CallMode;
 use rules::Item;
 use rules::Place;
@@ -23,8 +31,6 @@ use table::moves::moved;
 use table::place::accepts_at;
 use table::place::is_between;
 use table::place::is_completed;
-use table::queues::Test;
-use table::queues::picked;
 use table::tasks::task_of;
 
 // Task t, which is running, queues on entry e of task g.
@@ -32,19 +38,6 @@ fn enqueued(s: Supervisor, t: u8, g: u8, e: u8, w: Timer) -> Taken
     requires { ⌜ Stands s × (t ≤ length (view s .tasks)) ⌝ }
     ensures { λ r. ⌜ r ≡ takenOf s (enqueue (view s) t g e w) ⌝ }
 {
-    let callers = s.callers;
-    let q = picked(
-        s,
-        callers,
-        Test::QueuedOn {
-            target: g,
-            entry: e,
-        },
-    );
-    let n = lines::len(q);
-    if n >= 31 {
-        return refused_by(s, 10);
-    }
     let m = moved(
         s,
         t,
@@ -54,7 +47,7 @@ fn enqueued(s: Supervisor, t: u8, g: u8, e: u8, w: Timer) -> Taken
         }),
         w,
     );
-    answered(m, t, 0, 0, 0, 0)
+    answered(m, t, WAITS, 0, 0, 0)
 }
 
 // The target is not there to accept: the caller waits, or not, as the mode says.
@@ -67,15 +60,16 @@ fn call_busy(s: Supervisor, t: u8, g: u8, e: u8, m: CallMode) -> Taken
         CallMode::Timed(d) => {
             let n = ticks_of(d);
             if n == 0 {
-                return answered(s, t, 3, e, g, 0);
+                return answered(s, t, CALL_EXPIRED, e, g, 0);
             }
             let w = Timer::Due(std::num::wrapping_add_u32(s.clock, n));
             enqueued(s, t, g, e, w)
         }
-        CallMode::Conditional => answered(s, t, 8, e, g, 0),
+        CallMode::Conditional => answered(s, t, NOT_NOW, e, g, 0),
     }
 }
 
+// The running task calls entry e of task g: it is held at once, waits in that entry's queue, or does not wait.
 pub fn call(s: Supervisor, g: u8, e: u8, m: CallMode, room: &mut [u8]) -> Taken
     requires { ⌜ Stands s × (124 ≤ length (now room)) ⌝ }
     ensures { λ r. ⌜ r ≡ takenOf s (takeCall (view s) (Call g e m)) ⌝ }
@@ -83,32 +77,32 @@ pub fn call(s: Supervisor, g: u8, e: u8, m: CallMode, room: &mut [u8]) -> Taken
 {
     let t = running(s);
     if t == 0 {
-        return refused_by(s, 4);
+        return refused_by(s, NO_TASK);
     }
     if !is_between(g, s.created) {
-        return refused_by(s, 5);
+        return refused_by(s, NO_TARGET);
     }
     let x = task_of(s, g);
     if !is_between(e, x.entries) {
-        return refused_by(s, 6);
+        return refused_by(s, NO_ENTRY);
     }
     let p = x.place;
     if is_completed(p) {
-        return answered(s, t, 4, e, g, 0);
+        return answered(s, t, TASKING_ERROR, e, g, 0);
     }
     if accepts_at(p, e) {
         put(
             room,
             Item {
                 task: g,
-                result: 5,
+                result: ACCEPTED,
                 entry: e,
                 partner: t,
             },
         );
         let n = moved(s, g, Place::Ready, Timer::Off);
         let k = met(n, g, t, e);
-        return answered(k, t, 0, 0, 0, 1);
+        return answered(k, t, WAITS, 0, 0, 1);
     }
     call_busy(s, t, g, e, m)
 }

@@ -7,20 +7,24 @@ ghost use Rattle.supervisor.specs.Taken.{Stands, takenOf};
 use super::answers::Taken;
 use super::answers::answered;
 use super::answers::refused_by;
+use super::numbers::BAD_FIELD;
+use super::numbers::DONE;
+use super::numbers::FULL;
 use rules::Supervisor;
 use table::place::in_range;
 use table::tasks::fresh_task;
 use table::tasks::with_task;
 
+// A new ready task.
 pub fn create(s: Supervisor, priority: u8, entries: u8) -> Taken
     requires { ⌜ Stands s ⌝ }
     ensures { λ r. ⌜ r ≡ takenOf s (takeCall (view s) (Create priority entries)) ⌝ }
 {
     if !in_range(priority, entries) {
-        return refused_by(s, 3);
+        return refused_by(s, BAD_FIELD);
     }
     if s.created >= 31 {
-        return refused_by(s, 9);
+        return refused_by(s, FULL);
     }
     let t = s.created + 1;
     let ready = s.ready;
@@ -30,5 +34,5 @@ pub fn create(s: Supervisor, priority: u8, entries: u8) -> Taken
     n.ready = ready_now;
     let x = fresh_task(priority, entries);
     let m = with_task(n, t, x);
-    answered(m, t, 10, 0, 0, 0)
+    answered(m, t, DONE, 0, 0, 0)
 }

@@ -8,26 +8,30 @@ use super::answers::Taken;
 use super::answers::answered;
 use super::answers::refused_by;
 use super::answers::ticks_of;
+use super::numbers::ELAPSED;
+use super::numbers::NO_TASK;
+use super::numbers::WAITS;
 use rules::Place;
 use rules::Supervisor;
 use rules::Timer;
 use table::dispatch::running;
 use table::moves::moved;
 
+// Above 0, the running task waits until the d-th tick. Otherwise it moves to the tail of its level at once.
 pub fn delay(s: Supervisor, d: i32) -> Taken
     requires { ⌜ Stands s ⌝ }
     ensures { λ r. ⌜ r ≡ takenOf s (takeCall (view s) (Delay d)) ⌝ }
 {
     let t = running(s);
     if t == 0 {
-        return refused_by(s, 4);
+        return refused_by(s, NO_TASK);
     }
     let n = ticks_of(d);
     if n == 0 {
         let left = moved(s, t, Place::Ready, Timer::Off);
-        return answered(left, t, 1, 0, 0, 0);
+        return answered(left, t, ELAPSED, 0, 0, 0);
     }
     let w = Timer::Due(std::num::wrapping_add_u32(s.clock, n));
     let left = moved(s, t, Place::Delayed, w);
-    answered(left, t, 0, 0, 0, 0)
+    answered(left, t, WAITS, 0, 0, 0)
 }

@@ -10,6 +10,10 @@ use super::answers::Taken;
 use super::answers::answered;
 use super::answers::refused_by;
 use super::ended::put;
+use super::numbers::DONE;
+use super::numbers::NO_TASK;
+use super::numbers::NOT_SERVING;
+use super::numbers::SERVED;
 use rules::Item;
 use rules::Supervisor;
 use table::dispatch::running;
@@ -19,6 +23,7 @@ use table::queues::Test;
 use table::queues::picked;
 use table::tasks::task_of;
 
+// The caller held last becomes ready.
 pub fn end(s: Supervisor, room: &mut [u8]) -> Taken
     requires { ⌜ Stands s × (124 ≤ length (now room)) ⌝ }
     ensures { λ r. ⌜ r ≡ takenOf s (takeCall (view s) End) ⌝ }
@@ -26,13 +31,13 @@ pub fn end(s: Supervisor, room: &mut [u8]) -> Taken
 {
     let t = running(s);
     if t == 0 {
-        return refused_by(s, 4);
+        return refused_by(s, NO_TASK);
     }
     let held = s.held;
     let l = picked(s, held, Test::HeldBy { holder: t });
     let k = lines::last_of(l);
     if k == 0 {
-        return refused_by(s, 7);
+        return refused_by(s, NOT_SERVING);
     }
     let x = task_of(s, k);
     let p = x.place;
@@ -40,11 +45,11 @@ pub fn end(s: Supervisor, room: &mut [u8]) -> Taken
         room,
         Item {
             task: k,
-            result: 2,
+            result: SERVED,
             entry: entry_of(p),
             partner: t,
         },
     );
     let n = parted(s, t, k);
-    answered(n, t, 10, 0, 0, 1)
+    answered(n, t, DONE, 0, 0, 1)
 }

@@ -1,5 +1,5 @@
 // Ended waits: their items in the lent room, and the tasks that wake.
-ghost use Prim.Native.Nat.{_≤_};
+ghost use Prim.Native.Nat.{_*_, _≤_};
 ghost use lib.ListN.{length};
 ghost use mathlib.Core.List.{[], _∷_};
 ghost use mathlib.Core.Path.{_≡_};
@@ -7,6 +7,7 @@ ghost use Rattle.lists.specs.Line.{line};
 ghost use Rattle.rules.specs.Step.{roomAfter};
 ghost use Rattle.rules.specs.Whole.{view};
 ghost use Rattle.supervisor.specs.Taken.{Stands, reasonOf, itemAt, AllThere, WokenAs};
+use super::numbers::TASKING_ERROR;
 use rules::Item;
 use rules::Place;
 use rules::Supervisor;
@@ -33,7 +34,7 @@ pub fn put(room: &mut [u8], w: Item)
 fn reason(failed: bool, p: Place) -> u8
     ensures { λ r. ⌜ r ≡ reasonOf failed p ⌝ }
 {
-    if failed { 4 } else { expiry_of(p) }
+    if failed { TASKING_ERROR } else { expiry_of(p) }
 }
 
 // The item of a wait that ends: task k waited in place p.
@@ -56,7 +57,7 @@ pub struct Woken {
 
 // Each task of the line becomes ready, and its item is written directly behind the one before.
 pub fn wake_all(s: Supervisor, l: [u8; 31], failed: bool, room: &mut [u8]) -> Woken
-    requires { ⌜ Stands s × (124 ≤ length (now room)) × AllThere (view s) (line l) ⌝ }
+    requires { ⌜ Stands s × (length (line l) * 4 ≤ length (now room)) × AllThere (view s) (line l) ⌝ }
     ensures { λ r. ⌜ WokenAs (view s) failed (line l) (r .state) (r .count) (now (room .entry)) (now (room .exit)) ⌝ }
 {
     let mut n = s;

@@ -3,14 +3,17 @@ ghost use Prim.Native.Nat.{_≤_};
 ghost use lib.ListN.{length};
 ghost use mathlib.Core.Path.{_≡_};
 ghost use Rattle.calls.specs.declared.Call.the-variants.{Finish};
-ghost use Rattle.lists.specs.Line.{pad};
-ghost use Rattle.rules.specs.Step.{takeCall, roomAfter, queuedOn};
+ghost use Rattle.rules.specs.Step.{takeCall, roomAfter};
 ghost use Rattle.rules.specs.Whole.{view};
 ghost use Rattle.supervisor.specs.Taken.{Stands, takenOf, endedBy};
 use super::answers::Taken;
 use super::answers::answered;
 use super::answers::refused_by;
+use super::callers::queued_on;
 use super::ended::wake_all;
+use super::numbers::DONE;
+use super::numbers::NO_TASK;
+use super::numbers::STILL_SERVING;
 use rules::Place;
 use rules::Supervisor;
 use rules::Timer;
@@ -19,29 +22,7 @@ use table::moves::moved;
 use table::queues::Test;
 use table::queues::picked;
 
-// All callers queued on task t, entry 1 first, each queue from its head.
-fn queued_on(s: Supervisor, t: u8) -> [u8; 31]
-    ensures { λ r. ⌜ r ≡ pad (queuedOn (view s) t) ⌝ }
-{
-    let callers = s.callers;
-    let mut r = [0u8; 31];
-    let mut e: u8 = 1;
-    while e < 9 {
-        let q = picked(
-            s,
-            callers,
-            Test::QueuedOn {
-                target: t,
-                entry: e,
-            },
-        );
-        let next = lines::joined_all(r, q);
-        r = next;
-        e += 1;
-    }
-    r
-}
-
+// The running task completes, and all callers queued on it become ready.
 pub fn finish(s: Supervisor, room: &mut [u8]) -> Taken
     requires { ⌜ Stands s × (124 ≤ length (now room)) ⌝ }
     ensures { λ r. ⌜ r ≡ takenOf s (takeCall (view s) Finish) ⌝ }
@@ -49,17 +30,17 @@ pub fn finish(s: Supervisor, room: &mut [u8]) -> Taken
 {
     let t = running(s);
     if t == 0 {
-        return refused_by(s, 4);
+        return refused_by(s, NO_TASK);
     }
     let held = s.held;
     let h = picked(s, held, Test::HeldBy { holder: t });
     let k = lines::len(h);
     if k > 0 {
-        return refused_by(s, 8);
+        return refused_by(s, STILL_SERVING);
     }
     let l = queued_on(s, t);
     let w = wake_all(s, l, true, room);
     let n = w.state;
     let m = moved(n, t, Place::Completed, Timer::Off);
-    answered(m, t, 10, 0, 0, w.count)
+    answered(m, t, DONE, 0, 0, w.count)
 }

@@ -1,11 +1,14 @@
 // The supervisor: an empty one, its step, its questions.
+mod advance;
 mod answers;
 mod call;
+mod callers;
 mod create;
 mod delay;
 mod end;
 mod ended;
 mod finish;
+mod numbers;
 mod select;
 mod tick;
 
@@ -19,6 +22,8 @@ ghost use Rattle.rules.specs.Whole.{steppedOf, view, pack, soundWhole, stepWhol
 ghost use Rattle.supervisor.specs.Taken.{Stands, takenOf, endedBy};
 use answers::Taken;
 use calls::Call;
+use numbers::BAD_STATE;
+use numbers::SHORT_ROOM;
 use rules::Answer;
 use rules::Count;
 use rules::Known;
@@ -32,6 +37,7 @@ use table::queues::picked;
 use table::tasks::blank_task;
 use table::tasks::task_of;
 
+// The call, in a sound state with room enough.
 fn take_call(s: Supervisor, c: Call, room: &mut [u8]) -> Taken
     requires { ⌜ Stands s × (124 ≤ length (now room)) ⌝ }
     ensures { λ r. ⌜ r ≡ takenOf s (takeCall (view s) c) ⌝ }
@@ -49,9 +55,11 @@ fn take_call(s: Supervisor, c: Call, room: &mut [u8]) -> Taken
         Call::End => end::end(s, room),
         Call::Finish => finish::finish(s, room),
         Call::Tick => tick::tick(s, room),
+        Call::Advance(n) => advance::advance(s, n, room),
     }
 }
 
+// The step is refused before the call is looked at.
 fn declined(s: Supervisor, n: u8) -> Stepped
     ensures { λ r. ⌜ r ≡ record { state = s; answer = record { refusal = n; result = 0; task = 0; entry = 0; partner = 0; ended = 0; next = 0 } } ⌝ }
 {
@@ -75,10 +83,10 @@ pub fn step(s: Supervisor, c: Call, room: &mut [u8]) -> Stepped
     ensures room { λ r. ⌜ now (room .exit) ≡ roomAfter (now (room .entry)) (stepWhole s c (length (now (room .entry))) .ended) ⌝ }
 {
     if room.len() < 124 {
-        return declined(s, 1);
+        return declined(s, SHORT_ROOM);
     }
     if !is_sound(s) {
-        return declined(s, 2);
+        return declined(s, BAD_STATE);
     }
     let k = take_call(s, c, room);
     let after = k.state;
@@ -150,7 +158,7 @@ pub fn count(s: Supervisor, t: u8, e: u8) -> Count
         };
     }
     Count {
-        refusal: 2,
+        refusal: BAD_STATE,
         count: 0,
     }
 }
@@ -168,7 +176,7 @@ pub fn callable(s: Supervisor, t: u8) -> Known
         };
     }
     Known {
-        refusal: 2,
+        refusal: BAD_STATE,
         yes: false,
     }
 }

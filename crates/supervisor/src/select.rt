@@ -3,15 +3,21 @@ ghost use Prim.Native.Nat.{_≤_};
 ghost use lib.ListN.{length};
 ghost use mathlib.Core.Path.{_≡_};
 ghost use Rattle.calls.specs.declared.Call.the-variants.{Select};
-ghost use Rattle.lists.specs.Line.{line};
 ghost use Rattle.rules.specs.Step.{takeCall, selectNone};
 ghost use Rattle.rules.specs.Whole.{view};
-ghost use Rattle.supervisor.specs.Lowest.{openCall, callOf, nobody, lowerOf, lowestOf};
 ghost use Rattle.supervisor.specs.Taken.{Stands, takenOf};
 use super::answers::Taken;
 use super::answers::answered;
 use super::answers::refused_by;
 use super::answers::ticks_of;
+use super::callers::lowest;
+use super::numbers::ACCEPTED;
+use super::numbers::DELAY_TAKEN;
+use super::numbers::ELSE_TAKEN;
+use super::numbers::NO_ENTRY;
+use super::numbers::NO_TASK;
+use super::numbers::PROGRAM_ERROR;
+use super::numbers::WAITS;
 use calls::SelectMode;
 use rules::Offer;
 use rules::Place;
@@ -20,63 +26,8 @@ use rules::Timer;
 use table::dispatch::running;
 use table::moves::met;
 use table::moves::moved;
-use table::place::entry_of;
-use table::place::is_between;
-use table::place::is_open;
-use table::place::is_queued;
 use table::place::is_too_wide;
-use table::place::partner_of;
-use table::tasks::index_of;
-use table::tasks::shown;
 use table::tasks::task_of;
-
-// A caller, and the open entry that it has called; entry 9, which no task has, stands for none.
-pub struct Caller {
-    pub task: u8,
-    pub entry: u8,
-}
-
-// The open entry that a task in place p has called at task t; 9 where there is none.
-fn open_call(t: u8, o: u8, p: Place) -> u8
-    ensures { λ r. ⌜ r ≡ openCall t o p ⌝ }
-{
-    let e = entry_of(p);
-    if is_queued(p) & (partner_of(p) == t) & is_between(e, 8) & is_open(o, e) {
-        e
-    } else {
-        9
-    }
-}
-
-// The caller of the lower entry; of the same entry the earlier one.
-fn lower(b: Caller, c: u8, e: u8) -> Caller
-    ensures { λ r. ⌜ r ≡ lowerOf b c e ⌝ }
-{
-    if e < b.entry {
-        Caller { task: c, entry: e }
-    } else {
-        b
-    }
-}
-
-// The longest-waiting caller of the lowest open entry of task t that has one.
-fn lowest(s: Supervisor, t: u8, o: u8) -> Caller
-    ensures { λ r. ⌜ r ≡ lowestOf (callOf (view s) t o) nobody (line (s .callers)) ⌝ }
-{
-    let mut b = Caller { task: 0, entry: 9 };
-    for i in 0..31 {
-        let c = s.callers[i];
-        if c == 0 {
-            return b;
-        }
-        let at = index_of(c);
-        let k = s.tasks[at];
-        let x = shown(s.created, c, k);
-        let p = x.place;
-        b = lower(b, c, open_call(t, o, p));
-    }
-    b
-}
 
 // No open entry has a caller: the task waits, or not, as the mode says.
 fn select_none(s: Supervisor, t: u8, o: u8, m: SelectMode) -> Taken
@@ -86,21 +37,21 @@ fn select_none(s: Supervisor, t: u8, o: u8, m: SelectMode) -> Taken
     match m {
         SelectMode::Plain => {
             if o == 0 {
-                return answered(s, t, 9, 0, 0, 0);
+                return answered(s, t, PROGRAM_ERROR, 0, 0, 0);
             }
             let n = moved(s, t, Place::Accepting(Offer { opens: o }), Timer::Off);
-            answered(n, t, 0, 0, 0, 0)
+            answered(n, t, WAITS, 0, 0, 0)
         }
         SelectMode::Delay(d) => {
             let k = ticks_of(d);
             if k == 0 {
-                return answered(s, t, 6, 0, 0, 0);
+                return answered(s, t, DELAY_TAKEN, 0, 0, 0);
             }
             let w = Timer::Due(std::num::wrapping_add_u32(s.clock, k));
             let n = moved(s, t, Place::Accepting(Offer { opens: o }), w);
-            answered(n, t, 0, 0, 0, 0)
+            answered(n, t, WAITS, 0, 0, 0)
         }
-        SelectMode::Else => answered(s, t, 7, 0, 0, 0),
+        SelectMode::Else => answered(s, t, ELSE_TAKEN, 0, 0, 0),
     }
 }
 
@@ -111,16 +62,16 @@ pub fn select(s: Supervisor, o: u8, m: SelectMode) -> Taken
 {
     let t = running(s);
     if t == 0 {
-        return refused_by(s, 4);
+        return refused_by(s, NO_TASK);
     }
     let x = task_of(s, t);
     if is_too_wide(o, x.entries) {
-        return refused_by(s, 6);
+        return refused_by(s, NO_ENTRY);
     }
     let b = lowest(s, t, o);
     if b.entry == 9 {
         return select_none(s, t, o, m);
     }
     let n = met(s, t, b.task, b.entry);
-    answered(n, t, 5, b.entry, b.task, 0)
+    answered(n, t, ACCEPTED, b.entry, b.task, 0)
 }

@@ -1,9 +1,9 @@
 -- Laws for the leaf functions: the table of tasks, and lines.
 -- Assumes nothing.
-use Prim.Native.Nat.{ℕ, zero, suc, _+_, _-_, _≤_, _<_}
+use Prim.Native.Nat.{ℕ, zero, suc, _-_, _≤_, _<_}
 use mathlib.Core.Path.{_≡_, refl, sym, ap, _∙_}
-use mathlib.Core.Bool.{Bool, true, false, not}
-use mathlib.Core.List.{List, [], _∷_, _++_, map}
+use mathlib.Core.Bool.{Bool, true}
+use mathlib.Core.List.{List, [], _∷_, map}
 use native.Mathlib.Numerals.{unary-clauses}
 use native.Mathlib.Omega.{arith}
 use lib.Dec.{ltb, leb}
@@ -14,7 +14,7 @@ use Rattle.lists.specs.Line.{line, pad, insertAt, slotOf}
 use Rattle.lists.proofs.ListLaws.{by-bool}
 use Rattle.lists.proofs.Tests.{and-first, and-second}
 use Rattle.lists.proofs.LineLaws.{left-over, insert-slot}
-use Rattle.lists.specs.Lists.{if_then_else_, filter, remove, insert, first, last, rejoin}
+use Rattle.lists.specs.Lists.{if_then_else_, remove, rejoin}
 use Rattle.rules.specs.State.{blank, nth, setNth, taskOf, isReady, isQueued, isHeld, retime, ticksLeft, placed}
 use Rattle.rules.specs.Whole.{view}
 use Rattle.rules.specs.declared.Supervisor.{Supervisor}

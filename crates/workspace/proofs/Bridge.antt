@@ -4,9 +4,8 @@ use mathlib.Core.Path.{_≡_, refl, sym, _∙_, ap, subst}
 use Prim.Native.Nat.{ℕ, _+_, _-_, _%_, _<_, _≤_, min}
 use native.Mathlib.Omega.{arith}
 use native.Mathlib.Nat.{le-trans}
-use mathlib.Core.Bool.{Bool, true, false, _&&_}
+use mathlib.Core.Bool.{true, false, _&&_}
 use mathlib.Core.List.{List, [], _∷_, _++_}
-use mathlib.Core.Logic.{_⊎_, inl, inr}
 use lib.ListN.{length, getD, set, take, drop, replicate}
 use lib.Dec.{leb, ltb, eqb}
 use borrow.Author.Tests.{leb-true, ltb-true, lt-ltb, le-ltb}
@@ -14,17 +13,17 @@ use Rattle.workspace.specs.declared.Stretch.{Stretch}
 use Rattle.workspace.specs.declared.Used.{Used}
 use Rattle.workspace.specs.declared.Look.{Look}
 use Rattle.workspace.specs.declared.Done.{Done}
-use Rattle.workspace.specs.Rules.{if_then_else_, units, stretch, none, end, every, isApart, hasPlaces, rulesKept}
-use Rattle.workspace.specs.Operations.{placed, fits, fitStart, cut, startsAt, lengthAt, without, joined, Outcome, refused, took, freshOf, requestOf, releaseOf, tableAfter, blocksAfter, freeAfter, answerOf, unused}
+use Rattle.workspace.specs.Rules.{if_then_else_, units, stretch, none, end, hasPlaces, rulesKept}
+use Rattle.workspace.specs.Operations.{placed, fits, fitStart, cut, startsAt, lengthAt, without, joined, Outcome, refused, took, freshOf, requestOf, releaseOf, blocksAfter, freeAfter, answerOf, unused}
 use Rattle.workspace.specs.declared.Test.the-variants.{StartsAt, StartsBehind, HasUnits}
 use Rattle.workspace.specs.Places.{placeOf, passesOf, removeAt, insertAt}
 use Rattle.workspace.specs.Seen.{tableOf, laid, lookOf}
-use Rattle.workspace.specs.Steps.{hasSeen, keepsSeen, unlessRefused, doneAs, freshSeen, requestRefusal, grantSeen, requestSeen, blockAt, releaseRefusal, giveBack, countBack, freeSeen, releaseSeen}
+use Rattle.workspace.specs.Steps.{keepsSeen, unlessRefused, doneAs, freshSeen, requestRefusal, grantSeen, requestSeen, blockAt, releaseRefusal, giveBack, countBack, freeSeen, releaseSeen}
 use Rattle.workspace.proofs.Basics.{cases, and-left, and-right}
-use Rattle.workspace.proofs.Pieces.{Sound, suffice}
+use Rattle.workspace.proofs.Pieces.{suffice}
 use Rattle.workspace.proofs.Taking.{request-sound}
 use Rattle.workspace.proofs.Giving.{release-sound}
-use Rattle.workspace.proofs.Padded.{pad, pad-placed, pad-cut, fit-start, fit-there, fit-nowhere, find-in, find-out, getD-pad, take-pad, table-is, cut-length, placed-length, cutAt, starts-there, starts-nowhere, block-is, pad-without, without-length}
+use Rattle.workspace.proofs.Padded.{pad, pad-placed, pad-cut, fit-start, fit-there, fit-nowhere, find-in, find-out, getD-pad, take-pad, table-is, cut-length, placed-length, starts-there, starts-nowhere, block-is, pad-without, without-length}
 use Rattle.workspace.proofs.Found.{found-long, free-inside, free-apart, block as given-back, block-long, block-inside, block-clear}
 use Rattle.workspace.proofs.Joining.{pad-joined, count-joined}
 use Rattle.workspace.proofs.SeenLaws.{laid-own, laid-list}

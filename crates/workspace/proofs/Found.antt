@@ -1,22 +1,22 @@
 -- What the rules say of one block or free stretch that is found.
 -- Assumes nothing.
-use mathlib.Core.Path.{_≡_, refl, sym, ap, subst}
-use Prim.Native.Nat.{ℕ, zero, suc, _+_, _<_, _≤_}
+use mathlib.Core.Path.{_≡_, sym, subst}
+use Prim.Native.Nat.{ℕ, zero, suc, _<_, _≤_}
 use native.Mathlib.Nat.{not-suc-le-zero, le-of-suc-le-suc}
 use mathlib.Core.Bool.{Bool, true, false, true≢false}
-use mathlib.Core.List.{List, [], _∷_, _++_}
-use mathlib.Core.Logic.{_⊎_, inl, inr}
+use mathlib.Core.List.{List, [], _∷_}
+use mathlib.Core.Logic.{inl, inr}
 use lib.ListN.{length, getD}
-use lib.Dec.{leb, ltb, eqb}
+use lib.Dec.{leb, eqb}
 use borrow.Author.Tests.{ltb-true, leb-true, eqb-true}
 use Rattle.workspace.specs.declared.Stretch.{Stretch}
-use Rattle.workspace.specs.Rules.{every, pairs, units, stretch, none, end, isLong, isInside, isApart}
+use Rattle.workspace.specs.Rules.{every, units, stretch, none, end, isLong, isInside, isApart}
 use Rattle.workspace.specs.Operations.{fits, startsAt, lengthAt}
 use Rattle.workspace.specs.declared.Test.the-variants.{HasUnits}
 use Rattle.workspace.specs.Places.{placeOf, passesOf}
 use Rattle.workspace.proofs.Basics.{cases, ways, and-left, and-right}
 use Rattle.workspace.proofs.Pieces.{Sound}
-use Rattle.workspace.proofs.Words.{Words, kept-words, sound-kept, All, all-left, all-right, across, pairs-across, either, Chain, free-chain}
+use Rattle.workspace.proofs.Words.{Words, kept-words, sound-kept, All, all-left, all-right, pairs-across, either, Chain, free-chain}
 use Rattle.workspace.proofs.Joining.{Clear}
 
 -- the block that starts at a passes every test that all blocks pass

@@ -1,15 +1,13 @@
 -- A release on pieces: a taken piece becomes spare, and is merged with spare neighbours. It keeps the rules.
 -- Assumes nothing.
 use mathlib.Core.Path.{_≡_, refl, sym, _∙_, ap, subst}
-use Prim.Native.Nat.{ℕ, zero, suc, _+_, _-_, _<_, _≤_, zero-le}
-use native.Mathlib.Nat.{le-trans, le-refl, lt-of-lt-of-le, eq-or-lt-of-le}
+use Prim.Native.Nat.{ℕ, _+_, _-_, _<_, _≤_}
 use native.Mathlib.Omega.{arith}
 use mathlib.Core.Bool.{Bool, true, false, true≢false}
 use mathlib.Core.List.{List, [], _∷_}
-use mathlib.Core.Logic.{_⊎_, inl, inr}
 use lib.ListN.{length}
-use lib.Dec.{leb, ltb, eqb}
-use borrow.Author.Tests.{ltb-true, ltb-false, leb-true, leb-false, eqb-true, eqb-false, lt-ltb, le-ltb, le-leb, lt-leb, eq-eqb, ne-eqb}
+use lib.Dec.{eqb}
+use borrow.Author.Tests.{eqb-true, lt-ltb, le-ltb, eq-eqb, ne-eqb}
 use Rattle.workspace.specs.declared.Stretch.{Stretch}
 use Rattle.workspace.specs.Rules.{if_then_else_, stretch, end}
 use Rattle.workspace.specs.Operations.{startsAt, lengthAt, without, joined}

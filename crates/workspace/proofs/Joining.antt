@@ -4,17 +4,17 @@ use mathlib.Core.Path.{_≡_, refl, sym, _∙_, ap, subst}
 use Prim.Native.Nat.{ℕ, zero, suc, _+_, _-_, _%_, _<_, _≤_, min}
 use native.Mathlib.Nat.{not-suc-le-zero, le-of-suc-le-suc}
 use native.Mathlib.Omega.{arith}
-use mathlib.Core.Bool.{Bool, true, false, _&&_, true≢false}
+use mathlib.Core.Bool.{Bool, true, false, _&&_}
 use mathlib.Core.List.{List, [], _∷_, _++_}
-use mathlib.Core.Logic.{_⊎_, inl, inr}
-use lib.ListN.{length, getD, replicate}
-use lib.Dec.{leb, ltb, eqb}
-use borrow.Author.Tests.{ltb-true, ltb-false, eqb-true, eqb-false, lt-ltb, le-ltb, eq-eqb, ne-eqb}
+use mathlib.Core.Logic.{_⊎_}
+use lib.ListN.{length, getD}
+use lib.Dec.{ltb, eqb}
+use borrow.Author.Tests.{ltb-true, ltb-false, eqb-true, lt-ltb, eq-eqb, ne-eqb}
 use Rattle.workspace.specs.declared.Stretch.{Stretch}
 use Rattle.workspace.specs.Rules.{if_then_else_, units, stretch, none, end}
 use Rattle.workspace.specs.Operations.{joined}
 use Rattle.workspace.specs.declared.Test.the-variants.{StartsBehind}
-use Rattle.workspace.specs.Places.{placeOf, passesOf, over, removeAt, insertAt}
+use Rattle.workspace.specs.Places.{placeOf, passesOf, insertAt}
 use Rattle.workspace.specs.Steps.{touchesLow, touchesHigh, wholeAs, give, giveBack, countBack}
 use Rattle.workspace.proofs.Basics.{cases, ways, no}
 use Rattle.workspace.proofs.Pieces.{bit}
@@ -34,13 +34,6 @@ record Gives (b : Stretch) (K k : ℕ) (fs : List Stretch) : Type 0 where
   is-high : touchesHigh b k (pad K fs) ≡ high
   gives : give low high (k - 1) k (wholeAs low high (getD (pad K fs) (k - 1) none) (getD (pad K fs) k none) b) (pad K fs) ≡ pad K (joined b fs)
   counts : length (joined b fs) + bit low + bit high ≡ length fs + 1
-
--- sums that fit
-small : (n : ℕ) → n ≤ units → n % 4294967296 ≡ n
-small n h = omega (arith, h)
-
-sum : (x y z : ℕ) → x + y + z ≤ units → ((x + y) % 4294967296 + z) % 4294967296 ≡ x + y + z
-sum x y z h = omega (arith, h)
 
 pad-first : (K : ℕ) → getD (pad K []) 0 none ≡ none
 pad-first zero = refl

@@ -1,11 +1,11 @@
 -- Tables of 32 places by value: what is seen of them is the tables, and what is done is what is left of them.
 -- Assumes nothing.
-use mathlib.Core.Path.{_≡_, refl, sym, _∙_, ap, subst}
+use mathlib.Core.Path.{_≡_, sym, _∙_, ap, subst}
 use Prim.Native.Nat.{ℕ, _≤_}
 use native.Mathlib.Omega.{arith}
-use mathlib.Core.Bool.{Bool, true, false}
+use mathlib.Core.Bool.{true}
 use mathlib.Core.List.{List}
-use lib.ListN.{length, take, drop, replicate, drop-of-length-le}
+use lib.ListN.{length, take, replicate, drop-of-length-le}
 use lib.Seq.{take-all}
 use Rattle.workspace.specs.declared.Stretch.{Stretch}
 use Rattle.workspace.specs.declared.Table.{Table}
@@ -14,10 +14,10 @@ use Rattle.workspace.specs.declared.Used.{Used}
 use Rattle.workspace.specs.declared.Look.{Look}
 use Rattle.workspace.specs.declared.Done.{Done}
 use Rattle.workspace.specs.declared.Test.the-variants.{HasUnits}
-use Rattle.workspace.specs.Rules.{if_then_else_, every, none, isNone}
+use Rattle.workspace.specs.Rules.{every, none, isNone}
 use Rattle.workspace.specs.Operations.{Outcome, freshOf, requestOf, releaseOf, blocksAfter, freeAfter, answerOf, unused}
 use Rattle.workspace.specs.Owning.{tablesAs, ownedAfter, ownedFresh}
-use Rattle.workspace.specs.Places.{placeOf, passesOf, over}
+use Rattle.workspace.specs.Places.{placeOf, passesOf}
 use Rattle.workspace.specs.Seen.{tableOf, laid, seenAs, lookOf}
 use Rattle.workspace.specs.Steps.{freshSeen, requestSeen, releaseSeen}
 use Rattle.workspace.proofs.PlaceLaws.{over-same}

@@ -7,15 +7,14 @@ use native.Mathlib.Omega.{arith}
 use native.Mathlib.Numerals.{add-one}
 use mathlib.Core.Bool.{Bool, true, false, _&&_, _||_}
 use mathlib.Core.List.{List, [], _∷_, _++_, map}
-use lib.ListN.{length, getD, set, take, drop, replicate, length-map, drop-of-length-le, List·getD-eq-default}
-use lib.Seq.{take-all, set-out, drop-cons}
+use lib.ListN.{length, getD, set, take, drop, replicate, length-map, drop-of-length-le}
+use lib.Seq.{take-all, drop-cons}
 use lib.Dec.{ltb}
 use borrow.Author.Tests.{ltb-true, ltb-false, lt-ltb, le-ltb}
 use Rattle.workspace.specs.declared.Stretch.{Stretch}
-use Rattle.workspace.specs.declared.Table.{Table}
 use Rattle.workspace.proofs.Basics.{cases, and-true}
 use Rattle.workspace.specs.Rules.{if_then_else_, every, none, isNone}
-use Rattle.workspace.specs.Places.{placeOf, passesOf, over, removeAt, insertAt}
+use Rattle.workspace.specs.Places.{placeOf, over, removeAt, insertAt}
 use Rattle.workspace.specs.Seen.{tableOf, noteOf}
 
 pub mapped-long : {A B : Type 0} (f : A → B) (l : List A) (n : ℕ) → length (map f l) ≡ n → length l ≡ n

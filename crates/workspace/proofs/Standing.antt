@@ -1,11 +1,11 @@
 -- Two lent tables that keep the rules: what is seen of them is the list of blocks and the list of free stretches, and the code's check passes exactly there.
 -- Assumes nothing.
-use mathlib.Core.Path.{_≡_, refl, sym, _∙_, ap, subst}
-use Prim.Native.Nat.{ℕ, _+_, _<_, _≤_, min}
+use mathlib.Core.Path.{_≡_, sym, _∙_, ap}
+use Prim.Native.Nat.{ℕ, _≤_, min}
 use native.Mathlib.Omega.{arith}
 use mathlib.Core.Bool.{Bool, true, false, _&&_}
-use mathlib.Core.List.{List, _++_}
-use lib.ListN.{length, take, drop, replicate}
+use mathlib.Core.List.{List}
+use lib.ListN.{length, take, drop}
 use lib.Seq.{length-take-le}
 use lib.Dec.{leb}
 use borrow.Author.Tests.{leb-true, le-leb}

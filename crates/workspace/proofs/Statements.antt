@@ -14,13 +14,11 @@ use native.Mathlib.Omega.{arith}
 use mathlib.Core.Bool.{Bool, true, false, _&&_, true≢false}
 use mathlib.Core.List.{List, [], _∷_, _++_}
 use lib.ListN.{length, take, drop, replicate, length-append}
-use lib.Seq.{length-take-le}
 use lib.Dec.{leb, ltb, eqb}
-use borrow.Author.Tests.{leb-true, leb-false, le-leb, lt-leb, ltb-true, ltb-false, lt-ltb, le-ltb, eq-eqb}
+use borrow.Author.Tests.{leb-true, leb-false, le-leb, lt-leb, ltb-true, lt-ltb, eq-eqb}
 use Rattle.workspace.specs.declared.Stretch.{Stretch}
-use Rattle.workspace.specs.declared.Used.{Used}
-use Rattle.workspace.specs.Rules.{if_then_else_, every, units, stretch, none, isNone, end, isKept, hasPlaces, rulesKept}
-use Rattle.workspace.specs.Operations.{placed, fits, fitStart, cut, startsAt, lengthAt, without, joined, Outcome, refused, took, freshOf, requestOf, releaseOf, tableAfter, NO-SPACE}
+use Rattle.workspace.specs.Rules.{if_then_else_, every, units, stretch, none, isNone, end, isKept, hasPlaces}
+use Rattle.workspace.specs.Operations.{placed, fits, fitStart, cut, startsAt, lengthAt, without, joined, refused, took, freshOf, requestOf, releaseOf, tableAfter, NO-SPACE}
 use Rattle.workspace.specs.Runs.{Area, isSound, Op, ask, give, outcomeOf, after, stepOf, runOf, freshArea, refusalOf, valueOf, givesAll}
 use Rattle.workspace.proofs.Basics.{cases, no, both, and-left, and-right}
 use Rattle.workspace.proofs.Pieces.{Piece, taken, spare, blocksFrom, freeFrom, measure, Good, Sound, suffice, fresh-sound}

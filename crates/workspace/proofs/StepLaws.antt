@@ -1,11 +1,11 @@
 -- The steps whose parts are put together by hand: each law has an equation for each call's result.
 -- Assumes nothing.
-use mathlib.Core.Path.{_≡_, refl, sym, _∙_, ap}
+use mathlib.Core.Path.{_≡_, _∙_}
 use Prim.Native.Nat.{ℕ, _+_, _-_, _%_, min}
-use mathlib.Core.Bool.{Bool, true, false, _&&_}
+use mathlib.Core.Bool.{Bool, false, _&&_}
 use mathlib.Core.List.{List, []}
 use lib.ListN.{getD, set, take, drop}
-use lib.Dec.{leb, ltb, eqb}
+use lib.Dec.{leb, eqb}
 use Rattle.workspace.specs.declared.Stretch.{Stretch}
 use Rattle.workspace.specs.declared.Table.{Table}
 use Rattle.workspace.specs.declared.Used.{Used}
@@ -15,7 +15,7 @@ use Rattle.workspace.specs.Rules.{if_then_else_, every, units, stretch, 
 use Rattle.workspace.specs.Operations.{unused}
 use Rattle.workspace.specs.Seen.{tableOf}
 use Rattle.workspace.specs.declared.Test.the-variants.{StartsBehind}
-use Rattle.workspace.specs.Places.{placeOf, passesOf, over, removeAt, insertAt}
+use Rattle.workspace.specs.Places.{placeOf, passesOf, removeAt, insertAt}
 use Rattle.workspace.specs.Check.{tiled}
 use Rattle.workspace.specs.Steps.{hasSeen, keepsSeen, unlessRefused, doneAs, freshSeen, grantSeen, giveBack, countBack, freeSeen}
 

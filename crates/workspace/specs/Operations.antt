@@ -1,5 +1,5 @@
 -- What making a fresh area, a request and a release answer, and what they leave in the tables.
-use Prim.Native.Nat.{ℕ, zero, suc, _+_, _-_}
+use Prim.Native.Nat.{ℕ, _+_, _-_}
 use mathlib.Core.Bool.{Bool, true, false, _&&_}
 use mathlib.Core.List.{List, [], _∷_, _++_}
 use lib.ListN.{length, take, replicate}
@@ -58,19 +58,23 @@ pub data Outcome : Type 0 where
   refused : ℕ → Outcome
   took : ℕ → List Stretch → List Stretch → Outcome
 
--- the refusals by their names
+-- the state is not sound: too few places, or tables that break the rules
 abbrev pub BAD-STATE : ℕ
 BAD-STATE = 2
 
+-- a size outside 1 to 65,535
 abbrev pub BAD-SIZE : ℕ
 BAD-SIZE = 13
 
+-- 31 blocks are taken
 abbrev pub BLOCKS-FULL : ℕ
 BLOCKS-FULL = 14
 
+-- no free stretch is long enough
 abbrev pub NO-SPACE : ℕ
 NO-SPACE = 15
 
+-- no block starts there
 abbrev pub BAD-BLOCK : ℕ
 BAD-BLOCK = 16
 
@@ -88,7 +92,7 @@ requestOf blocks free used n =
     took (fitStart n (take (used .free) free)) (placed (stretch (fitStart n (take (used .free) free)) n) (take (used .blocks) blocks)) (cut n (take (used .free) free))
     else refused NO-SPACE) else refused BLOCKS-FULL) else refused BAD-SIZE) else refused BAD-STATE
 
--- "releasing a block", likewise
+-- "releasing a block gives its units back", likewise
 unfoldable pub releaseOf : List Stretch → List Stretch → Used → ℕ → Outcome
 releaseOf blocks free used a =
     if rulesKept blocks free used then

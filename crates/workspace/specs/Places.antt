@@ -1,6 +1,6 @@
 -- What the inner functions over 32 places promise: searches, and places that are set, taken out and put in. No public contract cites this.
 use Prim.Native.Nat.{ℕ, zero, suc}
-use mathlib.Core.Bool.{Bool, true, false}
+use mathlib.Core.Bool.{Bool}
 use mathlib.Core.List.{List, [], _∷_, _++_}
 use lib.Dec.{leb, ltb, eqb}
 use Rattle.workspace.specs.declared.Stretch.{Stretch}

@@ -1,10 +1,9 @@
 -- An area in use, and sequences of operations on it: the statements of proofs/Statements.antt are about these.
 use Prim.Native.Nat.{ℕ}
-use mathlib.Core.Bool.{Bool, true, false}
+use mathlib.Core.Bool.{Bool}
 use mathlib.Core.List.{List, [], _∷_}
 use Rattle.workspace.specs.declared.Stretch.{Stretch}
 use Rattle.workspace.specs.declared.Used.{Used}
-use Rattle.workspace.specs.declared.Answer.{Answer}
 use Rattle.workspace.specs.Rules.{rulesKept}
 use Rattle.workspace.specs.Operations.{Outcome, refused, took, freshOf, requestOf, releaseOf, blocksAfter, freeAfter, answerOf, unused}
 
@@ -23,6 +22,7 @@ pub data Op : Type 0 where
   ask : ℕ → Op
   give : ℕ → Op
 
+-- what it answers and leaves
 abbrev pub outcomeOf : Area → Op → Outcome
 outcomeOf a (ask n) = requestOf (a .blocks) (a .free) (a .used) n
 outcomeOf a (give s) = releaseOf (a .blocks) (a .free) (a .used) s
@@ -31,10 +31,11 @@ outcomeOf a (give s) = releaseOf (a .blocks) (a .free) (a .used) s
 abbrev pub after : Area → Outcome → Area
 after a o = record { blocks = blocksAfter (a .blocks) o; free = freeAfter (a .free) o; used = answerOf (a .used) o .used }
 
--- the area behind one operation, and behind a sequence of them
+-- the area behind one operation
 abbrev pub stepOf : Area → Op → Area
 stepOf a o = after a (outcomeOf a o)
 
+-- the area behind a sequence of operations
 abbrev pub runOf : Area → List Op → Area
 runOf a [] = a
 runOf a (o ∷ os) = runOf (stepOf a o) os

@@ -1,6 +1,6 @@
 -- What is seen of a lent table, and what is written to it. No public contract cites this.
 use Prim.Native.Nat.{ℕ}
-use mathlib.Core.Bool.{Bool, _&&_, _||_}
+use mathlib.Core.Bool.{_&&_, _||_}
 use mathlib.Core.List.{List}
 use lib.ListN.{length, getD, set, drop, replicate}
 use lib.Dec.{ltb}

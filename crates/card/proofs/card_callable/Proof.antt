@@ -12,7 +12,7 @@ use Rattle.card.proofs.card_callable.Tie as tie
 returns : tie.Need-returns
 returns c =
     let a = c .before .before .before .before .before .before .before .before .before .args in
-    let q = c .before .before .before .before .before .is-callable .ensures ∙ ap (λ (s : Supervisor). callableWhole s (a .task)) (c .before .before .before .before .before .before .state-in .ensures) in
+    let q = c .before .before .before .before .before .callable .ensures ∙ ap (λ (s : Supervisor). callableWhole s (a .task)) (c .before .before .before .before .before .before .state-in .ensures) in
     one-as (now (a .answer)) _ _ _ _ _ _ (c .before .before .put-one .ensures) (ap (λ (k : Known). k .refusal) q) (c .before .before .before .flag .ensures ∙ ap (λ (k : Known). bit (k .yes)) q)
 
 pub card-callable-spec : {M : Type 1} → statement M

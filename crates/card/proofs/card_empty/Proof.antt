@@ -20,7 +20,7 @@ returns c =
 returns-2 : tie.Need-returns-2
 returns-2 c =
     let b = now (c .before .before .before .before .before .before .before .args .state) in
-    (sym (if-false _ _ _ (le-ltb (length b) 439 (c .before .before .before .before .before .if1 .left))), c .before .before .store .ensures ∙ ap (λ (s : Supervisor). stored s b) (c .before .before .before .before .made .ensures))
+    (sym (if-false _ _ _ (le-ltb (length b) 439 (c .before .before .before .before .before .if1 .left))), c .before .before .store .ensures ∙ ap (λ (s : Supervisor). stored s b) (c .before .before .before .before .empty .ensures))
 
 pub card-empty-spec : {M : Type 1} → statement M
 card-empty-spec = tie.close (tie.spec returns (λ c κs. search needs) (λ c κs. search needs) (λ c. search needs) returns-2)

@@ -8,9 +8,6 @@ use Rattle.lists.proofs.LineLaws.{insertAt-end, length-line}
 use Rattle.lines.proofs.joined.Statement.{statement}
 use Rattle.lines.proofs.joined.Tie as tie
 
-put-at-requires : tie.Need-put-at-requires
-put-at-requires c κs = search needs
-
 returns : tie.Need-returns
 returns c =
     let a = c .before .args .a in
@@ -18,4 +15,4 @@ returns c =
     c .put-at .ensures ∙ ap pad (insertAt-end 31 _ (line a) (omega (arith, length-line a)))
 
 pub joined-spec : {M : Type 1} → statement M
-joined-spec = tie.close (tie.spec put-at-requires returns)
+joined-spec = tie.close (tie.spec (λ c κs. search needs) returns)

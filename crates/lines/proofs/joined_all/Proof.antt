@@ -17,21 +17,12 @@ Inv-loop b r₀ j₀ i₀ r j i =
 abbrev μ-loop : tie.MeasureT-loop
 μ-loop b r₀ j₀ i₀ r j i = 31 - i
 
-tidied-requires : tie.Need-tidied-requires Inv-loop μ-loop
-tidied-requires c κs = search needs
-
-len-requires : tie.Need-len-requires Inv-loop μ-loop
-len-requires c κs = search needs
-
 loop-holds : tie.Need-loop-holds Inv-loop μ-loop
 loop-holds c =
     let a = c .before .before .args .a in
     let l : length a ≡ 31 = search needs in
     let k : length (line a) ≤ 31 = omega (arith, length-line a) in
     (omega arith, omega arith, laid-out _ _ (line a) k (c .before .tidied .ensures) (c .len .ensures), refl)
-
-array-read-x : tie.Need-array-read-x Inv-loop μ-loop
-array-read-x c = search needs
 
 -- the invariant in terms of a, for each way out: a helper is typed by the record of the place that it stands at
 whole : (c : tie.At-loop Inv-loop μ-loop) → pad (line (c .before .before .before .args .a) ++ line (c .before .before .before .args .t2)) ≡ pad (take (c .loop .j) (c .loop .r) ++ line (drop (c .loop .i) (c .before .before .before .args .t2)))
@@ -88,10 +79,10 @@ joined-all-spec =
     (tie.spec
     Inv-loop
     μ-loop
-    tidied-requires
-    len-requires
+    (λ c κs. search needs)
+    (λ c κs. search needs)
     loop-holds
-    array-read-x
+    (λ c. search needs)
     returns
     returns-2
     array-write-r

@@ -22,12 +22,6 @@ abbrev μ-loop : tie.MeasureT-loop
 loop-holds : tie.Need-loop-holds Inv-loop μ-loop
 loop-holds c = (omega arith, fill-none, simp sub-zero)
 
-array-read-x : tie.Need-array-read-x Inv-loop μ-loop
-array-read-x c = search needs
-
-array-write-r : tie.Need-array-write-r Inv-loop μ-loop
-array-write-r c = search needs
-
 returns : tie.Need-returns Inv-loop μ-loop
 returns c =
     let s = c .before .before .loop in
@@ -35,12 +29,6 @@ returns c =
     let room : s .i < 31 = omega arith in
     let blank : s .r ≡ pad (take (s .i) (s .r)) = s .inv .1 in
     simp (s .inv .2, rest-blank a (s .i) (search needs) (c .if1 .taken)) (fill-last (s .r) (s .i) (s .carry) room blank)
-
-array-write-r-2 : tie.Need-array-write-r-2 Inv-loop μ-loop
-array-write-r-2 c = search needs
-
-array-write-r-3 : tie.Need-array-write-r-3 Inv-loop μ-loop
-array-write-r-3 c = search needs
 
 add-i : tie.Need-add-i Inv-loop μ-loop
 add-i c = omega arith
@@ -78,11 +66,11 @@ put-at-spec =
     Inv-loop
     μ-loop
     loop-holds
-    array-read-x
-    array-write-r
+    (λ c. search needs)
+    (λ c. search needs)
     returns
-    array-write-r-2
-    array-write-r-3
+    (λ c. search needs)
+    (λ c. search needs)
     add-i
     loop-less
     loop-again

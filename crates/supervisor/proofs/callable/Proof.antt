@@ -1,5 +1,5 @@
 use borrow.Author.Needs.{needs}
-use mathlib.Core.Path.{_≡_, _∙_, ap, sym}
+use mathlib.Core.Path.{_≡_, _∙_, sym}
 use lib.ListN.{length}
 use Rattle.table.proofs.LeafLaws.{mapped-long}
 use Rattle.supervisor.proofs.TopLaws.{callable-is}

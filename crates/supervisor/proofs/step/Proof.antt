@@ -2,14 +2,19 @@ use borrow.Author.Needs.{needs}
 use Prim.Native.Nat.{_<_}
 use mathlib.Core.Path.{_≡_, refl, sym, _∙_, ap}
 use lib.ListN.{length}
+use mathlib.Core.Bool.{true}
 use borrow.Author.Tests.{not-true, not-false}
 use Rattle.rules.specs.Step.{takeCall, roomAfter}
-use Rattle.rules.specs.Whole.{view}
+use Rattle.rules.specs.Whole.{view, soundWhole}
 use Rattle.table.proofs.LeafLaws.{mapped-long}
 use Rattle.supervisor.specs.Taken.{Stands}
 use Rattle.supervisor.proofs.TopLaws.{by-whole, ended-is, kept, next-is, stands-of, step-short, step-sound, step-unsound}
 use Rattle.supervisor.proofs.step.Statement.{statement}
 use Rattle.supervisor.proofs.step.Tie as tie
+
+-- what is_sound has answered
+sound-here : (c : tie.Else2) → soundWhole (c .before .before .before .before .args .s) ≡ true
+sound-here c = sym (c .before .is-sound .ensures) ∙ not-false _ (c .if2 .left)
 
 -- the state is sound where the second test has passed
 stands-here : (c : tie.Else2) → Stands (c .before .before .before .before .args .s)
@@ -21,7 +26,7 @@ stands-here c =
     let l4 : length (s .held) ≡ 31 = search (needs, mapped-long) in
     let l5 : length (s .delays) ≡ 31 = search (needs, mapped-long) in
     let k : s .clock < 4294967296 = search needs in
-    stands-of s k l1 l2 l3 l4 l5 (sym (c .before .is-sound .ensures) ∙ not-false _ (c .if2 .left))
+    stands-of s k l1 l2 l3 l4 l5 (sound-here c)
 
 returns : tie.Need-returns
 returns c =
@@ -38,13 +43,14 @@ take-call-requires c κs = (stands-here (c .before), c .before .before .before .
 
 returns-3 : tie.Need-returns-3
 returns-3 c =
-    let a = c .before .before .before .before .before .before .before .before .before .before .before .args in let s = a .s in
-    let q = sym (c .before .before .before .before .before .before .before .before .is-sound .ensures) ∙ not-false _ (c .before .before .before .before .before .before .before .if2 .left) in
-    let h = stands-here (c .before .before .before .before .before .before .before) in
+    let e2 = c .before .before .before .before .before .before .before in
+    let a = c .before .before .before .before .before .before .before .before .before .before .before .args in
+    let s = a .s in
     let o = takeCall (view s) (a .c) in
-    by-whole _ _ (step-sound s (a .c) (length (a .room .now)) (c .before .before .before .before .before .before .before .before .before .if1 .left) q)
-    (next-is s o (c .before .before .before .before .before .take-call .result) (c .running .result) (kept s (a .c) h) (c .before .before .before .before .before .take-call .ensures .0) (c .running .ensures))
-    (c .before .before .before .before .before .take-call .ensures .1 ∙ ap (roomAfter (a .room .now)) (ended-is s o))
+    let k = c .before .before .before .before .before .take-call in
+    by-whole _ _ (step-sound s (a .c) (length (a .room .now)) (c .before .before .before .before .before .before .before .before .before .if1 .left) (sound-here e2))
+    (next-is s o (k .result) (c .running .result) (kept s (a .c) (stands-here e2)) (k .ensures .0) (c .running .ensures))
+    (k .ensures .1 ∙ ap (roomAfter (a .room .now)) (ended-is s o))
 
 pub step-spec : {M : Type 1} → statement M
 step-spec =

@@ -38,11 +38,15 @@ returns-6 c = rw (c .before .before .before .before .enum-told2 .given .1) (c .b
 returns-7 : tie.Need-returns-7
 returns-7 c = rw (c .before .before .before .before .enum-told3 .given .1) (c .before .before .tick .ensures)
 
+returns-8 : tie.Need-returns-8
+returns-8 c = rw (c .before .before .before .before .before .c5 .given .1) (c .before .before .advance .ensures)
+
 pub take-call-spec : {M : Type 1} → statement M
 take-call-spec =
     tie.close
     (tie.spec (λ c. search needs) (λ c κs. search needs) (λ c. search needs) (λ c κs. search needs)
     (λ c. search needs) (λ c κs. search needs) (λ c. search needs) (λ c κs. search needs) (λ c. search needs)
     (λ c κs. search needs) (λ c. search needs) (λ c κs. search needs) (λ c. search needs) (λ c κs. search needs)
+    (λ c. search needs) (λ c κs. search needs)
     returns returns-2 (λ c. search needs) returns-3 returns-4 (λ c. search needs) returns-5 (λ c. search needs)
-    returns-6 (λ c. search needs) returns-7)
+    returns-6 (λ c. search needs) returns-7 (λ c. search needs) returns-8)

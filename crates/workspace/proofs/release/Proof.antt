@@ -1,21 +1,19 @@
 -- `workspace::release` meets its contract: a walk of its MIR, by hand. Both tables are looked at, a covered function works out what is to be done, and the tables are written.
 --     begins       the body, once the parameters are in their locals
 -- Assumes nothing.
-use Rattle.workspace.proofs.Prelude.{_≡_, refl, _∙_, ℕ, _<_, _^_, List, [], _∷_, length, URA, fullShare, Ty, Lifetime, named, erased, Mutability, imm, mut, w32, tyInt, tyUnit, tyRef, Val, vint, SProp, ent, emp, via, fst∗, snd∗, exE, Lft, Share, ftrue, fat, froom, fdies, flft, Memory, Routine, Heap, Env, WpFn, Calls, Loops, Tables, Atoms, sem, Fun, fact, givenOf, tables, tablesOf, Given, Item, _⊛_, ⋆, runs, atRet, Sq, _$_, _∵_, !, qed, by, move, drop, split, join, fsplit, fjoin, suffices, frame, done, agg, whole, sub, look-in, look, init, forget, stop, hop, fld, from, load, addr, of-opd, and-then, no-more, lit, lit<, assigns, land, returns, enter, alloc1, alloc0, params1, pass1, pass0, free1, free0, FmC, fmOf, WpFn-mono, owns, Is, uint-vals, uint-tells, uint-makes, u32, pointee, RefT, sliceTy, MutSlice, Room, finally, slice-vals, mut-slice-tells, plain, nothing, owned, Vals, onEntry, Meets, tripleOf, Contract, Triple, ensured, lasts, entered, cited, says, Stays, gave-slice, stay-none, walkOf, AllGo, goes-gave-slice, goes-none, Walks, ends-at, walked, walk-meets, yes, ‵}
+use Rattle.workspace.proofs.Prelude.{_≡_, refl, _∙_, ℕ, _<_, _^_, List, [], _∷_, length, URA, fullShare, named, erased, imm, mut, w32, tyInt, tyUnit, Val, vint, SProp, ent, emp, via, fst∗, snd∗, exE, Lft, Share, ftrue, fat, froom, fdies, flft, Memory, Routine, Heap, Env, WpFn, Calls, Loops, Tables, Atoms, sem, Fun, fact, givenOf, tables, tablesOf, Given, Item, _⊛_, ⋆, runs, atRet, Sq, _$_, _∵_, !, qed, by, move, drop, split, join, fsplit, fjoin, suffices, frame, done, agg, whole, sub, look-in, look, init, forget, stop, hop, fld, from, load, addr, of-opd, and-then, no-more, lit, lit<, assigns, land, returns, enter, alloc1, alloc0, params1, pass1, pass0, free1, free0, FmC, fmOf, WpFn-mono, owns, Is, uint-vals, uint-tells, uint-makes, u32, RefT, MutSlice, Room, finally, slice-vals, mut-slice-tells, plain, nothing, owned, Vals, onEntry, Meets, tripleOf, Contract, Triple, ensured, lasts, entered, cited, says, Stays, gave-slice, stay-none, walkOf, AllGo, goes-gave-slice, goes-none, Walks, ends-at, walked, walk-meets, yes, ‵}
 use denote.Struct.Laws as LL
 use Rattle.workspace.specs.declared.Stretch.{Stretch}
 use Rattle.workspace.specs.declared.Used.{Used}
 use Rattle.workspace.specs.declared.Look.{Look}
-use Rattle.workspace.specs.declared.Answer.{Answer}
 use Rattle.workspace.specs.declared.Done.{Done}
 use Rattle.workspace.specs.Operations.{releaseOf}
 use Rattle.workspace.specs.Seen.{laid, lookOf}
 use Rattle.workspace.specs.Steps.{releaseSeen}
 use Rattle.workspace.proofs.Bridge.{Says, release-says}
 use Rattle.workspace.proofs.Calls.{Told, tells-struct, calls-told}
-use Rattle.workspace.proofs.Both.{looked, Looked, low, Low, Lent, val, LookAt, WriteBack, looks, writes-back}
+use Rattle.workspace.proofs.Both.{ptr, slice, answer, counts, Counts, looked, Looked, low, Low, Lent, val, LookAt, WriteBack, looks, writes-back}
 use Rattle.workspace.proofs.Stretch as T
-use Rattle.workspace.proofs.Stretch.Laws as T′
 use Rattle.workspace.proofs.Used as S
 use Rattle.workspace.proofs.Used.Laws as S′
 use Rattle.workspace.proofs.Look as L
@@ -42,22 +40,6 @@ use Rattle.workspace.proofs.release.Code.Mir as text
 
 abbrev stayed : Stays (f.ended .signature .params) (f.ended .kept)
 stayed = (gave-slice (0 ∷ []) tt (plain (λ _. T.the-row)), (gave-slice (1 ∷ []) tt (plain (λ _. T.the-row)), (stay-none (λ _. S.the-row) yes, (stay-none (λ _. u32) yes, tt))))
-
--- a table's reference that is lent again, and its slice
-abbrev ptr : Mutability → Ty
-ptr m = tyRef erased m (pointee (T.the-row .written))
-
-abbrev slice : Lifetime → Mutability → Ty
-slice ℓ m = sliceTy (tyRef ℓ m (pointee (T.the-row .written)))
-
-abbrev counts : Used → Val
-counts u = LL.val S.the-type S′.the-laws u
-
-abbrev Counts : Used → Type 0
-Counts u = Is S.the-row u (counts u ∷ [])
-
-abbrev answer : Answer → Val
-answer r = LL.val R.the-type R′.the-laws r
 
 -- ---- the contract of `released`, which does the work
 module _ {M : Type 1} (𝓤 : URA M) (H : Heap 𝓤) (A : Atoms 𝓤) (mem : Memory → SProp 𝓤) (run : Routine → Fun 𝓤) where

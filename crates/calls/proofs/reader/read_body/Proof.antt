@@ -19,6 +19,9 @@ read-call-requires c κs = let h = rw (c .match .keys3) at (c .before .before .p
 read-select-requires : tie.Need-read-select-requires
 read-select-requires c κs = let h = rw (c .match .keys4) at (c .before .before .pre) in omega arith
 
+read-advance-requires : tie.Need-read-advance-requires
+read-advance-requires c κs = let h = rw (c .match .keys8) at (c .before .before .pre) in omega arith
+
 returns : tie.Need-returns
 unfolding bodyRead
 returns c = rw (c .before .before .match .keys1)
@@ -48,11 +51,15 @@ unfolding bodyRead
 returns-7 c = rw (c .match .keys7)
 
 returns-8 : tie.Need-returns-8
-returns-8 c =
+unfolding bodyRead
+returns-8 c = rw (c .before .match .keys8) (c .read-advance .ensures)
+
+returns-9 : tie.Need-returns-9
+returns-9 c =
     let t = known-tag (c .before .before .args .tag) (c .before .before .pre .0) in
     let n = c .match .rest in
-    let below-five = but _ 4 (but _ 5 (but _ 6 (t .1) (n .1)) (n .0 .1)) (n .0 .0 .1) in
-    let below-one = but _ 0 (but _ 1 (but _ 2 (but _ 3 below-five (n .0 .0 .0 .1)) (n .0 .0 .0 .0 .1)) (n .0 .0 .0 .0 .0 .1)) (n .0 .0 .0 .0 .0 .0 .1) in
+    let below-five = but _ 4 (but _ 5 (but _ 6 (but _ 7 (t .1) (n .1)) (n .0 .1)) (n .0 .0 .1)) (n .0 .0 .0 .1) in
+    let below-one = but _ 0 (but _ 1 (but _ 2 (but _ 3 below-five (n .0 .0 .0 .0 .1)) (n .0 .0 .0 .0 .0 .1)) (n .0 .0 .0 .0 .0 .0 .1)) (n .0 .0 .0 .0 .0 .0 .0 .1) in
     absurd (not-zero _ (t .0) below-one)
 
 pub read-body-spec : {M : Type 1} → statement M
@@ -64,6 +71,7 @@ read-body-spec =
     read-delay-requires
     read-call-requires
     read-select-requires
+    read-advance-requires
     returns
     returns-2
     returns-3
@@ -71,4 +79,5 @@ read-body-spec =
     returns-5
     returns-6
     returns-7
-    returns-8)
+    returns-8
+    returns-9)

@@ -29,6 +29,9 @@ returns-6 c = rw (c .before .before .before .before .before .enum-told2 .given .
 returns-7 : tie.Need-returns-7
 returns-7 c = rw (c .before .before .before .before .before .enum-told3 .given .1) (c .before .before .put4 .ensures)
 
+returns-8 : tie.Need-returns-8
+returns-8 c = rw (c .before .before .before .before .before .c5 .given .1) (c .before .before .put-advance .ensures)
+
 pub write-record-spec : {M : Type 1} → statement M
 write-record-spec =
     tie.close
@@ -52,6 +55,8 @@ write-record-spec =
     (λ c. search needs)
     (λ c κs. search needs)
     (λ c. search needs)
+    (λ c κs. search needs)
+    (λ c. search needs)
     returns
     (λ c. search needs)
     returns-2
@@ -64,4 +69,6 @@ write-record-spec =
     (λ c. search needs)
     returns-6
     (λ c. search needs)
-    returns-7)
+    returns-7
+    (λ c. search needs)
+    returns-8)

@@ -1,6 +1,6 @@
 use native.Mathlib.Omega.{arith}
 use borrow.Author.Needs.{needs}
-use Prim.Native.Nat.{ℕ, _+_, _-_, _≤_}
+use Prim.Native.Nat.{ℕ, _+_, _-_, _*_, _≤_}
 use mathlib.Core.Path.{_≡_, refl, ap, subst, _∙_}
 use mathlib.Core.List.{_∷_}
 use lib.ListN.{length, drop, getD, length-take, length-drop}
@@ -15,7 +15,7 @@ use Rattle.supervisor.proofs.ended.wake_all.Statement.{statement}
 use Rattle.supervisor.proofs.ended.wake_all.Tie as tie
 
 abbrev Inv-loop : tie.InvT-loop
-Inv-loop failed room₀ s l n₀ i₀ room n i = (i ≤ 31) × (124 ≤ length room₀) × Going (view s) failed (line l) room₀ n room i (line (drop i l)) × (length (s .tasks) ≡ 31)
+Inv-loop failed room₀ s l n₀ i₀ room n i = (i ≤ 31) × (length (line l) * 4 ≤ length room₀) × Going (view s) failed (line l) room₀ n room i (line (drop i l)) × (length (s .tasks) ≡ 31)
 
 abbrev μ-loop : tie.MeasureT-loop
 μ-loop failed room₀ s l n₀ i₀ room n i = 31 - i
@@ -33,13 +33,16 @@ returns c =
     let l = c .before .before .loop in
     going-end _ _ _ _ (l .n) (l .room) (l .i) _ (l .inv .2) (rest-blank (c .before .before .before .before .args .t2) (l .i) (search needs) (c .if1 .taken))
 
-put-requires : tie.Need-put-requires Inv-loop μ-loop
-put-requires c κs =
-    let g = c .before .before .before .before .before .before .before .loop .inv .2 .long in
-    simp (length-take, length-drop) (omega arith)
-
 rest-here : (c : tie.Else1 Inv-loop μ-loop) → let l = c .before .before .before .before .args .t2 in let i = c .before .before .loop .i in line (drop i l) ≡ getD l i 0 ∷ line (drop (i + 1) l)
 rest-here c = rest-entry (c .before .before .before .before .args .t2) (c .before .before .loop .i) (search needs) (c .if1 .left)
+
+put-requires : tie.Need-put-requires Inv-loop μ-loop
+put-requires c κs =
+    let l = c .before .before .before .before .before .before .before .loop in
+    let n = l .inv .2 .number in
+    let g = l .inv .2 .long in
+    let z = ap length (rest-here (c .before .before .before .before .before)) in
+    simp (length-take, length-drop) (omega arith)
 
 -- the item that is written is that of the task at place i
 item-here : (c : tie.After-item-of Inv-loop μ-loop) → let a = c .before .before .before .before .before .before .before .before .args in c .item-of .result ≡ itemOf (view (a .t1)) (a .failed) (getD (a .t2) (c .before .before .before .before .before .before .loop .i) 0)
@@ -55,7 +58,7 @@ loop-again c =
       omega arith,
       l .inv .1,
       going-on _ _ _ _ (l .n) (c .moved .result) (l .room) (c .before .before .before .put .last .0) (l .i) _ _ _ (m .item-of .result) (l .inv .2)
-          (rest-here (c .before .before .before .before .before .before .before .before .before)) (item-here m) (c .before .before .before .put .ensures) (c .moved .ensures) (omega arith) (l .inv .1),
+          (rest-here (c .before .before .before .before .before .before .before .before .before)) (item-here m) (c .before .before .before .put .ensures) (c .moved .ensures) (l .inv .1),
       l .inv .3,
     )
 

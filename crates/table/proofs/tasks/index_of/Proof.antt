@@ -1,7 +1,7 @@
 use native.Mathlib.Omega.{arith}
 use borrow.Author.Needs.{needs}
 use Prim.Native.Nat.{_≤_}
-use mathlib.Core.Path.{_≡_, sym, _∙_}
+use mathlib.Core.Path.{sym, _∙_}
 use Rattle.table.proofs.LeafLaws.{number-range}
 use Rattle.table.proofs.tasks.index_of.Statement.{statement}
 use Rattle.table.proofs.tasks.index_of.Tie as tie

@@ -3,13 +3,14 @@
 --     leaves       the loop is left at place i, and the rest of the body runs
 --     turns        a turn from the invariant: it goes one place on, or leaves the loop
 -- Assumes nothing.
-use Rattle.workspace.proofs.Prelude.{_≡_, refl, sym, ℕ, _+_, _-_, _*_, _≤_, _<_, _^_, zero-le, lt-of-le-of-lt, add-one-le, add-one-dec, arith, Bool, true, false, not, WellFounded, InvImage·wf, List, [], _∷_, length, getD, Nat·lt-wfRel, T, ltb, leb, ltb→lt, nltb→le, lit<, URA, fullShare, Ty, Body, named, imm, w32, w64, tyInt, tyBool, tyPtr, tyRef, skipᴹ, seq, assign, block, loop, cond, switch, exit, return, call, Val, vint, vptr, SProp, ent, emp, via, fst∗, Lft, GName, Share, Fml, ftrue, fat, froom, fdies, flft, fres, fshr-bor, Memory, Routine, Heap, Out, Env, afterSeq, afterBlock, afterTurn, Calls, Loops, Wp, atReturn, WpFn, Tables, Atoms, Fun, givenOf, tables, tablesOf, Given, Item, ‵, _⊛_, ⋆, runs, anyQ, atRet, Sq, _$_, _∵_, !, qed, by, move, keep, split, join, rewrite, fsplit, fjoin, feqI, fltI, suffices, frame, done, whole, sub, look-in, look, init, store, forget, stop, hop, fld, from, load, lit, of-opd, bin, assigns, assigns-last, first, skips, jumps, blocks, branches, returns, enter, alloc1, alloc0, params1, pass1, pass0, free1, free0, exec, Below, again, loops, arr-parts, WpFn-mono, owns, Is, shows, pointee, shares, uint-vals, uint-tells, uint-makes, usize, u32, RefT, sliceTy, sliceVal, ShrSlice, Room, slice-vals, shr-slice-tells, at-slice, codedHoleys, heres, place-is, elem-out, elem-back, looks-slice, shuts-slice, plain, nothing, owned, Vals, onEntry, Meets, tripleOf, entered, says, Stays, stay-none-slice, stay-none, walkOf, goes-none-slice, goes-none, Walks, ends-at, walked, walk-meets, yes, not-true}
+use Rattle.workspace.proofs.Prelude.{_≡_, refl, sym, ℕ, _+_, _-_, _≤_, _<_, _^_, zero-le, lt-of-le-of-lt, add-one-le, add-one-dec, true, false, WellFounded, InvImage·wf, List, [], _∷_, length, getD, Nat·lt-wfRel, T, ltb, leb, ltb→lt, nltb→le, lit<, URA, fullShare, Ty, Body, named, imm, w32, w64, tyInt, tyBool, tyPtr, tyRef, loop, Val, vint, vptr, SProp, ent, emp, via, fst∗, Lft, GName, Share, ftrue, fat, froom, fdies, flft, fres, fshr-bor, Memory, Routine, Heap, Out, Env, afterSeq, afterBlock, afterTurn, Calls, Loops, Wp, atReturn, WpFn, Tables, Atoms, Fun, givenOf, tables, tablesOf, Given, Item, ‵, _⊛_, ⋆, runs, anyQ, atRet, Sq, _$_, _∵_, !, qed, by, move, keep, split, join, rewrite, fsplit, fjoin, suffices, frame, done, whole, sub, look-in, look, init, store, forget, stop, hop, fld, from, load, lit, of-opd, bin, assigns, assigns-last, first, skips, jumps, blocks, branches, returns, enter, alloc1, alloc0, params1, pass1, pass0, free1, free0, exec, Below, again, loops, arr-parts, WpFn-mono, owns, Is, shows, pointee, shares, uint-vals, uint-tells, uint-makes, usize, u32, RefT, sliceTy, sliceVal, ShrSlice, Room, slice-vals, shr-slice-tells, at-slice, codedHoleys, heres, place-is, elem-out, elem-back, looks-slice, shuts-slice, plain, nothing, owned, Vals, onEntry, Meets, tripleOf, entered, says, Stays, stay-none-slice, stay-none, walkOf, goes-none-slice, goes-none, Walks, ends-at, walked, walk-meets, yes}
 use denote.Struct.Laws as LL
 use Rattle.workspace.specs.declared.Stretch.{Stretch}
 use Rattle.workspace.specs.Rules.{none}
 use Rattle.workspace.specs.declared.Test.the-variants.{HasUnits}
 use Rattle.workspace.specs.Places.{placeOf, passesOf}
 use Rattle.workspace.proofs.PlaceLaws.{Passed, begin, pass, found, passed-all}
+use Rattle.workspace.proofs.Walks.{tail, is, is-not, scaled}
 use Rattle.workspace.proofs.Stretch as T
 use Rattle.workspace.proofs.Stretch.Laws as T′
 use Rattle.workspace.proofs.lent.first_fit.Key.{name as #workspace·first-fit}
@@ -20,19 +21,6 @@ use Rattle.workspace.proofs.lent.first_fit.Code.Mir as text
 
 abbrev stayed : Stays (f.ended .signature .params) (f.ended .kept)
 stayed = (stay-none-slice (0 ∷ []) tt (plain (λ _. T.the-row)) yes, (stay-none (λ _. u32) yes, tt))
-
--- ---- the code's parts
-abbrev tail : Body → Body
-tail skipᴹ = skipᴹ
-tail (seq a b) = b
-tail (assign p v) = skipᴹ
-tail (block a) = skipᴹ
-tail (loop a) = skipᴹ
-tail (cond c a b) = skipᴹ
-tail (switch c arms) = skipᴹ
-tail (exit n) = skipᴹ
-tail return = skipᴹ
-tail (call f xs d) = skipᴹ
 
 -- the turn, behind its first test and behind its second
 abbrev inside : Body
@@ -46,19 +34,6 @@ word = tyInt w64
 
 abbrev slice : Ty
 slice = sliceTy (tyRef (named 0) imm (pointee (T.the-row .written)))
-
--- ---- truth values
-is : (t : Bool) → T t → t ≡ true
-is true _ = refl
-is false a = absurd a
-
-is-not : (t : Bool) → T (not t) → t ≡ false
-is-not true a = absurd a
-is-not false _ = refl
-
--- where element i lies is a number that fits: it lies within the slice
-scaled : (n i : ℕ) → n * 8 < 2 ^ 63 → i < n → i * 8 < 2 ^ 64
-scaled n i room l = omega (arith, room, l)
 
 module _ {M : Type 1} (𝓤 : URA M) (H : Heap 𝓤) (A : Atoms 𝓤) (W : Given 𝓤 H A) (mem : Memory → SProp 𝓤) (run : Routine → Fun 𝓤) (κ : Lft) (q : Share) (b o : ℕ) (γ : GName) (ys : List Stretch) (size : ℕ) (gs : size < 2 ^ 32) (room : Room T.the-row (length ys)) where
   abbrev n : ℕ

@@ -3,7 +3,7 @@
 --     Spot, At     the loop's invariant: i places are seen. Each turn looks into the slice and shuts it again, so that a turn begins and ends with the token and the borrow
 --     leaves       the loop is left, and the rest of the body runs.        turns      a turn from the invariant
 -- Assumes nothing.
-use Rattle.workspace.proofs.Prelude.{_≡_, refl, sym, _∙_, ap, subst, ℕ, _+_, _-_, _≤_, _<_, _^_, zero-le, lt-of-le-of-lt, add-one-le, add-one-dec, WellFounded, InvImage·wf, List, [], _∷_, length, getD, take, Nat·lt-wfRel, T, ltb, ltb→lt, nltb→le, lit<, URA, fullShare, Ty, Body, named, imm, w64, tyInt, tyBool, tyPtr, tyRef, Val, vint, vptr, SProp, ent, emp, id⊢, via, fst∗, snd∗, exE, Lft, GName, Share, ftrue, fat, froom, fdies, flft, fres, fshr-bor, Memory, Routine, Heap, Out, Env, afterSeq, afterBlock, afterTurn, Calls, Loops, Wp, atReturn, WpFn, Tables, Atoms, sem, Fun, fact, givenOf, tables, tablesOf, Given, Item, raw, _⊛_, ⋆, some, later, runs, anyQ, atRet, Sq, _$_, _∵_, !, qed, by, move, keep, drop, use0, use1, pick, await, split, join, rewrite, fsplit, fjoin, suffices, frame, done, whole, sub, look-in, look, look-raw, init, store, forget, stop, hop, fld, from, load, lit, of-opd, bin, and-then, no-more, assigns, assigns-last, land, first, skips, jumps, blocks, branches, returns, enter, alloc1, alloc0, params1, pass1, pass0, free1, free0, exec, Below, again, loops, arr-parts, FmC, fmOf, WpFn-mono, owns, Is, shows, pointee, shares, uint-makes, usize, RefT, sliceTy, sliceVal, ShrSlice, Room, slice-vals, shr-slice-tells, at-slice, codedHoleys, heres, place-is, elem-out, elem-back, looks-slice, shuts-slice, plain, only, nothing, owned, facts, heard, Vals, onEntry, Meets, tripleOf, Contract, Triple, calls-at, ensured, lasts, entered, cited, says, Stays, stay-none-slice, walkOf, goes-none-slice, Walks, ends-at, walked, walk-meets, yes, ‵}
+use Rattle.workspace.proofs.Prelude.{_≡_, refl, sym, subst, ℕ, _+_, _-_, _≤_, _<_, _^_, zero-le, lt-of-le-of-lt, add-one-le, add-one-dec, WellFounded, InvImage·wf, List, [], _∷_, length, getD, take, Nat·lt-wfRel, T, ltb, ltb→lt, nltb→le, lit<, URA, fullShare, Ty, Body, named, imm, w64, tyInt, tyBool, tyPtr, tyRef, Val, vint, vptr, SProp, ent, emp, via, fst∗, snd∗, exE, Lft, GName, Share, ftrue, fat, froom, fdies, flft, fres, fshr-bor, Memory, Routine, Heap, Out, Env, afterSeq, afterBlock, afterTurn, Calls, Loops, Wp, atReturn, WpFn, Tables, Atoms, sem, Fun, fact, givenOf, tables, tablesOf, Given, Item, _⊛_, ⋆, runs, anyQ, atRet, Sq, _$_, _∵_, !, qed, by, move, keep, split, join, rewrite, fsplit, fjoin, suffices, frame, done, whole, sub, look-in, look, look-raw, init, store, forget, stop, hop, fld, from, load, lit, of-opd, bin, and-then, no-more, assigns, assigns-last, land, first, skips, jumps, blocks, branches, returns, enter, alloc1, alloc0, params1, pass1, pass0, free1, free0, exec, Below, again, loops, arr-parts, FmC, fmOf, WpFn-mono, owns, Is, shows, pointee, shares, uint-makes, usize, RefT, sliceTy, sliceVal, ShrSlice, Room, slice-vals, shr-slice-tells, at-slice, codedHoleys, heres, place-is, elem-out, elem-back, looks-slice, shuts-slice, plain, nothing, owned, Vals, onEntry, Meets, tripleOf, Contract, Triple, ensured, lasts, entered, cited, says, Stays, stay-none-slice, walkOf, goes-none-slice, Walks, ends-at, walked, walk-meets, yes, ‵}
 use denote.Struct.Laws as LL
 use Rattle.workspace.specs.declared.Stretch.{Stretch}
 use Rattle.workspace.specs.declared.Table.{Table}
@@ -11,6 +11,7 @@ use Rattle.workspace.specs.Rules.{none}
 use Rattle.workspace.specs.Seen.{tableOf, noteOf}
 use Rattle.workspace.proofs.PlaceLaws.{load-none, load-next, load-all}
 use Rattle.workspace.proofs.Walks.{tail, scaled}
+use Rattle.workspace.proofs.Calls.{Told, tells-struct, seen, Seen, calls-told}
 use Rattle.workspace.proofs.Stretch as T
 use Rattle.workspace.proofs.Stretch.Laws as T′
 use Rattle.workspace.proofs.Table as U
@@ -42,15 +43,9 @@ word = tyInt w64
 abbrev slice : Ty
 slice = sliceTy (tyRef (named 0) imm (pointee (T.the-row .written)))
 
--- a stretch's and a table's machine value, and that it is one
+-- a stretch's machine value
 abbrev low : Stretch → Val
 low s = LL.val T.the-type T′.the-laws s
-
-abbrev seen : Table → Val
-seen t = LL.val U.the-type U′.the-laws t
-
-abbrev Seen : Table → Type 0
-Seen t = Is U.the-row t (seen t ∷ [])
 
 -- ---- the contracts that the proof cites
 module _ {M : Type 1} (𝓤 : URA M) (H : Heap 𝓤) (A : Atoms 𝓤) (mem : Memory → SProp 𝓤) (run : Routine → Fun 𝓤) where
@@ -59,12 +54,6 @@ module _ {M : Type 1} (𝓤 : URA M) (H : Heap 𝓤) (A : Atoms 𝓤) (mem : Mem
 
   abbrev Noted : Contract 𝓤
   Noted = tripleOf 𝓤 H A noted.signature (noted.spec 𝓤 H A mem run)
-
-  empty-of : (r : Table) → ent 𝓤 (ensured 𝓤 H A empty.ended (empty.clauses 𝓤 H A mem run) tt tt tt r) (fact 𝓤 (r ≡ tableOf []))
-  empty-of r = exE 𝓤 _ (λ ws. snd∗ 𝓤 (sem 𝓤 H A (lasts empty.ended tt tt ws)) (fact 𝓤 (r ≡ tableOf [])))
-
-  noted-of : (t : Table) (i : ℕ) (x : Stretch) (r : Table) → ent 𝓤 (ensured 𝓤 H A noted.ended (noted.clauses 𝓤 H A mem run) tt (t, (i, (x, tt))) tt r) (fact 𝓤 (r ≡ noteOf t i x))
-  noted-of t i x r = exE 𝓤 _ (λ ws. snd∗ 𝓤 (sem 𝓤 H A (lasts noted.ended tt (t, (i, (x, tt))) ws)) (fact 𝓤 (r ≡ noteOf t i x)))
 
   abbrev to-empty : Empty .Ghost
   to-empty = ((tt, tt, tt, tt, tt), tt)
@@ -80,6 +69,14 @@ module _ {M : Type 1} (𝓤 : URA M) (H : Heap 𝓤) (A : Atoms 𝓤) (W : Given
   asks-noted t i x gt gi gx =
       qed W [] ∵ nothing ! $ owned ! T.the-row (Is T.the-row) (LL.makes T.the-type T′.the-plain 𝓤 H A) x _ gx $ fjoin ! $ owned ! usize (Is usize) (uint-makes 𝓤 H A W w64) i _ (refl, gi) $ fjoin ! $
       owned ! U.the-row (Is U.the-row) (LL.makes U.the-type U′.the-plain 𝓤 H A) t _ gt $ fjoin ! $ nothing ! $ join ! $ frame ! $ done !
+
+  tells-empty : (v : Val) → ent 𝓤 (Empty 𝓤 H A mem run .post (to-empty 𝓤 H A mem run) v) (H .⇛ (fact 𝓤 (Told U.the-type U′.the-laws (tableOf []) v)))
+  tells-empty v = tells-struct U.the-type U′.the-laws 𝓤 H A W (tableOf []) v (λ r. ensured 𝓤 H A empty.ended (empty.clauses 𝓤 H A mem run) tt tt tt r)
+      (λ r. exE 𝓤 _ (λ ws. snd∗ 𝓤 (sem 𝓤 H A (lasts empty.ended tt tt ws)) (fact 𝓤 (r ≡ tableOf []))))
+
+  tells-noted : (t : Table) (i : ℕ) (x : Stretch) (v : Val) → ent 𝓤 (Noted 𝓤 H A mem run .post (to-noted 𝓤 H A mem run t i x) v) (H .⇛ (fact 𝓤 (Told U.the-type U′.the-laws (noteOf t i x) v)))
+  tells-noted t i x v = tells-struct U.the-type U′.the-laws 𝓤 H A W (noteOf t i x) v (λ r. ensured 𝓤 H A noted.ended (noted.clauses 𝓤 H A mem run) tt (t, (i, (x, tt))) tt r)
+      (λ r. exE 𝓤 _ (λ ws. snd∗ 𝓤 (sem 𝓤 H A (lasts noted.ended tt (t, (i, (x, tt))) ws)) (fact 𝓤 (r ≡ noteOf t i x))))
 
 module _ {M : Type 1} (𝓤 : URA M) (H : Heap 𝓤) (A : Atoms 𝓤) (W : Given 𝓤 H A) (mem : Memory → SProp 𝓤) (run : Routine → Fun 𝓤) (κ : Lft) (q : Share) (b o : ℕ) (γ : GName) (ys : List Stretch) (room : Room T.the-row (length ys)) where
   abbrev n : ℕ
@@ -107,6 +104,10 @@ module _ {M : Type 1} (𝓤 : URA M) (H : Heap 𝓤) (A : Atoms 𝓤) (W : Given
 
   abbrev Spot : Type 0
   Spot = (i : ℕ) × (i ≤ n) × Seen (upto i)
+
+  -- what is seen once one place more is noted
+  abbrev more : Spot → Table
+  more i = noteOf (upto (i .0)) (i .0) (getD ys (i .0) none)
 
   abbrev Nearer : Spot → Spot → Type 0
   Nearer j i = n - j .0 < n - i .0
@@ -160,29 +161,19 @@ module _ {M : Type 1} (𝓤 : URA M) (H : Heap 𝓤) (A : Atoms 𝓤) (W : Given
         -- [table[i]; what it owns; the others; what shuts; the borrow; _7; …]: each local three further than in `At`
         assigns ! (of-opd ! (load ! (from ! (hop ! (look ! 7 refl) (stop !))) (look-raw ! 0 refl))) (from ! (stop !)) (init ! 5 refl (LL.lawful T.the-type T′.the-laws 𝓤 H A W .typed (getD ys (i .0) none) _ g .0)) $
         elem-back ! T.the-row q′ ys (i .0) none (low (getD ys (i .0) none) ∷ []) b o (ltb→lt (i .0) n less) $ shuts-slice ! tt T.the-row q′ ys b o $
-        use0 W (raw (Noted 𝓤 H A mem run .pre (to-noted 𝓤 H A mem run (upto (i .0)) (i .0) (getD ys (i .0) none)))) (asks-noted 𝓤 H A W mem run (upto (i .0)) (i .0) (getD ys (i .0) none) (i .2) (fits i) g) $
-        calls-at ! fm (Noted 𝓤 H A mem run) known (to-noted 𝓤 H A mem run (upto (i .0)) (i .0) (getD ys (i .0) none)) (and-then ! (load ! (from ! (stop !)) (look ! 13 refl)) (and-then ! (load ! (from ! (stop !)) (look ! 11 refl)) (and-then ! (load ! (from ! (stop !)) (look ! 3 refl)) (no-more !)))) (λ v.
-        use1 W (later (some (λ (r : Table). (‵ ftrue ⊛ ‵ (U.the-row .own r (v ∷ []))) ⊛ raw (ensured 𝓤 H A noted.ended (noted.clauses 𝓤 H A mem run) tt (upto (i .0), (i .0, (getD ys (i .0) none, tt))) tt r)))) (id⊢ 𝓤 _) $ await ! tt $ pick ! (λ r.
-        split ! $ move ! (1 ∷ []) $ use1 W (raw (fact 𝓤 (r ≡ noteOf (upto (i .0)) (i .0) (getD ys (i .0) none)))) (noted-of 𝓤 H A mem run (upto (i .0)) (i .0) (getD ys (i .0) none) r) $ heard ! (r ≡ noteOf (upto (i .0)) (i .0) (getD ys (i .0) none)) (λ e. split ! $ drop ! $
-        facts ! U.the-row (Is U.the-row) (shows 𝓤 H A U.the-row) r (v ∷ []) (λ is.
-        land ! (from ! (stop !)) (store ! 12 refl (LL.lawful U.the-type U′.the-laws 𝓤 H A W .typed r _ is .0)) $
-        rewrite ! 12 (λ (u : Val). ‵ (fat fullShare U′.mir l₂ 0 u)) (turned i (ltb→lt (i .0) n less) r v e is .0) refl $
-        assigns-last ! (bin ! (load ! (from ! (stop !)) (look ! 10 refl)) (lit ! tt) (record { fits = fits (next less r v e is) })) (from ! (stop !)) (store ! 10 refl (tt, record { fits = fits (next less r v e is) })) $
-        forget ! 2 refl $ forget ! 4 refl $ forget ! 6 refl $ forget ! 8 refl $ again ! Nearer At i (next less r v e is) (add-one-dec n (i .0) (ltb→lt (i .0) n less)))))))))
+        calls-told ! fm (Noted 𝓤 H A mem run) known (to-noted 𝓤 H A mem run (upto (i .0)) (i .0) (getD ys (i .0) none)) (asks-noted 𝓤 H A W mem run (upto (i .0)) (i .0) (getD ys (i .0) none) (i .2) (fits i) g) (seen (more i)) (Seen (more i)) (tells-noted 𝓤 H A W mem run (upto (i .0)) (i .0) (getD ys (i .0) none))
+        (and-then ! (load ! (from ! (stop !)) (look ! 13 refl)) (and-then ! (load ! (from ! (stop !)) (look ! 11 refl)) (and-then ! (load ! (from ! (stop !)) (look ! 3 refl)) (no-more !)))) (λ gm.
+        land ! (from ! (stop !)) (store ! 12 refl (LL.lawful U.the-type U′.the-laws 𝓤 H A W .typed (more i) _ gm .0)) $
+        rewrite ! 12 (λ (t : Table). ‵ (fat fullShare U′.mir l₂ 0 (seen t))) (load-next ys (i .0) (ltb→lt (i .0) n less)) refl $
+        assigns-last ! (bin ! (load ! (from ! (stop !)) (look ! 10 refl)) (lit ! tt) (record { fits = fits (next less gm) })) (from ! (stop !)) (store ! 10 refl (tt, record { fits = fits (next less gm) })) $
+        forget ! 2 refl $ forget ! 4 refl $ forget ! 6 refl $ forget ! 8 refl $ again ! Nearer At i (next less gm) (add-one-dec n (i .0) (ltb→lt (i .0) n less))))))
         (λ over. jumps ! $ forget ! 6 refl $ forget ! 8 refl $ by ! (leaves i (nltb→le (i .0) n over)))
       where
         fits : (j : Spot) → j .0 < 2 ^ 64
         fits j = lt-of-le-of-lt (j .1) (room .0)
 
-        -- what the call gave is what is seen of one place more
-        turned : (j : Spot) → j .0 < n → (r : Table) (v : Val) → r ≡ noteOf (upto (j .0)) (j .0) (getD ys (j .0) none) → Is U.the-row r (v ∷ []) → (v ≡ seen (upto (j .0 + 1))) × Seen (upto (j .0 + 1))
-        turned j l r v e is =
-            let same : r ≡ upto (j .0 + 1) = e ∙ load-next ys (j .0) l in
-            let told : v ≡ seen r = ap only (LL.tells U.the-type U′.the-laws r (v ∷ []) is) in
-            (told ∙ ap seen same, subst Seen same (subst (λ (u : Val). Is U.the-row r (u ∷ [])) told is))
-
-        next : T (ltb (i .0) n) → (r : Table) (v : Val) → r ≡ noteOf (upto (i .0)) (i .0) (getD ys (i .0) none) → Is U.the-row r (v ∷ []) → Spot
-        next less r v e is = (i .0 + 1, add-one-le (ltb→lt (i .0) n less), turned i (ltb→lt (i .0) n less) r v e is .1)
+        next : T (ltb (i .0) n) → Seen (more i) → Spot
+        next less gm = (i .0 + 1, add-one-le (ltb→lt (i .0) n less), subst Seen (load-next ys (i .0) (ltb→lt (i .0) n less)) gm)
 
     -- [_7; …; _6; …; _5; …; _4; …; _3; …; _2; …; _1; …; _0; …; the token; what table owns]: the body, once the parameter is in its local
     abbrev Entered : List (Item 𝓤)
@@ -192,23 +183,13 @@ module _ {M : Type 1} (𝓤 : URA M) (H : Heap 𝓤) (A : Atoms 𝓤) (W : Given
 
     begins : Triple 𝓤 (𝓣 .C #workspace·empty) (Empty 𝓤 H A mem run) → Sq W Entered (runs C Λ En text.t-1 (atRet En Post))
     begins known-empty =
-        use0 W (raw (Empty 𝓤 H A mem run .pre (to-empty 𝓤 H A mem run))) (asks-empty 𝓤 H A W mem run) $
-        calls-at ! fm (Empty 𝓤 H A mem run) known-empty (to-empty 𝓤 H A mem run) (no-more !) (λ v.
-        use1 W (later (some (λ (r : Table). (‵ ftrue ⊛ ‵ (U.the-row .own r (v ∷ []))) ⊛ raw (ensured 𝓤 H A empty.ended (empty.clauses 𝓤 H A mem run) tt tt tt r)))) (id⊢ 𝓤 _) $ await ! tt $ pick ! (λ r.
-        split ! $ move ! (1 ∷ []) $ use1 W (raw (fact 𝓤 (r ≡ tableOf []))) (empty-of 𝓤 H A mem run r) $ heard ! (r ≡ tableOf []) (λ e. split ! $ drop ! $
-        facts ! U.the-row (Is U.the-row) (shows 𝓤 H A U.the-row) r (v ∷ []) (λ is.
-        land ! (from ! (stop !)) (init ! 10 refl (LL.lawful U.the-type U′.the-laws 𝓤 H A W .typed r _ is .0)) $ rewrite ! 10 (λ (u : Val). ‵ (fat fullShare U′.mir l₂ 0 u)) (began r v e is .0) refl $
+        calls-told ! fm (Empty 𝓤 H A mem run) known-empty (to-empty 𝓤 H A mem run) (asks-empty 𝓤 H A W mem run) (seen (tableOf [])) (Seen (tableOf [])) (tells-empty 𝓤 H A W mem run) (no-more !) (λ ge.
+        land ! (from ! (stop !)) (init ! 10 refl (LL.lawful U.the-type U′.the-laws 𝓤 H A W .typed (tableOf []) _ ge .0)) $ rewrite ! 10 (λ (t : Table). ‵ (fat fullShare U′.mir l₂ 0 (seen t))) (load-none ys) refl $
         assigns ! (of-opd ! (lit ! tt)) (from ! (stop !)) (init ! 8 refl (tt, record { fits = lit< tt })) $
         move ! (17 ∷ []) $ fsplit ! $ fsplit ! $ move ! (1 ∷ []) $ fsplit ! $ move ! (20 ∷ []) $ split ! $
         -- [the token; true; res; the borrow; table's fact; true; _7; …]
         keep ! (0 ∷ 3 ∷ 6 ∷ 7 ∷ 8 ∷ 9 ∷ 10 ∷ 11 ∷ 12 ∷ 13 ∷ 14 ∷ 15 ∷ 16 ∷ 17 ∷ 18 ∷ 19 ∷ 20 ∷ 21 ∷ 4 ∷ 2 ∷ []) $
-        first ! $ blocks ! $ loops ! 𝓣 Nearer Nearer-wf At turns (0, zero-le, began r v e is .1)))))
-      where
-        began : (r : Table) (v : Val) → r ≡ tableOf [] → Is U.the-row r (v ∷ []) → (v ≡ seen (upto 0)) × Seen (upto 0)
-        began r v e is =
-            let same : r ≡ upto 0 = e ∙ load-none ys in
-            let told : v ≡ seen r = ap only (LL.tells U.the-type U′.the-laws r (v ∷ []) is) in
-            (told ∙ ap seen same, subst Seen same (subst (λ (u : Val). Is U.the-row r (u ∷ [])) told is))
+        first ! $ blocks ! $ loops ! 𝓣 Nearer Nearer-wf At turns (0, zero-le, subst Seen (load-none ys) ge))
 
   walk : (𝓣 : Tables 𝓤 H) (fm : FmC 𝓤 H (W .laws) (𝓣 .C)) → Triple 𝓤 (𝓣 .C #workspace·empty) (Empty 𝓤 H A mem run) → Triple 𝓤 (𝓣 .C #workspace·noted) (Noted 𝓤 H A mem run)
       → ent 𝓤 (onEntry 𝓤 H A f.signature (κ, tt) (q, tt) x vals) (WpFn 𝓤 H (𝓣 .C) (𝓣 .Λ) code.function (sliceVal (b, o) n ∷ []) Post)

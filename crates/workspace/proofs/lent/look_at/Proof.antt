@@ -11,7 +11,6 @@ use Rattle.workspace.specs.Places.{placeOf, passesOf}
 use Rattle.workspace.specs.Seen.{tableOf, seenAs, lookOf}
 use Rattle.workspace.proofs.Calls.{Told, tells-struct, seen, Seen, calls-told, Loaded, FirstFit, loads, searches}
 use Rattle.workspace.proofs.Stretch as T
-use Rattle.workspace.proofs.Stretch.Laws as T′
 use Rattle.workspace.proofs.Table as U
 use Rattle.workspace.proofs.Table.Laws as U′
 use Rattle.workspace.proofs.Look as L

@@ -4,14 +4,10 @@
 use Rattle.workspace.proofs.Prelude.{_≡_, refl, ℕ, List, [], _∷_, length, URA, fullShare, Ty, Lifetime, named, erased, mut, tyUnit, tyRef, Val, vunit, SProp, ent, emp, via, fst∗, Lft, GName, Share, ftrue, fat, froom, fdies, flft, Memory, Routine, Heap, Env, WpFn, Calls, Loops, Tables, Atoms, Fun, givenOf, tables, tablesOf, Given, Item, _⊛_, ⋆, runs, atRet, Sq, _$_, _∵_, !, qed, by, move, drop, split, join, fsplit, fjoin, feqI, suffices, frame, done, agg, whole, sub, look-in, look, init, store, forget, stop, hop, fld, from, load, addr, unit-lit, of-opd, and-then, no-more, assigns, land, returns, enter, alloc1, alloc0, params1, pass1, pass0, free1, free0, FmC, fmOf, WpFn-mono, owns, Is, pointee, RefT, sliceTy, sliceVal, MutSlice, Room, finally, slice-vals, mut-slice-tells, plain, nothing, owned, Vals, onEntry, Meets, tripleOf, Triple, entered, cited, says, Stays, gave-slice, stay-none, walkOf, AllGo, goes-gave-slice, goes-none, Walks, ends-at, walked, walk-meets, yes, ‵}
 use denote.Struct.Laws as LL
 use Rattle.workspace.specs.declared.Stretch.{Stretch}
-use Rattle.workspace.specs.declared.Table.{Table}
 use Rattle.workspace.specs.declared.Done.{Done}
 use Rattle.workspace.specs.Seen.{laid}
-use Rattle.workspace.proofs.Calls.{seen, Seen, Stored, stores}
+use Rattle.workspace.proofs.Calls.{Stored, stores}
 use Rattle.workspace.proofs.Stretch as T
-use Rattle.workspace.proofs.Stretch.Laws as T′
-use Rattle.workspace.proofs.Table as U
-use Rattle.workspace.proofs.Table.Laws as U′
 use Rattle.workspace.proofs.Done as N
 use Rattle.workspace.proofs.Done.Laws as N′
 use Rattle.workspace.proofs.lent.stored.Symbol as stored-def

@@ -1,0 +1,27 @@
+use mathlib.Core.Path.{_≡_}
+use Prim.Native.Nat.{_≤_, _-_}
+use lib.ListN.{length}
+use borrow.Author.Needs.{needs}
+use Rattle.allot.proofs.print.put_places.Statement.{statement}
+use Rattle.allot.proofs.print.put_places.Tie as tie
+
+abbrev Inv-loop : tie.InvT-loop
+Inv-loop out₀ at a p₀ i₀ out p i = (i ≤ 32) × (length out ≡ length out₀)
+
+abbrev μ-loop : tie.MeasureT-loop
+μ-loop out₀ at a p₀ i₀ out p i = 32 - i
+
+pub put-places-spec : {M : Type 1} → statement M
+put-places-spec =
+    tie.close
+    (tie.spec
+    Inv-loop
+    μ-loop
+    (λ c. search needs)
+    (λ c κs. search needs)
+    (λ c κs. search needs)
+    (λ c. search needs)
+    (λ c. search needs)
+    (λ c. search needs)
+    (λ c. search needs)
+    (λ c. search needs))

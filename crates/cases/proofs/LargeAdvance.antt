@@ -1,0 +1,24 @@
+-- ADVANCE by the largest n: worked out by due moments, and carried over by `crossed`.
+-- Assumes nothing.
+use Prim.Native.Nat.{ℕ}
+use mathlib.Core.Path.{_≡_, refl, _∙_}
+use mathlib.Core.List.{List, [], _∷_}
+use native.Mathlib.Omega.{arith}
+use Rattle.lists.specs.Line.{pad, padTo}
+use Rattle.rules.specs.State.{State, empty, running}
+use Rattle.rules.specs.Sound.{sound}
+use Rattle.rules.specs.Step.{item, openEntry, queuedOn, advanced, advanceEnds, readings}
+use Rattle.rules.specs.Whole.{view, pack, stepWhole}
+use Rattle.rules.specs.declared.Item.{Item}
+use Rattle.rules.proofs.Advances.{advances}
+use Rattle.cases.specs.Cases.{lastOf, sleepers}
+
+-- both waits end, at two readings
+pub large-readings : readings 4294967295 (view (lastOf (pack (empty 4294967290)) sleepers .state)) ≡ 2
+unfolding sleepers sound stepWhole running openEntry queuedOn pad padTo
+large-readings = advances .crossed (view (lastOf (pack (empty 4294967290)) sleepers .state)) 4294967295 (omega arith) refl .count
+
+-- the shorter one first
+pub large-ends : advanceEnds 4294967295 (view (lastOf (pack (empty 4294967290)) sleepers .state)) ≡ item 2 1 0 0 ∷ item 1 1 0 0 ∷ []
+unfolding sleepers sound stepWhole running openEntry queuedOn pad padTo
+large-ends = advances .crossed (view (lastOf (pack (empty 4294967290)) sleepers .state)) 4294967295 (omega arith) refl .ends

@@ -1,0 +1,130 @@
+-- ADVANCE: that it is n ticks, for every n; the way over due moments, which the code goes; what holds of it.
+-- Assumes nothing.
+use Prim.Native.Nat.{ℕ, zero, suc, _+_, _-_, _≤_, _<_}
+use mathlib.Core.Path.{_≡_}
+use mathlib.Core.Bool.{Bool, true, false, _&&_}
+use mathlib.Core.List.{List, [], _∷_, _++_}
+use lib.ListN.{length}
+use lib.Dec.{ltb, leb}
+use Rattle.lists.specs.Lists.{if_then_else_, count, first}
+use Rattle.rules.specs.State.{State, timerOf, ticksLeft, after, setClock}
+use Rattle.rules.specs.Sound.{sound}
+use Rattle.rules.specs.Step.{tickTo, endsAt, advanced, advanceEnds, readings}
+use Rattle.rules.specs.Whole.{Whole, stepWhole}
+use Rattle.rules.specs.Runs.{Ask, Entry, start, logWhole, reachWhole, reasons, tickCount}
+use Rattle.rules.specs.declared.Item.{Item}
+use Rattle.rules.specs.declared.Supervisor.{Supervisor}
+use Rattle.calls.specs.declared.Call as C
+use Rattle.calls.specs.declared.Call.the-variants.{Create, Delay, Call, Select, End, Finish, Tick, Advance}
+
+-- ── by due moments ──
+
+-- the ticks to the next time that comes, 0 if nobody waits with a time
+abbrev pub till : State → ℕ
+till s = ticksLeft (s .clock) (timerOf s (first (s .delays)))
+
+-- it comes within n ticks
+abbrev pub comesIn : State → ℕ → Bool
+comesIn s n = ltb 0 (till s) && leb (till s) n
+
+-- the clock jumps from one due moment to the next, over at most f of them, and then to its last reading
+abbrev pub jumped : ℕ → ℕ → State → State
+jumped zero n s = setClock s (after (s .clock) n)
+jumped (suc f) n s = if comesIn s n then jumped f (n - till s) (tickTo s (after (s .clock) (till s))) else setClock s (after (s .clock) n)
+
+-- the waits that end on the way
+abbrev pub jumpEnds : ℕ → ℕ → State → List Item
+jumpEnds zero n s = []
+jumpEnds (suc f) n s = if comesIn s n then endsAt s (after (s .clock) (till s)) ++ jumpEnds f (n - till s) (tickTo s (after (s .clock) (till s))) else []
+
+-- the number of due moments on the way
+abbrev pub jumps : ℕ → ℕ → State → ℕ
+jumps zero n s = 0
+jumps (suc f) n s = if comesIn s n then suc (jumps f (n - till s) (tickTo s (after (s .clock) (till s)))) else 0
+
+-- ── as ticks ──
+
+-- n TICKs in a row
+abbrev pub tickAsks : ℕ → ℕ → List Ask
+tickAsks zero room = []
+tickAsks (suc n) room = record { call = Tick; room = room } ∷ tickAsks n room
+
+-- the lists of a log joined
+abbrev pub joined : List Entry → List Item
+joined [] = []
+joined (x ∷ xs) = x .out .ended ++ joined xs
+
+-- the clock readings at which a step of the log ended a wait
+abbrev pub moments : List Entry → List ℕ
+moments [] = []
+moments (x ∷ xs) = if ltb 0 (length (x .out .ended)) then x .out .state .clock ∷ moments xs else moments xs
+
+-- a call as it stands; ADVANCE n as n TICKs
+abbrev pub spread : C.Call → ℕ → List Ask
+spread (Create p n) room = record { call = Create p n; room = room } ∷ []
+spread (Delay d) room = record { call = Delay d; room = room } ∷ []
+spread (Call g e m) room = record { call = Call g e m; room = room } ∷ []
+spread (Select o m) room = record { call = Select o m; room = room } ∷ []
+spread End room = record { call = End; room = room } ∷ []
+spread Finish room = record { call = Finish; room = room } ∷ []
+spread Tick room = record { call = Tick; room = room } ∷ []
+spread (Advance n) room = tickAsks n room
+
+-- a run in which each ADVANCE n is n TICKs
+abbrev pub expand : List Ask → List Ask
+expand [] = []
+expand (a ∷ rest) = spread (a .call) (a .room) ++ expand rest
+
+-- ── what holds of it ──
+
+-- state and list are those of n TICKs with their lists joined; the entry field counts the clock readings at which a wait ended,
+-- all different
+pub record AsTicks (s : Supervisor) (n room : ℕ) : Type 0 where
+  pub state : stepWhole s (Advance n) room .state ≡ reachWhole s (tickAsks n room)
+  pub ends : stepWhole s (Advance n) room .ended ≡ joined (logWhole s (tickAsks n room))
+  pub readings : stepWhole s (Advance n) room .answer .entry ≡ length (moments (logWhole s (tickAsks n room)))
+  pub different : n < 4294967296 → (r : ℕ) → count r (moments (logWhole s (tickAsks n room))) ≤ 1
+
+-- the same over a run: nothing but the steps' number tells them apart
+pub record Expanded (s : Supervisor) (run : List Ask) : Type 0 where
+  pub state : reachWhole s run ≡ reachWhole s (expand run)
+  pub ends : joined (logWhole s run) ≡ joined (logWhole s (expand run))
+  pub ticks : tickCount (logWhole s run) ≡ tickCount (logWhole s (expand run))
+
+-- ADVANCE a, then ADVANCE b: together ADVANCE a + b
+pub record Cut (x y z : Whole) : Type 0 where
+  pub state : z .state ≡ y .state
+  pub ends : z .ended ≡ x .ended ++ y .ended
+  pub count : z .answer .entry ≡ x .answer .entry + y .answer .entry
+  pub refusal : z .refusal ≡ y .refusal
+  pub next : z .next ≡ y .next
+
+-- ADVANCE 0 changes nothing
+pub record Nothing (s : Supervisor) (w : Whole) : Type 0 where
+  pub state : w .state ≡ s
+  pub ends : w .ended ≡ []
+  pub count : w .answer .entry ≡ 0
+
+-- n ticks are 31 jumps at most: for every n, and across the clock's last reading
+pub record Crossed (s : State) (n : ℕ) : Type 0 where
+  pub state : advanced n s ≡ jumped 31 n s
+  pub ends : advanceEnds n s ≡ jumpEnds 31 n s
+  pub count : readings n s ≡ jumps 31 n s
+
+-- no wait ends twice: no task in two items, at most 31 items, so 124 bytes suffice, and no more readings than items
+pub record Fits (s : State) (n : ℕ) : Type 0 where
+  pub once : (t : ℕ) → length (reasons t (advanceEnds n s)) ≤ 1
+  pub items : length (advanceEnds n s) ≤ 31
+  pub count : readings n s ≤ length (advanceEnds n s)
+
+-- of every run from an empty supervisor with its clock at k, of every further step with ADVANCE, and with any room
+pub record Advances : Type 0 where
+  pub as-ticks : (k : ℕ) → k < 4294967296 → (run : List Ask) (n room : ℕ) → AsTicks (reachWhole (start k) run) n room
+  pub expanded : (k : ℕ) → k < 4294967296 → (run : List Ask) → Expanded (start k) run
+  pub cut : (k : ℕ) → k < 4294967296 → (run : List Ask) (a b room : ℕ)
+      → let s = reachWhole (start k) run in
+      Cut (stepWhole s (Advance a) room) (stepWhole (stepWhole s (Advance a) room .state) (Advance b) room) (stepWhole s (Advance (a + b)) room)
+  pub nothing : (k : ℕ) → k < 4294967296 → (run : List Ask) (room : ℕ) → let s = reachWhole (start k) run in Nothing s (stepWhole s (Advance 0) room)
+  -- of every sound state
+  pub crossed : (s : State) (n : ℕ) → s .clock < 4294967296 → sound s ≡ true → Crossed s n
+  pub fits : (s : State) (n : ℕ) → s .clock < 4294967296 → sound s ≡ true → Fits s n
