@@ -1,5 +1,6 @@
 -- What request (x) asks to be shown, of the operations whose contracts the three public functions have.
 --     run-keeps        over any sequence of operations from a fresh area the rules are kept
+--     never-bad-state  and none of them is refused with BAD_STATE
 --     suffices         32 places for free stretches suffice
 --     refused-same     a refusal changes nothing and answers 0
 --     no-space-exact   NO_SPACE exactly when no free stretch is long enough
@@ -18,7 +19,7 @@ use lib.Dec.{leb, ltb, eqb}
 use borrow.Author.Tests.{leb-true, leb-false, le-leb, lt-leb, ltb-true, lt-ltb, eq-eqb}
 use Rattle.workspace.specs.declared.Stretch.{Stretch}
 use Rattle.workspace.specs.Rules.{if_then_else_, every, units, stretch, none, isNone, end, isKept, hasPlaces}
-use Rattle.workspace.specs.Operations.{placed, fits, fitStart, cut, startsAt, lengthAt, without, joined, refused, took, freshOf, requestOf, releaseOf, tableAfter, NO-SPACE}
+use Rattle.workspace.specs.Operations.{placed, fits, fitStart, cut, startsAt, lengthAt, without, joined, refused, took, freshOf, requestOf, releaseOf, tableAfter, BAD-STATE, NO-SPACE}
 use Rattle.workspace.specs.Runs.{Area, isSound, Op, ask, give, outcomeOf, after, stepOf, runOf, freshArea, refusalOf, valueOf, givesAll}
 use Rattle.workspace.proofs.Basics.{cases, no, both, and-left, and-right}
 use Rattle.workspace.proofs.Pieces.{Piece, taken, spare, blocksFrom, freeFrom, measure, Good, Sound, suffice, fresh-sound}
@@ -118,9 +119,28 @@ sound-run : (a : Area) (os : List Op) → isSound a ≡ true → isSound (runOf 
 sound-run a [] e = e
 sound-run a (o ∷ os) e = sound-run (stepOf a o) os (step-keeps a o e)
 
+sound-good : (a : Area) (o : Op) → isSound a ≡ true → refusalOf (outcomeOf a o) ≡ BAD-STATE → ⊥
+unfolding requestOf releaseOf
+sound-good a (ask n) e r =
+    cases (leb 1 n && leb n 65535)
+    (λ e₁. cases (ltb (a .used .blocks) 31)
+    (λ e₂. cases (fits n (take (a .used .free) (a .free)))
+    (λ e₃. let k : _≡_ {A = ℕ} 0 2 = rw (e, e₁, e₂, e₃) at r in no (omega (arith, k)))
+    (λ e₃. let k : _≡_ {A = ℕ} 15 2 = rw (e, e₁, e₂, e₃) at r in no (omega (arith, k))))
+    (λ e₂. let k : _≡_ {A = ℕ} 14 2 = rw (e, e₁, e₂) at r in no (omega (arith, k))))
+    (λ e₁. let k : _≡_ {A = ℕ} 13 2 = rw (e, e₁) at r in no (omega (arith, k)))
+sound-good a (give s) e r =
+    cases (startsAt s (take (a .used .blocks) (a .blocks)))
+    (λ e₁. let k : _≡_ {A = ℕ} 0 2 = rw (e, e₁) at r in no (omega (arith, k)))
+    (λ e₁. let k : _≡_ {A = ℕ} 16 2 = rw (e, e₁) at r in no (omega (arith, k)))
+
 -- over any sequence of operations from a fresh area
 pub run-keeps : (b f : List Stretch) (os : List Op) → hasPlaces b f ≡ true → isSound (runOf (freshArea b f) os) ≡ true
 run-keeps b f os e = sound-run (freshArea b f) os (fresh-keeps b f e)
+
+-- so refusal 2 is never given there
+pub never-bad-state : (b f : List Stretch) (os : List Op) (o : Op) → hasPlaces b f ≡ true → refusalOf (outcomeOf (runOf (freshArea b f) os) o) ≡ BAD-STATE → ⊥
+never-bad-state b f os o e r = sound-good (runOf (freshArea b f) os) o (run-keeps b f os e) r
 
 -- "Show that 32 stretches suffice": of the rules, and of an area in use
 pub rules-suffice : (blocks free : List Stretch) → isKept blocks free ≡ true → length blocks ≤ 31 → length free ≤ 32
