@@ -25,7 +25,6 @@ pub enum Call {
     End,
     Finish,
     Tick,
-    /// So many ticks.
     Advance(u32),
 }
 
