@@ -304,7 +304,8 @@ fn anything(random: &mut Random) -> Call {
 }
 
 fn tick(random: &mut Random, state: &Supervisor) -> Call {
-    match random.once_in(8) {
+    // clock 0 is met seldom
+    match random.once_in(if state.clock == 0 { 2 } else { 8 }) {
         true => advance(random, state),
         false => Call::Tick,
     }
@@ -317,8 +318,8 @@ pub fn advance(random: &mut Random, state: &Supervisor) -> Call {
     Call::Advance(match (random.below(16), due) {
         (0, _) => 0,
         (1, _) => u32::MAX,
-        // to the last reading, not round the clock
-        (2, _) if state.clock == 0 => u32::MAX,
+        // from clock 0 to the last reading, not round the clock
+        (2 | 3, _) if state.clock == 0 => u32::MAX,
         (2, _) => random.next() as u32,
         (3, _) => (random.between(-1, 1) as u32).wrapping_sub(state.clock),
         (4..=7, Some(left)) => left,
