@@ -1,8 +1,8 @@
 use mathlib.Core.Path.{_≡_}
 use lib.ListN.{length}
 use borrow.Author.Needs.{needs}
-use Rattle.session.proofs.runs.run_log.Statement.{statement}
-use Rattle.session.proofs.runs.run_log.Tie as tie
+use Rattle.logs.proofs.run_log.Statement.{statement}
+use Rattle.logs.proofs.run_log.Tie as tie
 
 abbrev Inv-loop : tie.InvT-loop
 Inv-loop buf₀ room₀ out₀ run₀ turns₀ buf room out run turns = (length buf ≡ length buf₀) × (length room ≡ length room₀) × (length out ≡ length out₀)

@@ -1,7 +1,7 @@
 use mathlib.Core.Path.{_∙_}
 use borrow.Author.Needs.{needs}
-use Rattle.session.proofs.runs.run_next.Statement.{statement}
-use Rattle.session.proofs.runs.run_next.Tie as tie
+use Rattle.logs.proofs.run_next.Statement.{statement}
+use Rattle.logs.proofs.run_next.Tie as tie
 
 same-length-2 : tie.Need-same-length-2
 same-length-2 c = c .before .before .skipped .kept .1 .1 .0 ∙ c .before .before .before .before .before .before .before .before .before .before .before .run-log .kept .1 .0 ∙ c .before .before .before .before .before .before .before .before .before .before .before .before .before .before .before .before .before .before .before .before .before .before .before .before .before .before .before .before .before .before .before .before .before .before .headed .kept .1 .0

@@ -1,7 +1,9 @@
 // The window on the input: what has been read of it and not yet been taken stands in a buffer.
 // A window that reaches outside its buffer is cut to it, so each function takes every input.
-ghost use Prim.Native.Nat.{_≤_};
+ghost use Prim.Native.Nat.{_≤_, _-_};
+ghost use mathlib.Core.Path.{_≡_};
 ghost use lib.ListN.{length};
+ghost use Rattle.stream.specs.Windows.{noWindow, shifted};
 use libc::STDIN_FILENO;
 use text::least;
 
@@ -13,7 +15,9 @@ pub struct Window {
 }
 
 // A window on nothing yet.
-pub fn unread() -> Window {
+pub fn unread() -> Window
+    ensures { λ r. ⌜ r ≡ noWindow ⌝ }
+{
     Window {
         at: 0,
         end: 0,
@@ -24,7 +28,8 @@ pub fn unread() -> Window {
 // Moves what stands from `at` to `end` to the front, and answers how much that is.
 fn shift(buf: &mut [u8], at: usize, end: usize) -> usize
     requires { ⌜ (at ≤ end) × (end ≤ length (now buf)) ⌝ }
-    ensures { λ r. ⌜ r ≤ length (now (buf .entry)) ⌝ }
+    ensures { λ r. ⌜ (r ≡ end - at) × (r ≤ length (now (buf .entry))) ⌝ }
+    ensures { λ r. ⌜ now (buf .exit) ≡ shifted (now (buf .entry)) at end ⌝ }
 {
     let n = end - at;
     let mut i: usize = 0;

@@ -1,17 +1,18 @@
+use Prim.Native.Nat.{_-_, _≤_}
 use mathlib.Core.Path.{_≡_}
 use lib.ListN.{length}
 use borrow.Author.Needs.{needs}
-use Rattle.session.proofs.runs.skipped.Statement.{statement}
-use Rattle.session.proofs.runs.skipped.Tie as tie
+use Rattle.stream.proofs.window.headed.Statement.{statement}
+use Rattle.stream.proofs.window.headed.Tie as tie
 
 abbrev Inv-loop : tie.InvT-loop
-Inv-loop left buf₀ s₀ turns₀ buf s turns = (length buf ≡ length buf₀)
+Inv-loop buf₀ n₀ i₀ buf n i = (length buf ≡ length buf₀) × (i ≤ 8)
 
 abbrev μ-loop : tie.MeasureT-loop
-μ-loop left buf₀ s₀ turns₀ buf s turns = turns
+μ-loop buf₀ n₀ i₀ buf n i = 8 - i
 
-pub skipped-spec : {M : Type 1} → statement M
-skipped-spec =
+pub headed-spec : {M : Type 1} → statement M
+headed-spec =
     tie.close
     (tie.spec
     Inv-loop

@@ -1,18 +1,17 @@
-use Prim.Native.Nat.{_-_, _≤_}
 use mathlib.Core.Path.{_≡_}
 use lib.ListN.{length}
 use borrow.Author.Needs.{needs}
-use Rattle.session.proofs.window.headed.Statement.{statement}
-use Rattle.session.proofs.window.headed.Tie as tie
+use Rattle.logs.proofs.skipped.Statement.{statement}
+use Rattle.logs.proofs.skipped.Tie as tie
 
 abbrev Inv-loop : tie.InvT-loop
-Inv-loop buf₀ n₀ i₀ buf n i = (length buf ≡ length buf₀) × (i ≤ 8)
+Inv-loop left buf₀ s₀ turns₀ buf s turns = (length buf ≡ length buf₀)
 
 abbrev μ-loop : tie.MeasureT-loop
-μ-loop buf₀ n₀ i₀ buf n i = 8 - i
+μ-loop left buf₀ s₀ turns₀ buf s turns = turns
 
-pub headed-spec : {M : Type 1} → statement M
-headed-spec =
+pub skipped-spec : {M : Type 1} → statement M
+skipped-spec =
     tie.close
     (tie.spec
     Inv-loop
