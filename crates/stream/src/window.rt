@@ -3,7 +3,7 @@
 ghost use Prim.Native.Nat.{_≤_, _-_};
 ghost use mathlib.Core.Path.{_≡_};
 ghost use lib.ListN.{length};
-ghost use Rattle.stream.specs.Windows.{noWindow, shifted};
+ghost use Rattle.stream.specs.Windows.{noWindow, shifted, Grown};
 use libc::STDIN_FILENO;
 use text::least;
 
@@ -41,7 +41,9 @@ fn shift(buf: &mut [u8], at: usize, end: usize) -> usize
 }
 
 // The window after one read more. A read that fails ends the input.
-pub fn refilled(w: Window, buf: &mut [u8]) -> Window {
+pub fn refilled(w: Window, buf: &mut [u8]) -> Window
+    ensures { λ r. ⌜ Grown w (now (buf .entry)) r (now (buf .exit)) ⌝ }
+{
     let end = least(w.end, buf.len());
     let at = least(w.at, end);
     let n = shift(buf, at, end);
@@ -56,7 +58,9 @@ pub fn refilled(w: Window, buf: &mut [u8]) -> Window {
 }
 
 // The window with a whole head of eight bytes in it, where the input has one.
-pub fn headed(w: Window, buf: &mut [u8]) -> Window {
+pub fn headed(w: Window, buf: &mut [u8]) -> Window
+    ensures { λ r. ⌜ Grown w (now (buf .entry)) r (now (buf .exit)) ⌝ }
+{
     let mut n = w;
     let mut i: usize = 0;
     while i < 8 {
@@ -67,7 +71,9 @@ pub fn headed(w: Window, buf: &mut [u8]) -> Window {
 }
 
 // The window after one read more, where it has less than a head and more bytes may come.
-fn topped(w: Window, buf: &mut [u8]) -> Window {
+fn topped(w: Window, buf: &mut [u8]) -> Window
+    ensures { λ r. ⌜ Grown w (now (buf .entry)) r (now (buf .exit)) ⌝ }
+{
     let end = least(w.end, buf.len());
     let at = least(w.at, end);
     if w.last {
