@@ -10,6 +10,8 @@ use Rattle.lines.proofs.rejoined.Reads as rejoined
 use Rattle.lines.proofs.joined_all.Reads as joined-all
 use Rattle.lines.proofs.first_of.Reads as first-of
 use Rattle.lines.proofs.last_of.Reads as last-of
+use Rattle.lines.proofs.marks_of.Reads as marks-of
+use Rattle.lines.proofs.picked.Reads as picked
 
 pub len-once : Once len.Post
 len-once κs x r r′ y y′ p q = p ∙ sym q
@@ -34,3 +36,9 @@ first-of-once κs x r r′ y y′ p q = p ∙ sym q
 
 pub last-of-once : Once last-of.Post
 last-of-once κs x r r′ y y′ p q = p ∙ sym q
+
+pub marks-of-once : Once marks-of.Post
+marks-of-once κs x r r′ y y′ p q = p ∙ sym q
+
+pub picked-once : Once picked.Post
+picked-once κs x r r′ y y′ p q = p ∙ sym q

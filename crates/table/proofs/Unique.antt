@@ -6,6 +6,7 @@ use Rattle.table.proofs.dispatch.running.Reads as running
 use Rattle.table.proofs.moves.moved.Reads as moved
 use Rattle.table.proofs.moves.met.Reads as met
 use Rattle.table.proofs.moves.parted.Reads as parted
+use Rattle.table.proofs.moves.woken.Reads as woken
 use Rattle.table.proofs.place.is_ready.Reads as is-ready
 use Rattle.table.proofs.place.is_queued.Reads as is-queued
 use Rattle.table.proofs.place.is_held.Reads as is-held
@@ -47,6 +48,9 @@ met-once κs x r r′ y y′ p q = p ∙ sym q
 
 pub parted-once : Once parted.Post
 parted-once κs x r r′ y y′ p q = p ∙ sym q
+
+pub woken-once : Once woken.Post
+woken-once κs x r r′ y y′ p q = p ∙ sym q
 
 -- ── place ──
 
