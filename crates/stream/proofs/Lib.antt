@@ -1,0 +1,3 @@
+mod Shifts
+mod Growing
+pub mod Unique
