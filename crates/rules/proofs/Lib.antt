@@ -10,6 +10,7 @@ pub mod OverRuns
 pub mod Ends
 pub mod TimedWait
 pub mod WholeLaws
+pub mod EveryStruct
 pub mod SoundSaid
 pub mod Bounds
 pub mod Dispatch

@@ -15,7 +15,7 @@ use Rattle.lists.specs.Lists.{if_then_else_, bit, count, filter, remove, every}
 use Rattle.rules.specs.State.{State, blank, nth, created, isReady, isQueued, isHeld, hasTime, running}
 use Rattle.rules.specs.Sound.{sound}
 use Rattle.rules.specs.Step.{Outcome, refused, took, Refusal, SHORT-ROOM, BAD-STATE, takeCall}
-use Rattle.rules.specs.Whole.{view, pack, isBlank, isOff, unused, packed, soundWhole, Whole, decline, done, stepWhole}
+use Rattle.rules.specs.Whole.{Typed, view, pack, isBlank, isOff, unused, packed, soundWhole, Whole, decline, done, stepWhole}
 use Rattle.rules.specs.declared.Supervisor.{Supervisor}
 use Rattle.calls.specs.declared.Call as C
 use Rattle.rules.specs.declared.Task.{Task}
@@ -27,7 +27,7 @@ use Rattle.rules.specs.declared.Place.{Place}
 use Rattle.rules.specs.declared.Place.the-variants.{Blank, Ready, Delayed, Queued, Held, Accepting, Completed}
 use Rattle.rules.specs.declared.Timer.{Timer}
 use Rattle.rules.specs.declared.Timer.the-variants.{Off, Due}
-use Rattle.rules.proofs.SoundTest.{sound-test}
+use Rattle.rules.proofs.SoundTest.{sound-test, sound-props}
 use Rattle.rules.specs.State.{empty}
 use Rattle.rules.specs.Runs.{Ask, Given, Entry, viewed, entryWhole, logWhole, reachWhole}
 use Rattle.rules.proofs.StateRuns.{stepped, step, entry, logOf, reach}
@@ -91,7 +91,7 @@ packed-pack s h =
     behind : (l : List ℕ) → count 0 l ≡ 0 → tidy (pad l) ≡ true
     behind l z = pad-tidy l (no-zero l z)
 
--- ── a packed struct is the pack of what it stands for ──
+-- ── a sound struct is the pack of what it stands for, and that is sound ──
 
 pub blank-is : (x : Task) → unused x ≡ true → x ≡ blank
 blank-is x e =
@@ -130,13 +130,12 @@ tasks-packed n ts a l h =
     let m : length (drop n ts) ≡ 31 - n = length-drop n ts ∙ ap (λ (x : ℕ). x - n) l in
     sym (take-append-drop n ts) ∙ ap (λ (r : List Task). take n ts ++ r) (all-blank (drop n ts) h ∙ ap (λ (x : ℕ). replicate x blank) (m ∙ ap (λ (x : ℕ). 31 - x) (sym k)))
 
-pub whole-packed : (s : Supervisor) → length (s .tasks) ≡ 31 → length (s .ready) ≡ 31 → length (s .callers) ≡ 31 → length (s .held) ≡ 31 → length (s .delays) ≡ 31
-    → packed s ≡ true → s ≡ pack (view s)
-whole-packed s l r c h d p =
+pub whole-packed : (s : Supervisor) → Typed s → soundWhole s ≡ true → s ≡ pack (view s)
+whole-packed s l p =
     let f : Bool = leb (s .created) 31 in
     let e : Bool = every unused (drop (s .created) (s .tasks)) in
     let x1 : Bool = tidy (s .ready) in let x2 : Bool = tidy (s .callers) in let x3 : Bool = tidy (s .held) in let x4 : Bool = tidy (s .delays) in
-    let t = true-T p in
+    let t = and-l (packed s) (sound (view s)) (true-T p) in
     let t3 = and-l (f && e && x1 && x2 && x3) x4 t in
     let t2 = and-l (f && e && x1 && x2) x3 t3 in
     let t1 = and-l (f && e && x1) x2 t2 in
@@ -144,13 +143,16 @@ whole-packed s l r c h d p =
     let n = leb-true (s .created) 31 (is-true f (and-l f e t0)) in
     λ i. record {
       clock = s .clock;
-      created = sym (length-take-le (s .created) (s .tasks) (omega arith)) i;
-      tasks = tasks-packed (s .created) (s .tasks) n l (and-r f e t0) i;
-      ready = tidy-pad (s .ready) r (is-true x1 (and-r (f && e) x1 t1)) i;
-      callers = tidy-pad (s .callers) c (is-true x2 (and-r (f && e && x1) x2 t2)) i;
-      held = tidy-pad (s .held) h (is-true x3 (and-r (f && e && x1 && x2) x3 t3)) i;
-      delays = tidy-pad (s .delays) d (is-true x4 (and-r (f && e && x1 && x2 && x3) x4 t)) i;
+      created = sym (length-take-le (s .created) (s .tasks) (omega (arith, n, l .tasks))) i;
+      tasks = tasks-packed (s .created) (s .tasks) n (l .tasks) (and-r f e t0) i;
+      ready = tidy-pad (s .ready) (l .ready) (is-true x1 (and-r (f && e) x1 t1)) i;
+      callers = tidy-pad (s .callers) (l .callers) (is-true x2 (and-r (f && e && x1) x2 t2)) i;
+      held = tidy-pad (s .held) (l .held) (is-true x3 (and-r (f && e && x1 && x2) x3 t3)) i;
+      delays = tidy-pad (s .delays) (l .delays) (is-true x4 (and-r (f && e && x1 && x2 && x3) x4 t)) i;
     }
+
+pub sound-view : (s : Supervisor) → Typed s → soundWhole s ≡ true → Sound (view s)
+sound-view s t e = sound-props (view s) (t .clock) (is-true (sound (view s)) (and-r (packed s) (sound (view s)) (true-T e)))
 
 -- the step of the rules, with its state in the code's struct
 abbrev pub wholeOf : Given → Whole
