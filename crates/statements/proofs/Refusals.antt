@@ -13,7 +13,7 @@ use Rattle.lists.proofs.ListLaws.{by-bool}
 use Rattle.rules.specs.State.{State, created, taskOf, placeOf, isTask, isCompleted, accepts, heldBy, queue, running}
 use Rattle.rules.specs.Sound.{inRange, sound}
 use Rattle.rules.specs.Step.{Outcome, refused, took, Refusal, number, BAD-STATE, SHORT-ROOM, ticks, create, delayFor, timedCall, callBusy, call, selectAt, selectNone, selectDelay, select, openEntry, endLast, end, finish, ofRunning, takeCall}
-use Rattle.rules.specs.Whole.{view, packed, soundWhole, done, decline, stepWhole}
+use Rattle.rules.specs.Whole.{Typed, view, soundWhole, done, decline, stepWhole}
 use Rattle.rules.specs.declared.Supervisor.{Supervisor}
 use Rattle.calls.specs.declared.Call as C
 use Rattle.calls.specs.declared.Call.the-variants.{Create, Delay, Call, Select, End, Finish, Tick, Advance}
@@ -23,8 +23,8 @@ use Rattle.calls.specs.declared.SelectMode.{SelectMode}
 use Rattle.calls.specs.declared.SelectMode.the-variants.{Plain, Else}
 use Rattle.calls.specs.declared.SelectMode.the-variants as S
 use Rattle.rules.proofs.Invariant.{Sound}
-use Rattle.rules.proofs.Members.{and-true, of-held, held-there}
-use Rattle.rules.proofs.SoundTest.{sound-props}
+use Rattle.rules.proofs.Members.{of-held, held-there}
+use Rattle.rules.proofs.WholeLaws.{sound-view}
 use Rattle.statements.specs.Refusals.{badField, needsTask, noTask, noTarget, noEntry, notServing, stillServing, full, Row, row, rows, firstRow}
 
 -- the refusal of an outcome, 0 if the call is taken
@@ -129,8 +129,8 @@ done-refusal : (s : Supervisor) (o : Outcome) → done s o .refusal ≡ refusalO
 done-refusal s (refused r) = refl
 done-refusal s (took st a l) = refl
 
-pub by-table : (s : Supervisor) (c : C.Call) (n : ℕ) → s .clock < 4294967296 → stepWhole s c n .refusal ≡ firstRow (rows s c n)
+pub by-table : (s : Supervisor) (c : C.Call) (n : ℕ) → Typed s → stepWhole s c n .refusal ≡ firstRow (rows s c n)
 unfolding stepWhole tableOf
 by-table s c n k =
     by-bool (ltb n 124) (λ e. rw e) λ e.
-    by-bool (soundWhole s) (λ f. rw (e, f) (done-refusal s (takeCall (view s) c) ∙ taken (view s) c (sound-props (view s) k (and-true (packed s) (sound (view s)) f)))) (λ f. rw (e, f))
+    by-bool (soundWhole s) (λ f. rw (e, f) (done-refusal s (takeCall (view s) c) ∙ taken (view s) c (sound-view s k f))) (λ f. rw (e, f))

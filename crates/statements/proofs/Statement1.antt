@@ -11,7 +11,7 @@ use borrow.Author.Tests.{ltb-true, ltb-false}
 use lib.ListN.{length}
 use Rattle.lists.specs.Lists.{if_then_else_}
 use Rattle.lists.proofs.ListLaws.{by-bool, clash}
-use Rattle.rules.specs.Whole.{soundWhole, stepWhole}
+use Rattle.rules.specs.Whole.{Typed, soundWhole, stepWhole}
 use Rattle.rules.proofs.Dispatch.{each-step}
 use Rattle.rules.specs.Questions.{countWhole, callableWhole}
 use Rattle.rules.specs.declared.Supervisor.{Supervisor}
@@ -28,7 +28,7 @@ use Rattle.supervisor.proofs.count.Met as count
 use Rattle.supervisor.proofs.callable.Met as callable
 use Rattle.supervisor.proofs.sound.Met as sound
 use Rattle.statements.specs.Refusals.{Row, rows, firstRow}
-use Rattle.statements.specs.Statement1.{RowGiven, Typed, Statement1}
+use Rattle.statements.specs.Statement1.{RowGiven, Statement1}
 use Rattle.statements.proofs.Refusals.{by-table}
 
 -- the first row that applies, as a number and as a proposition

@@ -25,10 +25,10 @@ reached-is s [] k = refl
 reached-is s (u ∷ us) k = reached-is (u .gave .state) us (k .1) ∙ ap (λ (t : Supervisor). reachWhole t (map asked us)) (gave-state s u (k .0))
 
 module _ (n : ℕ) (run : Run n) where
-  abbrev pub asks : List Ask
+  abbrev asks : List Ask
   asks = map asked (run .uses)
 
-  pub at-end : stateOf run ≡ reachWhole (start n) asks
+  at-end : stateOf run ≡ reachWhole (start n) asks
   at-end = reached-is (start n) (run .uses) (run .kept)
 
   -- one more use

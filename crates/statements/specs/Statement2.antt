@@ -9,7 +9,7 @@ use lib.ListN.{length, take}
 use denote.Ref.{now}
 use Rattle.rules.specs.State.{State, queue}
 use Rattle.rules.specs.Step.{takeCall}
-use Rattle.rules.specs.Whole.{view, soundWhole, done, stepWhole}
+use Rattle.rules.specs.Whole.{Typed, view, soundWhole, done, stepWhole}
 use Rattle.rules.specs.Questions.{countWhole}
 use Rattle.rules.specs.EachStep.{Dispatched, waitingOn}
 use Rattle.rules.specs.Uses.{Use, Keeps}
@@ -20,7 +20,6 @@ use Rattle.calls.specs.Record.{encode}
 use Rattle.calls.specs.Reading.{readOf}
 use Rattle.calls.specs.Range.{InRange, Bytes}
 use Rattle.supervisor.proofs.step.Reads as step
-use Rattle.statements.specs.Statement1.{Typed}
 
 pub record Statement2 : Type 1 where
   -- whatever the contract of `step` allows, in a state x .0 with the call x .1 .0 and a lent room, is a use that keeps the rules' step

@@ -14,26 +14,22 @@ use Rattle.lists.specs.Lists.{every}
 use Rattle.rules.specs.State.{created, taskOf, running, isCompleted}
 use Rattle.rules.specs.Step.{Outcome, refused, took, takeCall, roomAfter, SHORT-ROOM, BAD-STATE}
 use Rattle.rules.specs.Sound.{sound}
-use Rattle.rules.specs.Whole.{view, pack, Whole, packed, soundWhole, decline, done, stepWhole, steppedOf, unused}
+use Rattle.rules.specs.Whole.{Typed, view, pack, Whole, packed, soundWhole, decline, done, stepWhole, steppedOf, unused}
 use Rattle.rules.specs.declared.Task.{Task}
 use Rattle.rules.specs.declared.Supervisor.{Supervisor}
 use Rattle.calls.specs.declared.Call.the-variants.{Call}
-use Rattle.rules.proofs.Members.{and-true, and-first}
+use Rattle.rules.proofs.Members.{and-first}
 use Rattle.rules.proofs.StepSound.{Kept, call-sound}
-use Rattle.rules.proofs.WholeLaws.{view-pack, whole-packed}
+use Rattle.rules.proofs.WholeLaws.{view-pack, whole-packed, sound-view}
 use Rattle.supervisor.specs.Taken.{Stands, takenOf, endedBy}
 use Rattle.supervisor.specs.declared.answers.Taken.{Taken}
-use Rattle.rules.proofs.SoundTest.{sound-props}
 use Rattle.rules.specs.declared.Stepped.{Stepped}
 use Rattle.rules.specs.declared.Known.{Known}
 use Rattle.rules.specs.Questions.{callableWhole}
 use Rattle.calls.specs.declared.Call as C
 
-pub stands-of : (s : Supervisor) → s .clock < 4294967296 → length (s .tasks) ≡ 31 → length (s .ready) ≡ 31 → length (s .callers) ≡ 31 → length (s .held) ≡ 31 → length (s .delays) ≡ 31 → soundWhole s ≡ true → Stands s
-stands-of s k l1 l2 l3 l4 l5 h = record {
-  packs = whole-packed s l1 l2 l3 l4 l5 (and-first (packed s) (sound (view s)) h);
-  sound = sound-props (view s) k (and-true (packed s) (sound (view s)) h);
-}
+pub stands-of : (s : Supervisor) → Typed s → soundWhole s ≡ true → Stands s
+stands-of s t h = record { packs = whole-packed s t h; sound = sound-view s t h }
 
 module _ (s : Supervisor) (c : C.Call) (n : ℕ) where
   pub step-short : n < 124 → stepWhole s c n ≡ decline s SHORT-ROOM 0
