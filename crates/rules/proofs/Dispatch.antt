@@ -22,7 +22,7 @@ use Rattle.rules.specs.declared.Place.the-variants.{Ready}
 use Rattle.calls.specs.declared.Call as C
 use Rattle.lists.proofs.ListLaws.{by-eq, by-bool, by-test, and-r, true-T, is-true, count-filter-yes, count-filter-no, same-length, down-once}
 use Rattle.rules.proofs.Invariant.{Sound}
-use Rattle.rules.proofs.Members.{in-filter, there, ready-is, bit-true, not-blank, runs, queued-is, queued-there, and-first}
+use Rattle.rules.proofs.Members.{in-filter, there, ready-is, bit-true, not-blank, runs, queued-is, queued-there}
 use Rattle.rules.proofs.SoundSaid.{nobody}
 use Rattle.rules.proofs.StepSound.{Kept, call-sound}
 use Rattle.rules.proofs.WholeLaws.{view-pack, sound-view}

@@ -31,14 +31,16 @@ use Rattle.calls.specs.declared.SelectMode.the-variants as S
 use Rattle.calls.specs.declared.Call as C
 use Rattle.calls.specs.declared.Call.the-variants.{Create, Delay, Call, Select, End, Finish, Tick, Advance}
 use Rattle.lists.proofs.ListLaws.{by-eq, by-bool, by-test, and-l, and-r, both, is-true, true-T, count-append, count-filter-yes, count-filter-no, count-filter-le, Ordered, ordered-cong}
+use Rattle.lists.proofs.Tests.{and-second}
 use Rattle.rules.proofs.Invariant.{Lined, Calls, Fits, InTime, Good, GoodAt, Sound}
-use Rattle.rules.proofs.Members.{in-filter, first-member, some-length, and-true, and-false, in-queue, of-queue, queued-good, queued-there, of-held, in-held, held-there, last-in, there, timed-there, bit-true, nth-beyond, Runs, runs}
+use Rattle.rules.proofs.Members.{bit-le, in-filter, first-member, some-length, in-queue, of-queue, queued-good, queued-there, of-held, in-held, held-there, last-in, there, timed-there, bit-true, nth-beyond, Runs, runs}
 use Rattle.rules.proofs.MoveLaws.{Alike, alike, alike-trans, place-same, place-other, meet-same, meet-other, part-same, part-other, moved, task-same, task-other, length-move}
 use Rattle.rules.specs.Step.{failed, expired, expiry, WAITS, ELAPSED, SERVED, CALL-EXPIRED, TASKING-ERROR, ACCEPTED, DELAY-TAKEN, DONE}
 use Rattle.rules.specs.Runs.{isWaiting, reasons, duration, ticksOf}
 use Rattle.rules.specs.Step.{tickTo, endsAt, advanced, advanceEnds, readings}
-use Rattle.rules.proofs.Passes.{reasons-none, reasons-one, bit-le, in-time, Passes, stays, comes, tick-passes, advance-passes, later, later-is, advance-clock}
-use Rattle.rules.proofs.StepSound.{by-runner, wakeAll-clock, between, wakeAll-out, wakeAll-in, wakeAll-length, of-queuedFrom, one-open, nth-old, nth-new, nth-further, by-number, due-is}
+use Rattle.rules.proofs.Passes.{reasons-none, reasons-one, in-time, Passes, stays, comes, tick-passes, advance-passes, later, later-is, advance-clock}
+use Rattle.rules.proofs.StepSound.{by-runner, wakeAll-clock, between, wakeAll-out, wakeAll-in, wakeAll-length, of-queuedFrom, one-open, due-is}
+use Rattle.rules.proofs.AddLaws.{nth-old, nth-new, nth-further, by-number}
 
 -- where a wait that begins with a call stands, and its time
 abbrev pub placeFor : State → C.Call → Place
@@ -158,7 +160,7 @@ select-fate s u t o m r = by-test (FateOf s (Select o m) u) (leb (2 ^ (taskOf s 
     go zero z = none-fate s u t o m r
     go (suc e) z =
         let c = first (queue s t (suc e)) in
-        let q = of-queue s c t (suc e) (first-member (queue s t (suc e)) (ltb-true 0 _ (and-true (opens o (suc e)) (ltb 0 (length (queue s t (suc e)))) (one-open s t o 8 1 e z)))) in
+        let q = of-queue s c t (suc e) (first-member (queue s t (suc e)) (ltb-true 0 _ (and-second (opens o (suc e)) (ltb 0 (length (queue s t (suc e)))) (one-open s t o 8 1 e z)))) in
         let i = queued-there s c (q .0) (q .1) in
         by-eq u c
         (λ y. taken refl (q .0) (meeting s t (suc e)) (ap (placeOf s) y ∙ q .1) (ap (placeOf (meet s t c (suc e))) y ∙ meet-same s t c (r .low) (r .high) (i .0) (i .1) (suc e)) refl refl)

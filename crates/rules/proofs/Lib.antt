@@ -1,6 +1,7 @@
 pub mod Invariant
 pub mod MoveLaws
 pub mod Members
+pub mod AddLaws
 pub mod StepSound
 pub mod SoundTest
 pub mod Passes

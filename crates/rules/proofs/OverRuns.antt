@@ -32,8 +32,9 @@ use Rattle.calls.specs.declared.SelectMode.the-variants as S
 use Rattle.calls.specs.declared.Call as C
 use Rattle.calls.specs.declared.Call.the-variants.{Create, Delay, Call, Select, End, Finish, Tick, Advance}
 use Rattle.lists.proofs.ListLaws.{by-eq, by-bool, by-test}
+use Rattle.lists.proofs.Tests.{and-first, and-second}
 use Rattle.rules.proofs.Invariant.{Calls, Fits, InTime, Good, Sound}
-use Rattle.rules.proofs.Members.{timed-there, and-first, and-true}
+use Rattle.rules.proofs.Members.{timed-there}
 use Rattle.rules.proofs.SoundTest.{sound-test}
 use Rattle.rules.proofs.StepSound.{Kept, call-sound, ticks-small}
 use Rattle.rules.proofs.Fate.{Fate, FateOf, fate, untouched, awake, began, began-held, taken, ran-out, accepted, served, given-up, placeFor, timerIn, starts}
@@ -180,7 +181,7 @@ all-reasons : (l : List Item) → ((u : ℕ) → every isReason (reasons u l) �
 all-reasons [] h = refl
 all-reasons (i ∷ is) h =
     rw (and-first (isReason (i .result)) (every isReason (reasons (i .task) is)) (rw (eq-eqb (i .task) (i .task) refl) at (h (i .task))))
-    (all-reasons is (λ u. by-bool (eqb (i .task) u) (λ e. and-true (isReason (i .result)) (every isReason (reasons u is)) (rw e at (h u))) (λ e. rw e at (h u))))
+    (all-reasons is (λ u. by-bool (eqb (i .task) u) (λ e. and-second (isReason (i .result)) (every isReason (reasons u is)) (rw e at (h u))) (λ e. rw e at (h u))))
 
 step-reasons : (s : State) (a : Ask) → Sound s → (u : ℕ) → every isReason (reasons u (entry s a .out .ended)) ≡ true
 step-reasons s a h u = go (entry s a .out) (step-fate s a u h)

@@ -18,7 +18,7 @@ use Rattle.rules.specs.declared.Timer.the-variants.{Off, Due}
 use Rattle.rules.specs.declared.Place.the-variants.{Ready}
 use Rattle.lists.proofs.ListLaws.{by-eq, by-bool, count-filter-yes, count-filter-le}
 use Rattle.rules.proofs.Invariant.{InTime, Sound}
-use Rattle.rules.proofs.Members.{in-filter, timed-there}
+use Rattle.rules.proofs.Members.{bit-le, in-filter, timed-there}
 use Rattle.rules.proofs.StepSound.{tick-kept, due-is, wakeAll-in, wakeAll-out}
 
 -- ── lists of items ──
@@ -38,10 +38,6 @@ module _ (f : ℕ → Item) (own : (x : ℕ) → f x .task ≡ x) (u : ℕ) wher
 pub reasons-append : (u : ℕ) (l m : List Item) → reasons u (l ++ m) ≡ reasons u l ++ reasons u m
 reasons-append u [] m = refl
 reasons-append u (i ∷ is) m = let ih = reasons-append u is m in by-bool (eqb (i .task) u) (λ e. rw (e, ih)) (λ e. rw (e, ih))
-
-pub bit-le : (b : Bool) → bit b ≤ 1
-bit-le true = omega arith
-bit-le false = omega arith
 
 -- ── the clock ──
 

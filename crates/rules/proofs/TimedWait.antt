@@ -34,8 +34,9 @@ use Rattle.calls.specs.declared.SelectMode.the-variants as S
 use Rattle.calls.specs.declared.Call as C
 use Rattle.calls.specs.declared.Call.the-variants.{Create, Delay, Call, Select, End, Finish, Tick, Advance}
 use Rattle.lists.proofs.ListLaws.{clash, by-eq, by-bool, by-test}
+use Rattle.lists.proofs.Tests.{and-first, and-second}
 use Rattle.rules.proofs.Invariant.{Calls, Fits, InTime, Good, Sound}
-use Rattle.rules.proofs.Members.{timed-there, and-first, and-true}
+use Rattle.rules.proofs.Members.{timed-there}
 use Rattle.rules.proofs.SoundTest.{sound-test}
 use Rattle.rules.proofs.StepSound.{Kept, call-sound}
 use Rattle.rules.proofs.Fate.{Fate, FateOf, fate, untouched, awake, began, began-held, taken, ran-out, accepted, served, given-up, placeFor, timerIn, starts}
@@ -112,7 +113,7 @@ not-completed s s′ c b l p h e n =
     by-bool (isFinish c && eqb (b .task) (partnerOf p))
     (λ t.
     let f = finish-is c (and-first (isFinish c) (eqb (b .task) (partnerOf p)) t) in
-    let g = eqb-true (b .task) (partnerOf p) (and-true (isFinish c) (eqb (b .task) (partnerOf p)) t) in
+    let g = eqb-true (b .task) (partnerOf p) (and-second (isFinish c) (eqb (b .task) (partnerOf p)) t) in
     let e2 : takeCall s Finish ≡ took s′ b l = sym (ap (takeCall s) f) ∙ e in
     let v : isCompleted (placeOf s′ (b .task)) ≡ true = rw e2 at (finished s h) in
     no (let v2 : isCompleted (placeOf s′ (partnerOf p)) ≡ true = rw g at v in cc))

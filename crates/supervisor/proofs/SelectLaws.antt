@@ -16,8 +16,9 @@ use Rattle.calls.specs.declared.Call.the-variants.{Delay, Select}
 use lib.IntN.{ℤ}
 use Rattle.calls.specs.declared.SelectMode.{SelectMode}
 use Rattle.calls.specs.declared.SelectMode.the-variants.{Plain, Else}
-use Rattle.rules.proofs.Members.{of-queue, first-member, and-true, queued-there}
+use Rattle.rules.proofs.Members.{of-queue, first-member, queued-there}
 use Rattle.lists.proofs.ListLaws.{by-test}
+use Rattle.lists.proofs.Tests.{and-second}
 use Rattle.rules.proofs.StepSound.{one-open}
 use Rattle.calls.specs.declared.SelectMode.the-variants as S
 use Rattle.supervisor.proofs.AnswerLaws.{no-runner, of-runner, Quiet, quiet-runner}
@@ -47,7 +48,7 @@ pub first-fits : (v : State) (t o e k : ℕ) → e ≡ openEntry v t o → (e �
 unfolding openEntry
 first-fits v t o zero k i z f = absurd (z refl)
 first-fits v t o (suc e) k i z f =
-    let q = of-queue v k t (suc e) (rw f (first-member (queue v t (suc e)) (ltb-true 0 _ (and-true (opens o (suc e)) (ltb 0 (length (queue v t (suc e)))) (one-open v t o 8 1 e (sym i)))))) in
+    let q = of-queue v k t (suc e) (rw f (first-member (queue v t (suc e)) (ltb-true 0 _ (and-second (opens o (suc e)) (ltb 0 (length (queue v t (suc e)))) (one-open v t o 8 1 e (sym i)))))) in
     queued-there v k (q .0) (q .1) .1
 
 module _ (v : State) (t o : ℕ) (d : ℤ) (n : ℕ) (is : n ≡ ticks d) where
