@@ -1,38 +1,22 @@
 -- What a new task leaves of the others' tasks and lines; it keeps soundness.
 -- Assumes nothing.
-use Prim.Native.Nat.{ℕ, zero, suc, _+_, _-_, _%_, _≤_, _<_, _^_}
-use mathlib.Core.Path.{_≡_, refl, sym, _∙_, ap, subst}
-use mathlib.Core.Bool.{Bool, true, false, not, _&&_, _||_}
-use mathlib.Core.List.{List, [], _∷_, _++_, map}
+use Prim.Native.Nat.{ℕ, zero, suc, _+_, _≤_, _<_}
+use mathlib.Core.Path.{_≡_, refl, sym, _∙_}
+use mathlib.Core.Bool.{Bool, true, false}
+use mathlib.Core.List.{List, [], _∷_, _++_}
 use native.Mathlib.Omega.{arith}
-use lib.IntN.{ℤ, pos, negsuc}
-use lib.ListN.{length, getD, List·getD-append, length-append}
+use lib.ListN.{length, List·getD-append, length-append}
 use lib.Seq.{getD-append-seam}
-use lib.Dec.{T, eqb, ltb, leb, eqb→eq, ltb→lt, leb→le}
-use borrow.Author.Tests.{eqb-true, eqb-false, eq-eqb, ne-eqb, ltb-true, ltb-false, leb-true, leb-false, not-true, not-false, lt-ltb}
-use Rattle.lists.specs.Lists.{if_then_else_, bit, count, filter, first, last, remove, insert}
-use Rattle.rules.specs.State.{State, blank, nth, setNth, taskOf, placeOf, timerOf, created, isTask, isReady, isQueued, isHeld, isCompleted, partnerOf, entryOf, accepts, opens, hasTime, ticksLeft, left, after, round, fresh, move, wake, meet, part, wakeAll, add, setClock, queue, heldBy, running, waiting, offer}
-use Rattle.rules.specs.Sound.{inRange}
-use Rattle.rules.specs.Step.{NO-TASK, Outcome, refused, took, item, create, delayFor, enqueue, timedCall, callBusy, call, openFrom, openEntry, selectDelay, selectNone, selectAt, select, endLast, end, queuedFrom, queuedOn, finish, dueAt, isDue, tick, tickTo, advanced, ofRunning, takeCall, ticks}
-use Rattle.rules.specs.declared.Item.{Item}
+use lib.Dec.{leb}
+use borrow.Author.Tests.{eq-eqb, ne-eqb, leb-true, leb-false}
+use Rattle.lists.specs.Lists.{bit, count}
+use Rattle.rules.specs.State.{State, blank, nth, placeOf, timerOf, isReady, isQueued, isHeld, partnerOf, hasTime, ticksLeft, fresh, add}
 use Rattle.rules.specs.declared.Task.{Task}
-use Rattle.rules.specs.declared.Timer.{Timer}
-use Rattle.rules.specs.declared.Timer.the-variants.{Off, Due}
-use Rattle.rules.specs.declared.Meeting.{Meeting}
-use Rattle.rules.specs.declared.Waiting.{Waiting}
 use Rattle.rules.specs.declared.Place.{Place}
 use Rattle.rules.specs.declared.Place.the-variants.{Blank, Ready, Delayed, Queued, Held, Accepting, Completed}
-use Rattle.calls.specs.declared.CallMode.{CallMode}
-use Rattle.calls.specs.declared.CallMode.the-variants.{Simple, Timed, Conditional}
-use Rattle.calls.specs.declared.SelectMode.{SelectMode}
-use Rattle.calls.specs.declared.SelectMode.the-variants.{Plain, Else}
-use Rattle.calls.specs.declared.SelectMode.the-variants as S
-use Rattle.calls.specs.declared.Call as C
-use Rattle.calls.specs.declared.Call.the-variants.{Create, Delay, Call, Select, End, Finish, Tick, Advance}
-use Rattle.lists.proofs.ListLaws.{by-eq, by-bool, by-test, and-l, and-r, both, is-true, true-T, count-append, count-filter-yes, count-filter-no, Ordered, ordered-cong}
-use Rattle.rules.proofs.Invariant.{Lined, Calls, Fits, InTime, Good, GoodAt, Sound}
-use Rattle.rules.proofs.Members.{in-filter, first-member, some-length, in-queue, of-queue, queued-good, queued-there, of-held, in-held, held-there, last-in, there, timed-there, bit-true, nth-beyond, Runs, runs}
-use Rattle.rules.proofs.MoveLaws.{wake-sound, delay-sound, queue-sound, meet-sound, part-sound, accept-sound, complete-sound, place-same, place-other, moved, task-same, task-other, length-move}
+use Rattle.lists.proofs.ListLaws.{by-eq, by-bool, count-append, ordered-cong}
+use Rattle.rules.proofs.Invariant.{Calls, Fits, GoodAt, Sound}
+use Rattle.rules.proofs.Members.{timed-there, bit-true, nth-beyond}
 
 module _ (ts : List Task) (x : Task) where
   pub nth-old : (u : ℕ) → u ≤ length ts → nth (ts ++ (x ∷ [])) u ≡ nth ts u

@@ -2,25 +2,23 @@
 -- Assumes nothing.
 use Prim.Native.Nat.{ℕ, zero, suc, _≤_, _<_}
 use mathlib.Core.Path.{_≡_, refl, sym, _∙_, ap, subst}
-use mathlib.Core.Logic.{_⊎_, inl, inr}
-use mathlib.Core.Bool.{Bool, true, false, not, _&&_}
+use mathlib.Core.Logic.{inl, inr}
+use mathlib.Core.Bool.{true, not}
 use mathlib.Core.List.{List, [], _∷_}
 use native.Mathlib.Omega.{arith}
 use lib.ListN.{length}
-use lib.Dec.{T, eqb, ltb, leb}
-use borrow.Author.Tests.{eqb-true, eq-eqb, le-ltb, not-false}
-use Rattle.lists.specs.Lists.{bit, count, filter, downFrom}
-use Rattle.rules.specs.State.{State, taskOf, placeOf, priorityOf, created, isReady, isQueued, partnerOf, entryOf, level, atLevel, headUpTo, running, queue, waitsOn}
-use Rattle.rules.specs.Step.{Outcome, refused, took, SHORT-ROOM, BAD-STATE, Refusal, roomAfter, takeCall}
-use Rattle.rules.specs.Whole.{Typed, Whole, view, pack, soundWhole, decline, done, stepWhole}
+use lib.Dec.{ltb}
+use borrow.Author.Tests.{eqb-true, eq-eqb, le-ltb}
+use Rattle.lists.specs.Lists.{count, downFrom}
+use Rattle.rules.specs.State.{State, placeOf, priorityOf, created, isReady, level, atLevel, headUpTo, running, queue, waitsOn}
+use Rattle.rules.specs.Step.{Outcome, refused, took, SHORT-ROOM, BAD-STATE, Refusal, takeCall}
+use Rattle.rules.specs.Whole.{Typed, Whole, view, soundWhole, decline, done, stepWhole}
 use Rattle.rules.specs.Questions.{countWhole}
-use Rattle.rules.specs.EachStep.{Untouched, Heads, Dispatched, waitingOn, EachStep}
-use Rattle.rules.specs.declared.Item.{Item}
+use Rattle.rules.specs.EachStep.{Untouched, Dispatched, waitingOn, EachStep}
 use Rattle.rules.specs.declared.Supervisor.{Supervisor}
-use Rattle.rules.specs.declared.Place.{Place}
 use Rattle.rules.specs.declared.Place.the-variants.{Ready}
 use Rattle.calls.specs.declared.Call as C
-use Rattle.lists.proofs.ListLaws.{by-eq, by-bool, by-test, and-r, true-T, is-true, count-filter-yes, count-filter-no, same-length, down-once}
+use Rattle.lists.proofs.ListLaws.{by-eq, by-bool, by-test, count-filter-yes, count-filter-no, same-length, down-once}
 use Rattle.rules.proofs.Invariant.{Sound}
 use Rattle.rules.proofs.Members.{in-filter, there, ready-is, bit-true, not-blank, runs, queued-is, queued-there}
 use Rattle.rules.proofs.SoundSaid.{nobody}

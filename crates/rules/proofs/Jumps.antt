@@ -1,14 +1,13 @@
 -- ADVANCE from due moment to due moment.
 -- Assumes nothing.
-use Prim.Native.Nat.{ℕ, zero, suc, _+_, _-_, _%_, _≤_, _<_}
+use Prim.Native.Nat.{ℕ, zero, suc, _+_, _-_, _≤_, _<_}
 use mathlib.Core.Path.{_≡_, refl, _∙_, ap}
-use mathlib.Core.Bool.{_&&_}
 use mathlib.Core.List.{List, [], _∷_, _++_, append-nil}
 use native.Mathlib.Omega.{arith}
 use lib.ListN.{length}
 use lib.Dec.{ltb, leb}
 use borrow.Author.Tests.{ltb-true, leb-true, lt-ltb}
-use Rattle.lists.specs.Lists.{if_then_else_, bit}
+use Rattle.lists.specs.Lists.{bit}
 use Rattle.rules.specs.State.{State, after, wake, wakeAll, setClock}
 use Rattle.rules.specs.Step.{dueAt, tickTo, endsAt, advanced, advanceEnds, readings}
 use Rattle.rules.specs.Advance.{till, comesIn, jumped, jumpEnds, jumps}

@@ -1,25 +1,23 @@
 -- Who stands in a line or a queue, and what is known of the running task.
 -- Assumes nothing.
-use Prim.Native.Nat.{ℕ, zero, suc, _+_, _≤_, _<_, _^_}
-use mathlib.Core.Path.{_≡_, refl, sym, _∙_, ap, subst}
-use mathlib.Core.Bool.{Bool, true, false, not, _&&_, _||_}
-use mathlib.Core.List.{List, [], _∷_, _++_}
+use Prim.Native.Nat.{ℕ, zero, suc, _≤_, _<_}
+use mathlib.Core.Path.{_≡_, refl, ap}
+use mathlib.Core.Bool.{Bool, true, false, _&&_}
+use mathlib.Core.List.{List, [], _∷_}
 use native.Mathlib.Omega.{arith}
-use lib.ListN.{length, getD, List·getD-eq-default}
-use lib.Dec.{T, eqb, ltb, leb, eqb→eq}
-use borrow.Author.Tests.{eqb-true, eqb-false, eq-eqb, ne-eqb}
-use Rattle.lists.specs.Lists.{if_then_else_, bit, count, filter, first, last, every, inOrder, downFrom, remove, insert, rejoin}
-use Rattle.rules.specs.State.{State, blank, nth, setNth, taskOf, placeOf, timerOf, created, isTask, isReady, isQueued, isHeld, isCompleted, partnerOf, entryOf, accepts, hasTime, ticksLeft, left, retime, move, queue, heldBy, level, headUpTo, running, waitsOn, holds, atLevel}
+use lib.ListN.{length, List·getD-eq-default}
+use lib.Dec.{eqb, leb}
+use borrow.Author.Tests.{eqb-true, eq-eqb}
+use Rattle.lists.specs.Lists.{bit, count, filter, first, last}
+use Rattle.rules.specs.State.{State, blank, nth, taskOf, placeOf, timerOf, isReady, isQueued, isHeld, partnerOf, entryOf, hasTime, queue, heldBy, level, headUpTo, running, waitsOn, holds, atLevel}
 use Rattle.rules.specs.declared.Task.{Task}
-use Rattle.rules.specs.declared.Timer.{Timer}
-use Rattle.rules.specs.declared.Timer.the-variants.{Off, Due}
 use Rattle.rules.specs.declared.Waiting.{Waiting}
 use Rattle.rules.specs.declared.Meeting.{Meeting}
 use Rattle.rules.specs.declared.Place.{Place}
 use Rattle.rules.specs.declared.Place.the-variants.{Blank, Ready, Delayed, Queued, Held, Accepting, Completed}
 use Rattle.lists.proofs.Tests.{and-first, and-second}
-use Rattle.lists.proofs.ListLaws.{clash, by-eq, by-test, and-l, and-r, both, is-true, count-append, count-filter-yes, count-filter-no, Ordered}
-use Rattle.rules.proofs.Invariant.{Lined, Timed, Calls, Fits, Good, GoodAt, Sound}
+use Rattle.lists.proofs.ListLaws.{clash, count-filter-yes, count-filter-no}
+use Rattle.rules.proofs.Invariant.{Calls, Sound}
 
 -- ── members of a filtered list, the first and the last ──
 

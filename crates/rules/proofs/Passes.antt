@@ -2,13 +2,12 @@
 -- Assumes nothing.
 use Prim.Native.Nat.{ℕ, zero, suc, _+_, _≤_, _<_}
 use mathlib.Core.Path.{_≡_, refl, sym, _∙_, ap}
-use mathlib.Core.Bool.{Bool, true, false}
+use mathlib.Core.Bool.{true, false}
 use mathlib.Core.List.{List, [], _∷_, _++_, map}
 use native.Mathlib.Omega.{arith}
-use lib.ListN.{length}
 use lib.Dec.{eqb, ltb}
 use borrow.Author.Tests.{eqb-false, eq-eqb, ne-eqb, ltb-true, ltb-false}
-use Rattle.lists.specs.Lists.{bit, count}
+use Rattle.lists.specs.Lists.{count}
 use Rattle.rules.specs.State.{State, taskOf, placeOf, timerOf, hasTime, left, after}
 use Rattle.rules.specs.Step.{dueAt, isDue, expired, expiry, tickTo, endsAt, advanced, advanceEnds}
 use Rattle.rules.specs.Runs.{reasons}

@@ -1,31 +1,28 @@
 -- The facts of specs/SoundFacts.antt hold exactly where the tests of soundness pass.
 -- Assumes nothing.
-use Prim.Native.Nat.{ℕ, zero, suc, _+_, _≤_, _<_, _^_}
+use Prim.Native.Nat.{ℕ, zero, suc, _≤_, _<_}
 use mathlib.Core.Path.{_≡_, refl, sym, _∙_, ap}
-use mathlib.Core.Logic.{_↔_}
-use mathlib.Core.Bool.{Bool, true, false, _&&_}
+use mathlib.Core.Bool.{true, false, _&&_}
 use mathlib.Core.List.{List, [], _∷_}
 use native.Mathlib.Omega.{arith}
-use lib.ListN.{length, getD, drop}
-use lib.Dec.{T, eqb, ltb, leb}
-use borrow.Author.Tests.{eqb-true, eq-eqb, ltb-true, ltb-false, leb-true, le-leb}
-use Rattle.lists.specs.Lists.{bit, count, every, filter}
-use Rattle.lists.specs.Line.{line, tidy, blanks}
-use Rattle.rules.specs.State.{State, blank, taskOf, placeOf, timerOf, priorityOf, created, isReady, isQueued, isHeld, isCompleted, partnerOf, hasTime, opens, accepts, queue, heldBy, level, left, ticksLeft, waitsOn, holds, atLevel}
-use Rattle.rules.specs.Sound.{sound}
-use Rattle.rules.specs.Whole.{view, isBlank, unused, packed, soundWhole}
-use Rattle.rules.specs.SoundFacts.{Created, HasEntry, mayBeTimed, DueLater, noLater, SoundFacts, BlankBehind, SoundStruct, SoundnessSaid}
+use lib.ListN.{getD, drop}
+use lib.Dec.{T, eqb}
+use borrow.Author.Tests.{eqb-true, eq-eqb, le-leb}
+use Rattle.lists.specs.Lists.{bit, count, every}
+use Rattle.lists.specs.Line.{tidy, blanks}
+use Rattle.rules.specs.State.{State, blank, taskOf, placeOf, timerOf, priorityOf, created, isReady, isCompleted, partnerOf, hasTime, accepts, queue, heldBy, level, ticksLeft, waitsOn, holds, atLevel}
+use Rattle.rules.specs.Whole.{view, isBlank, unused, soundWhole}
+use Rattle.rules.specs.SoundFacts.{Created, mayBeTimed, SoundFacts, BlankBehind, SoundStruct, SoundnessSaid}
 use Rattle.rules.specs.declared.Task.{Task}
 use Rattle.rules.specs.declared.Timer.{Timer}
 use Rattle.rules.specs.declared.Timer.the-variants.{Off, Due}
 use Rattle.rules.specs.declared.Waiting.{Waiting}
 use Rattle.rules.specs.declared.Meeting.{Meeting}
-use Rattle.rules.specs.declared.Offer.{Offer}
 use Rattle.rules.specs.declared.Place.{Place}
 use Rattle.rules.specs.declared.Place.the-variants.{Blank, Ready, Delayed, Queued, Held, Accepting, Completed}
 use Rattle.rules.specs.declared.Supervisor.{Supervisor}
 use Rattle.lists.proofs.ListLaws.{clash, by-bool, and-l, and-r, both, is-true, true-T, count-filter-yes, count-filter-no, ordered-of, in-order}
-use Rattle.rules.proofs.Invariant.{Calls, Fits, InTime, Good, Sound}
+use Rattle.rules.proofs.Invariant.{Calls, Fits, InTime, Sound}
 use Rattle.rules.proofs.Members.{of-queue, of-held, queued-good, timed-there, there}
 use Rattle.rules.proofs.Passes.{in-time}
 use Rattle.rules.proofs.SoundTest.{sound-test, sound-props}

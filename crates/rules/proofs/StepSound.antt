@@ -1,27 +1,25 @@
 -- Every call keeps soundness.
 -- Assumes nothing.
-use Prim.Native.Nat.{ℕ, zero, suc, _+_, _-_, _%_, _≤_, _<_, _^_}
-use mathlib.Core.Path.{_≡_, refl, sym, _∙_, ap, subst}
-use mathlib.Core.Bool.{Bool, true, false, not, _&&_, _||_}
-use mathlib.Core.List.{List, [], _∷_, _++_, map}
+use Prim.Native.Nat.{ℕ, zero, suc, _+_, _≤_, _<_, _^_}
+use mathlib.Core.Path.{_≡_, refl, sym, _∙_, ap}
+use mathlib.Core.Bool.{Bool, true, false, not, _&&_}
+use mathlib.Core.List.{List, [], _∷_}
 use native.Mathlib.Omega.{arith}
 use lib.IntN.{ℤ, pos, negsuc}
-use lib.ListN.{length, getD, List·getD-append, length-append}
-use lib.Seq.{getD-append-seam}
-use lib.Dec.{T, eqb, ltb, leb, eqb→eq, ltb→lt, leb→le}
-use borrow.Author.Tests.{eqb-true, eqb-false, eq-eqb, ne-eqb, ltb-true, ltb-false, leb-true, leb-false, not-true, not-false, lt-ltb}
-use Rattle.lists.specs.Lists.{if_then_else_, bit, count, filter, first, last, remove, insert}
-use Rattle.rules.specs.State.{State, blank, nth, setNth, taskOf, placeOf, timerOf, created, isTask, isReady, isQueued, isHeld, isCompleted, partnerOf, entryOf, accepts, opens, hasTime, ticksLeft, left, after, round, fresh, move, wake, meet, part, wakeAll, add, setClock, queue, heldBy, running, waiting, offer}
+use lib.ListN.{length}
+use lib.Dec.{eqb, ltb, leb, ltb→lt, leb→le}
+use borrow.Author.Tests.{eqb-true, eqb-false, eq-eqb, ne-eqb, ltb-true, ltb-false, leb-true, leb-false, not-false, lt-ltb}
+use Rattle.lists.specs.Lists.{count, first, last}
+use Rattle.rules.specs.State.{State, taskOf, placeOf, timerOf, created, isTask, isCompleted, accepts, opens, hasTime, ticksLeft, left, after, wake, wakeAll, setClock, queue, heldBy, running, waiting, offer}
 use Rattle.rules.specs.Sound.{inRange}
-use Rattle.rules.specs.Step.{NO-TASK, Outcome, refused, took, item, create, delayFor, enqueue, timedCall, callBusy, call, openFrom, openEntry, selectDelay, selectNone, selectAt, select, endLast, end, queuedFrom, queuedOn, finish, dueAt, isDue, tick, tickTo, advanced, ofRunning, takeCall, ticks}
-use Rattle.rules.specs.declared.Item.{Item}
+use Rattle.rules.specs.Step.{NO-TASK, Outcome, refused, took, create, delayFor, enqueue, timedCall, callBusy, call, openFrom, openEntry, selectDelay, selectNone, selectAt, select, endLast, end, queuedFrom, queuedOn, finish, dueAt, isDue, tick, tickTo, advanced, ofRunning, takeCall, ticks}
 use Rattle.rules.specs.declared.Task.{Task}
 use Rattle.rules.specs.declared.Timer.{Timer}
 use Rattle.rules.specs.declared.Timer.the-variants.{Off, Due}
 use Rattle.rules.specs.declared.Meeting.{Meeting}
 use Rattle.rules.specs.declared.Waiting.{Waiting}
 use Rattle.rules.specs.declared.Place.{Place}
-use Rattle.rules.specs.declared.Place.the-variants.{Blank, Ready, Delayed, Queued, Held, Accepting, Completed}
+use Rattle.rules.specs.declared.Place.the-variants.{Ready, Queued, Held}
 use Rattle.calls.specs.declared.CallMode.{CallMode}
 use Rattle.calls.specs.declared.CallMode.the-variants.{Simple, Timed, Conditional}
 use Rattle.calls.specs.declared.SelectMode.{SelectMode}
@@ -29,12 +27,12 @@ use Rattle.calls.specs.declared.SelectMode.the-variants.{Plain, Else}
 use Rattle.calls.specs.declared.SelectMode.the-variants as S
 use Rattle.calls.specs.declared.Call as C
 use Rattle.calls.specs.declared.Call.the-variants.{Create, Delay, Call, Select, End, Finish, Tick, Advance}
-use Rattle.lists.proofs.ListLaws.{by-eq, by-bool, by-test, and-l, and-r, both, is-true, true-T, count-append, count-filter-yes, count-filter-no, Ordered, ordered-cong}
+use Rattle.lists.proofs.ListLaws.{by-eq, by-test, and-l, and-r, true-T, count-append, count-filter-yes, ordered-cong}
 use Rattle.lists.proofs.Tests.{and-second, and-false}
-use Rattle.rules.proofs.Invariant.{Lined, Calls, Fits, InTime, Good, GoodAt, Sound}
-use Rattle.rules.proofs.Members.{in-filter, first-member, some-length, in-queue, of-queue, queued-good, queued-there, of-held, in-held, held-there, last-in, there, timed-there, bit-true, nth-beyond, Runs, runs}
+use Rattle.rules.proofs.Invariant.{Calls, InTime, Sound}
+use Rattle.rules.proofs.Members.{in-filter, first-member, some-length, in-queue, of-queue, queued-good, queued-there, of-held, in-held, held-there, last-in, timed-there, bit-true, Runs, runs}
 use Rattle.rules.proofs.AddLaws.{add-sound}
-use Rattle.rules.proofs.MoveLaws.{wake-sound, delay-sound, queue-sound, meet-sound, part-sound, accept-sound, complete-sound, place-same, place-other, moved, task-same, task-other, length-move}
+use Rattle.rules.proofs.MoveLaws.{wake-sound, delay-sound, queue-sound, meet-sound, part-sound, accept-sound, complete-sound, moved, task-same, task-other, length-move}
 
 abbrev pub Kept : Outcome → Type 0
 Kept (refused r) = Unit {0}

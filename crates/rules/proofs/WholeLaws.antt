@@ -1,25 +1,25 @@
 -- The struct of the code and the state of the rules: a step of the one is a step of the other.
 -- Assumes nothing.
 use Prim.Native.Nat.{ℕ, zero, suc, _+_, _-_, _≤_, _<_}
-use mathlib.Core.Path.{_≡_, refl, sym, _∙_, ap, subst}
-use mathlib.Core.Bool.{Bool, true, false, not, _&&_, _||_}
-use mathlib.Core.List.{List, [], _∷_, _++_, map}
+use mathlib.Core.Path.{_≡_, refl, sym, _∙_, ap}
+use mathlib.Core.Bool.{Bool, true, false, _&&_}
+use mathlib.Core.List.{List, [], _∷_, _++_}
 use native.Mathlib.Omega.{arith}
 use lib.ListN.{length, take, drop, replicate, length-drop, take-append-drop}
 use Rattle.lists.specs.Line.{line, pad, tidy}
 use Rattle.lists.proofs.LineLaws.{line-pad, tidy-pad, pad-tidy}
 use lib.Seq.{take-append-seam, drop-append-seam, length-take-le}
 use lib.Dec.{T, eqb, ltb, leb}
-use borrow.Author.Tests.{eqb-true, eqb-false, eq-eqb, ne-eqb, leb-true, leb-false, le-leb}
-use Rattle.lists.specs.Lists.{if_then_else_, bit, count, filter, remove, every}
-use Rattle.rules.specs.State.{State, blank, nth, created, isReady, isQueued, isHeld, hasTime, running}
+use borrow.Author.Tests.{eqb-true, leb-true, leb-false, le-leb}
+use Rattle.lists.specs.Lists.{bit, count, every}
+use Rattle.rules.specs.State.{State, blank, nth, created, isReady, isQueued, isHeld, hasTime}
 use Rattle.rules.specs.Sound.{sound}
-use Rattle.rules.specs.Step.{Outcome, refused, took, Refusal, SHORT-ROOM, BAD-STATE, takeCall}
-use Rattle.rules.specs.Whole.{Typed, view, pack, isBlank, isOff, unused, packed, soundWhole, Whole, decline, done, stepWhole}
+use Rattle.rules.specs.Step.{Outcome, refused, took, takeCall}
+use Rattle.rules.specs.Whole.{Typed, view, pack, isBlank, isOff, unused, packed, soundWhole, Whole, done, stepWhole}
 use Rattle.rules.specs.declared.Supervisor.{Supervisor}
 use Rattle.calls.specs.declared.Call as C
 use Rattle.rules.specs.declared.Task.{Task}
-use Rattle.lists.proofs.ListLaws.{by-eq, by-bool, by-test, true-T, is-true, and-l, and-r}
+use Rattle.lists.proofs.ListLaws.{by-bool, true-T, is-true, and-l, and-r}
 pub use Rattle.lists.proofs.ListLaws.{at-most}
 use Rattle.rules.proofs.Invariant.{Sound}
 use Rattle.rules.proofs.Members.{bit-le, nth-beyond}
@@ -28,10 +28,9 @@ use Rattle.rules.specs.declared.Place.the-variants.{Blank, Ready, Delaye
 use Rattle.rules.specs.declared.Timer.{Timer}
 use Rattle.rules.specs.declared.Timer.the-variants.{Off, Due}
 use Rattle.rules.proofs.SoundTest.{sound-test, sound-props}
-use Rattle.rules.specs.State.{empty}
 use Rattle.rules.specs.Runs.{Ask, Given, Entry, viewed, entryWhole, logWhole, reachWhole}
 use Rattle.rules.proofs.StateRuns.{stepped, step, entry, logOf, reach}
-use Rattle.rules.proofs.OverRuns.{step-sound, empty-sound, reach-sound}
+use Rattle.rules.proofs.OverRuns.{step-sound}
 
 -- ── a line has no more places than there are tasks ──
 

@@ -3,12 +3,12 @@
 use Prim.Native.Nat.{ℕ, _-_, _<_}
 use mathlib.Core.Path.{_≡_}
 use mathlib.Core.Bool.{Bool, true, false, not, _&&_}
-use mathlib.Core.List.{List, [], _∷_, _++_}
+use mathlib.Core.List.{List, [], _++_}
 use lib.ListN.{length, take, drop, replicate}
 use Rattle.lists.specs.Line.{line, pad, tidy}
 use lib.Dec.{eqb, ltb, leb}
 use Rattle.lists.specs.Lists.{if_then_else_, every}
-use Rattle.rules.specs.State.{State, blank, created, empty}
+use Rattle.rules.specs.State.{State, blank, created}
 use Rattle.rules.specs.Sound.{sound}
 use Rattle.rules.specs.Step.{Outcome, refused, took, Refusal, SHORT-ROOM, BAD-STATE, number, none, takeCall}
 use Rattle.rules.specs.declared.Item.{Item}

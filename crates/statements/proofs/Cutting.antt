@@ -4,7 +4,6 @@ use Prim.Native.Nat.{ℕ, _+_}
 use mathlib.Core.Path.{_≡_, sym, _∙_, ap, subst}
 use mathlib.Core.Bool.{Bool, not}
 use mathlib.Core.List.{List, [], _∷_, _++_}
-use lib.Dec.{ltb}
 use lib.ListN.{length}
 use Rattle.lists.specs.Lists.{if_then_else_}
 use Rattle.rules.specs.State.{empty}
@@ -12,7 +11,6 @@ use Rattle.rules.specs.Step.{takeCall, roomAfter, SHORT-ROOM, BAD-STATE}
 use Rattle.rules.specs.Whole.{Typed, view, soundWhole, Whole, decline, done, stepWhole, steppedOf}
 use Rattle.rules.specs.Runs.{start}
 use Rattle.rules.specs.Uses.{Use, Keeps, Chain, itemsIn}
-use Rattle.rules.specs.declared.Item.{Item}
 use Rattle.rules.specs.declared.Stepped.{Stepped}
 use Rattle.rules.specs.declared.Supervisor.{Supervisor}
 use Rattle.calls.specs.declared.Call as C
@@ -22,7 +20,7 @@ use Rattle.rules.proofs.Dispatch.{each-step}
 use Rattle.rules.proofs.EveryStruct.{typed-pack}
 use Rattle.rules.proofs.OverRuns.{empty-sound}
 use Rattle.rules.proofs.Uses.{items-back}
-use Rattle.statements.specs.Statement3.{reached, Run, stateOf}
+use Rattle.statements.specs.Statement3.{reached}
 use Rattle.statements.specs.Cutting.{endedIn, RoomsAlike, TicksAlike, CutAlike, Unchanged, Cutting}
 
 -- a step looks at its room's length only to see whether it is enough
