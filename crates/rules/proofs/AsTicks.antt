@@ -27,7 +27,7 @@ use Rattle.rules.proofs.WholeLaws.{wholeOf}
 use Rattle.rules.proofs.EveryStruct.{by-struct, step-taken, step-typed}
 
 -- what n TICKs give, told of a struct, a list, a number of readings and a number of ticks
-pub record Gives (s : Supervisor) (n room : ℕ) (s′ : Supervisor) (l : List Item) (k t : ℕ) : Type 0 where
+record Gives (s : Supervisor) (n room : ℕ) (s′ : Supervisor) (l : List Item) (k t : ℕ) : Type 0 where
   pub state : reachWhole s (tickAsks n room) ≡ s′
   pub ends : joined (logWhole s (tickAsks n room)) ≡ l
   pub readings : length (moments (logWhole s (tickAsks n room))) ≡ k
@@ -138,7 +138,7 @@ ticks-append [] m s = omega arith
 ticks-append (a ∷ l) m s = omega (arith, ticks-append l m (afterStep s a))
 
 -- a call and what stands for it
-pub record Alike (s : Supervisor) (c : C.Call) (room : ℕ) : Type 0 where
+record Alike (s : Supervisor) (c : C.Call) (room : ℕ) : Type 0 where
   pub state : reachWhole s (spread c room) ≡ stepWhole s c room .state
   pub ends : joined (logWhole s (spread c room)) ≡ stepWhole s c room .ended
   pub ticks : tickCount (logWhole s (spread c room)) ≡ (if eqb (stepWhole s c room .refusal) 0 then ticksOf c else 0)

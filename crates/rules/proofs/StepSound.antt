@@ -30,7 +30,7 @@ use Rattle.calls.specs.declared.Call.the-variants.{Create, Delay, Call, Select,
 use Rattle.lists.proofs.ListLaws.{by-eq, by-test, and-l, and-r, true-T, count-append, count-filter-yes, ordered-cong}
 use Rattle.lists.proofs.Tests.{and-second, and-false}
 use Rattle.rules.proofs.Invariant.{Calls, InTime, Sound}
-use Rattle.rules.proofs.Members.{in-filter, first-member, some-length, in-queue, of-queue, queued-good, queued-there, of-held, in-held, held-there, last-in, timed-there, bit-true, Runs, runs}
+use Rattle.rules.proofs.Members.{WaitsOn, in-filter, first-member, some-length, in-queue, of-queue, queued-good, queued-there, of-held, in-held, held-there, last-in, timed-there, bit-true, Runs, runs}
 use Rattle.rules.proofs.AddLaws.{add-sound}
 use Rattle.rules.proofs.MoveLaws.{wake-sound, delay-sound, queue-sound, meet-sound, part-sound, accept-sound, complete-sound, moved, task-same, task-other, length-move}
 
@@ -98,7 +98,7 @@ none-open s t o (suc k) e h p j a b = go (opens o e && ltb 0 (length (queue s t 
     go true q i f = absurd (omega arith)
     go false q i f = by-eq j e (λ z. rw z q) (λ n. f i (omega arith) (omega arith))
 
-pub one-open : (s : State) (t o k e n : ℕ) → openFrom s t o k e ≡ suc n → (opens o (suc n) && ltb 0 (length (queue s t (suc n)))) ≡ true
+one-open : (s : State) (t o k e n : ℕ) → openFrom s t o k e ≡ suc n → (opens o (suc n) && ltb 0 (length (queue s t (suc n)))) ≡ true
 one-open s t o zero e n h = absurd (omega arith)
 one-open s t o (suc k) e n h = go (opens o e && ltb 0 (length (queue s t e))) refl h (one-open s t o k (suc e) n)
   where
@@ -106,6 +106,13 @@ one-open s t o (suc k) e n h = go (opens o e && ltb 0 (length (queue s t e))) re
         → (openFrom s t o k (suc e) ≡ suc n → (opens o (suc n) && ltb 0 (length (queue s t (suc n)))) ≡ true) → (opens o (suc n) && ltb 0 (length (queue s t (suc n)))) ≡ true
     go true q i f = rw i at q
     go false q i f = f i
+
+-- the caller whom a SELECT takes waits on the entry that is taken
+pub caller-taken : (s : State) (t o e : ℕ) → openEntry s t o ≡ suc e → WaitsOn (placeOf s (first (queue s t (suc e)))) t (suc e)
+unfolding openEntry
+caller-taken s t o e z =
+    let l = queue s t (suc e) in
+    of-queue s (first l) t (suc e) (first-member l (ltb-true 0 (length l) (and-second (opens o (suc e)) (ltb 0 (length l)) (one-open s t o 8 1 e z))))
 
 selectNone-kept : (s : State) (t o : ℕ) (m : SelectMode) → Sound s → Runs s t → o < 2 ^ (taskOf s t .entries) → ((u : ℕ) (q : Waiting) → placeOf s u ≡ Queued q → q .target ≡ t → opens o (q .entry) ≡ false)
     → Kept (selectNone s t o m)
@@ -133,7 +140,7 @@ select-kept s t o m h r = by-test Kept (leb (2 ^ (taskOf s t .entries)) o) (λ _
     go zero z b = selectNone-kept s t o m h r b (shut z)
     go (suc e) z b =
         let c = first (queue s t (suc e)) in
-        let q = of-queue s c t (suc e) (first-member (queue s t (suc e)) (ltb-true 0 _ (and-second (opens o (suc e)) (ltb 0 (length (queue s t (suc e)))) (one-open s t o 8 1 e z)))) in
+        let q = caller-taken s t o e z in
         let i = queued-there s c (q .0) (q .1) in
         meet-sound s t c (r .low) (r .high) (i .0) (i .1) (suc e) h (rw (q .2, q .3) at (queued-good s c (q .0) h (q .1)))
 
