@@ -81,9 +81,6 @@ head-time s t ts h e = go (timerOf s t) refl
 pub till-is : (s : State) (t : ℕ) (ts : List ℕ) (d : ℕ) → s .delays ≡ t ∷ ts → timerOf s t ≡ Due d → till s ≡ left (s .clock) d
 till-is s t ts d e q = rw (e, q)
 
-pub till-none : (s : State) → s .delays ≡ [] → till s ≡ 0
-till-none s e = rw e
-
 -- nobody has fewer ticks left
 pub head-first : (s : State) (t : ℕ) (ts : List ℕ) → Sound s → s .delays ≡ t ∷ ts → (u d : ℕ) → timerOf s u ≡ Due d → ticksLeft (s .clock) (timerOf s t) ≤ left (s .clock) d
 head-first s t ts h e u d q =

@@ -1,6 +1,7 @@
 -- Statement 1. Each public operation ends and does nothing undefined on every input, a damaged supervisor state or a garbled
 -- call record included. Bad input gets its refusal number. A refused step returns the state it was given, an empty list of
 -- ended waits, and lent room untouched.
+-- A struct is any value of its type, sound or damaged: `Typed` (rules, Whole.antt) says no more of it.
 -- Assumes nothing.
 use Prim.Native.Nat.{ℕ, _≤_, _<_}
 use mathlib.Core.Path.{_≡_}
