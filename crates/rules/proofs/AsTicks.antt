@@ -24,6 +24,7 @@ use Rattle.rules.proofs.StepSound.{tick-kept}
 use Rattle.rules.proofs.StateRuns.{stepped}
 use Rattle.rules.proofs.OverRuns.{number-pos}
 use Rattle.rules.proofs.WholeLaws.{wholeOf}
+use Rattle.rules.proofs.AdvanceFits.{fits}
 use Rattle.rules.proofs.EveryStruct.{by-struct, step-taken, step-typed}
 
 -- what n TICKs give, told of a struct, a list, a number of readings and a number of ticks
@@ -102,23 +103,24 @@ apart (suc n) s room e h i r =
 -- ── one step ──
 
 from : (s : Supervisor) (n room t : ℕ) (x : Whole) → stepWhole s (Advance n) room ≡ x → Gives s n room (x .state) (x .ended) (x .answer .entry) t
-    → (n < 4294967296 → (r : ℕ) → count r (moments (logWhole s (tickAsks n room))) ≤ 1) → AsTicks s n room
-from s n room t x e g d = record {
+    → (n < 4294967296 → (r : ℕ) → count r (moments (logWhole s (tickAsks n room))) ≤ 1) → x .answer .entry ≤ 31 → AsTicks s n room
+from s n room t x e g d f = record {
   state = ap (λ (w : Whole). w .state) e ∙ sym (g .state);
   ends = ap (λ (w : Whole). w .ended) e ∙ sym (g .ends);
   readings = ap (λ (w : Whole). w .answer .entry) e ∙ sym (g .readings);
   different = d;
+  few = subst (λ (w : Whole). w .answer .entry ≤ 31) (sym e) f;
 }
 
-few : (l : List ℕ) → length l ≡ 0 → (r : ℕ) → count r l ≤ 1
-few [] e r = omega arith
-few (x ∷ xs) e r = absurd (omega (arith, e))
+none-twice : (l : List ℕ) → length l ≡ 0 → (r : ℕ) → count r l ≤ 1
+none-twice [] e r = omega arith
+none-twice (x ∷ xs) e r = absurd (omega (arith, e))
 
 pub as-ticks : (s : Supervisor) → Typed s → (n room : ℕ) → AsTicks s n room
 as-ticks s t n room =
     by-struct (λ (x : Supervisor). AsTicks x n room) s room t
-    (λ f q. let g = gives-none n s room f (q Tick) in from s n room 0 (decline s f 0) (q (Advance n)) g (λ _. few (moments (logWhole s (tickAsks n room))) (g .readings)))
-    (λ v h e. from (pack v) n room n (wholeOf (stepped v (advance v n))) (step-taken v (Advance n) room h e) (gives-all n v room e h) (λ i r. apart n v room e h i r .0))
+    (λ f q. let g = gives-none n s room f (q Tick) in from s n room 0 (decline s f 0) (q (Advance n)) g (λ _. none-twice (moments (logWhole s (tickAsks n room))) (g .readings)) (omega arith))
+    (λ v h e. from (pack v) n room n (wholeOf (stepped v (advance v n))) (step-taken v (Advance n) room h e) (gives-all n v room e h) (λ i r. apart n v room e h i r .0) (let k = fits v n h in omega (arith, k .items, k .count)))
 
 -- ── a run ──
 

@@ -19,5 +19,6 @@ pub mod WholeRuns
 pub mod Uses
 pub mod Quiet
 pub mod Jumps
+pub mod AdvanceFits
 pub mod AsTicks
 pub mod Advances

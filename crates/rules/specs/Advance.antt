@@ -78,12 +78,13 @@ expand (a ∷ rest) = spread (a .call) (a .room) ++ expand rest
 -- ── what holds of it ──
 
 -- state and list are those of n TICKs with their lists joined; the entry field counts the clock readings at which a wait ended,
--- all different
+-- all different, never above 31
 pub record AsTicks (s : Supervisor) (n room : ℕ) : Type 0 where
   pub state : stepWhole s (Advance n) room .state ≡ reachWhole s (tickAsks n room)
   pub ends : stepWhole s (Advance n) room .ended ≡ joined (logWhole s (tickAsks n room))
   pub readings : stepWhole s (Advance n) room .answer .entry ≡ length (moments (logWhole s (tickAsks n room)))
   pub different : n < 4294967296 → (r : ℕ) → count r (moments (logWhole s (tickAsks n room))) ≤ 1
+  pub few : stepWhole s (Advance n) room .answer .entry ≤ 31
 
 -- the same over a run: nothing but the steps' number tells them apart
 pub record Expanded (s : Supervisor) (run : List Ask) : Type 0 where

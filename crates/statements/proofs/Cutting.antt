@@ -1,6 +1,6 @@
 -- ADVANCE through the contract of `step`, proved.
 -- Assumes nothing.
-use Prim.Native.Nat.{ℕ, _+_}
+use Prim.Native.Nat.{ℕ, _+_, _≤_}
 use mathlib.Core.Path.{_≡_, sym, _∙_, ap, subst}
 use mathlib.Core.Bool.{Bool, not}
 use mathlib.Core.List.{List, [], _∷_, _++_}
@@ -66,6 +66,8 @@ module _ (s : Supervisor) (t : Typed s) where
         state = state-is s u k (called s u e) ∙ a .state;
         ends = ends-are s u k (called s u e) ∙ a .ends;
         readings = readings-are s u k (called s u e) ∙ a .readings;
+        different = a .different;
+        few = subst (λ (x : ℕ). x ≤ 31) (sym (readings-are s u k (called s u e))) (a .few);
       }
 
   unchanged : (u : Use) → Keeps s u → u .call ≡ Advance 0 → Unchanged s u

@@ -1,10 +1,11 @@
 -- ADVANCE through the contract of `step`: n ticks in one step, a stretch that is cut in two, and ADVANCE 0.
 -- Assumes nothing.
-use Prim.Native.Nat.{ℕ, _+_}
+use Prim.Native.Nat.{ℕ, _+_, _≤_, _<_}
 use mathlib.Core.Path.{_≡_}
 use mathlib.Core.List.{List, [], _++_}
 use lib.Dec.{ltb}
 use lib.ListN.{length}
+use Rattle.lists.specs.Lists.{count}
 use Rattle.rules.specs.Whole.{Typed}
 use Rattle.rules.specs.Runs.{reachWhole, logWhole}
 use Rattle.rules.specs.Advance.{tickAsks, joined, moments}
@@ -22,11 +23,14 @@ endedIn u = itemsIn (u .gave .answer .ended) (u .wrote)
 abbrev pub RoomsAlike : Use → Use → Type 0
 RoomsAlike u v = ltb (length (u .lent)) 124 ≡ ltb (length (v .lent)) 124
 
--- the state and the list of u are those of n TICKs with their lists joined; its entry field counts the readings at which a wait ended
+-- the state and the list of u are those of n TICKs with their lists joined; its entry field counts the readings at which a wait ended,
+-- all different, never above 31
 pub record TicksAlike (s : Supervisor) (n : ℕ) (u : Use) : Type 0 where
   pub state : u .gave .state ≡ reachWhole s (tickAsks n (length (u .lent)))
   pub ends : endedIn u ≡ joined (logWhole s (tickAsks n (length (u .lent))))
   pub readings : u .gave .answer .entry ≡ length (moments (logWhole s (tickAsks n (length (u .lent)))))
+  pub different : n < 4294967296 → (r : ℕ) → count r (moments (logWhole s (tickAsks n (length (u .lent))))) ≤ 1
+  pub few : u .gave .answer .entry ≤ 31
 
 -- u and then v leave the state of w, their lists joined are its list, and their numbers of readings add up to its;
 -- the task dispatched at the end is the same, and if one of the three is refused, all are, with the same number
