@@ -1,7 +1,9 @@
 """The module of a program, as the kit hands it to its compiler, with chosen functions kept as functions of their own.
 
 The compiler lays most functions into their callers, so the built programs do not show them one by one. This compiles a program with
-the kit's own front end, as `rt` does but with no proof, and takes the module before the compiler gets it.
+the kit's own front end, as `rt` does but with no proof, and takes the module that the compiler gets for the optimised build, and the words
+with which it is called. (It also gets one with no optimisation, and one in which the compiler's assumptions are checked: slower code, and
+more stack.)
 """
 import platform
 import re
@@ -9,15 +11,18 @@ import subprocess
 import sys
 from pathlib import Path
 
-# the target and the options with which the kit's compiler makes machine code
-TARGET = ["--no-default-config", "--target=x86_64-unknown-linux-gnu"]
-SHIPPED = TARGET + ["-march=x86-64", "-Wno-override-module", "-ffunction-sections", "-fPIE", "-O3"]
+# what the kit calls its compiler with for the optimised build, to be seen among the words of a call
+OPTIMISED = "-O3"
+
+
+def stop(why):
+    sys.exit(f"{Path(sys.argv[0]).name}: {why}")
 
 
 def run(*words):
     done = subprocess.run(words, capture_output=True, text=True)
     if done.returncode:
-        sys.exit(f"{Path(sys.argv[0]).name}: {' '.join(map(str, words[:2]))} .. failed\n{done.stdout}{done.stderr}")
+        stop(f"{' '.join(map(str, words[:2]))} .. failed\n{done.stdout}{done.stderr}")
     return done.stdout
 
 
@@ -41,8 +46,8 @@ class Kit:
         self.machine = self.root / "on" / platform.machine()
         self.clang = self.machine / "toolchain" / "bin" / "clang"
 
-    def watched(self, work, kept):
-        """The kit's tools, with a compiler that puts a copy of each module that it gets to `kept`."""
+    def watched(self, work):
+        """The kit's tools, with a compiler that keeps the module and the words of the optimised build."""
         tools = work / "toolchain"
         (tools / "bin").mkdir(parents=True)
         (tools / "lib").symlink_to(self.root / "toolchain" / "lib")
@@ -50,33 +55,42 @@ class Kit:
             if tool.name != "clang":
                 (tools / "bin" / tool.name).symlink_to(tool)
         wrapper = tools / "bin" / "clang"
-        wrapper.write_text(f'#!/bin/sh\nfor a in "$@"; do case $a in *.bc) cp "$a" "{kept}" ;; esac; done\nexec "{self.clang}" "$@"\n')
+        wrapper.write_text(
+            f"""#!/bin/sh
+case " $* " in *" {OPTIMISED} "*) cp module.bc "{work}" && printf '%s\\n' "$@" >"{work}/words" ;; esac
+exec "{self.clang}" "$@"
+"""
+        )
         wrapper.chmod(0o755)
         return tools
 
     def module(self, main, crates, work):
-        """The module of the program in the file `main`, which uses the crates."""
-        kept = work / "module.bc"
+        """Keeps the module of the program in the file `main`, which uses the crates, in the folder `work`."""
         found = ["std"]
         for name in crates:
             lower(name, rests_on(Path("crates.txt")), rests_on(self.root / "libs" / "libs.txt"), found)
-        words = [self.machine / "bin" / "rattle-cases", "--toolchain", self.watched(work, kept), main, "--crate-name", "main"]
+        words = [self.machine / "bin" / "rattle-cases", "--toolchain", self.watched(work), main, "--crate-name", "main"]
         for name in found:
             ours = Path("crates") / name
             words += ["--lib", f"{name}={(ours if ours.exists() else self.root / 'libs' / name) / 'src' / 'lib.rt'}"]
         said = subprocess.run(words, capture_output=True, text=True, stdin=subprocess.DEVNULL)
-        if not kept.exists():
-            sys.exit(f"{Path(sys.argv[0]).name}: {main} was not compiled\n{said.stdout}{said.stderr}")
-        return kept
+        if not (work / "words").exists():
+            stop(f"{main} was not compiled\n{said.stdout}{said.stderr}")
 
-    def external(self, module, functions, work):
-        """The module as text, in which the functions can be called from outside; its `main` is `program`, and makes room for another."""
+    def compiled(self, work, functions, out, form="-c"):
+        """Compiles the module that is kept as the kit does, but so that the functions can be called from outside.
+
+        Its `main` is called `program`, which makes room for another. The form is -c for an object, -S for text.
+        """
+        words = (work / "words").read_text().split()
+        target = [word for word in words if word.startswith("--target=")]
         text = work / "module.ll"
-        run(self.clang, *TARGET, "-S", "-emit-llvm", "-x", "ir", module, "-O0", "-Xclang", "-disable-llvm-passes", "-o", text)
+        run(self.clang, "--no-default-config", *target, "-S", "-emit-llvm", "-x", "ir", work / "module.bc", "-O0", "-Xclang", "-disable-llvm-passes", "-o", text)
         ir = text.read_text().replace("@main(", "@program(")
         for name in functions:
             ir, times = re.subn(rf'^define internal (.*@"{re.escape(name)}"\()', r"define \1", ir, flags=re.M)
             if not times:
-                sys.exit(f"{Path(sys.argv[0]).name}: the program has no function {name}")
+                stop(f"the program has no function {name}")
         text.write_text(ir)
-        return text
+        ours = {"module.bc": text, "module.o": out, "-c": form}
+        run(self.clang, *(ours.get(word, word) for word in words))

@@ -7,7 +7,7 @@ import sys
 import tempfile
 from pathlib import Path
 
-from module import SHIPPED, Kit, run
+from module import Kit
 
 FUNCTIONS = [
     "supervisor::step",
@@ -40,8 +40,8 @@ def main():
         work = Path(folder)
         program = work / "main.rt"
         program.write_text(PROGRAM)
-        text = kit.external(kit.module(program, ["card"], work), FUNCTIONS, work)
-        run(kit.clang, *SHIPPED, "-c", "-x", "ir", text, "-o", out)
+        kit.module(program, ["card"], work)
+        kit.compiled(work, FUNCTIONS, out)
 
 
 main()
