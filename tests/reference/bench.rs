@@ -165,8 +165,7 @@ fn steps() {
         black_box(&other);
     });
     println!("Copying the {STATE} bytes of a state: {copy:.1} ns. All times are in ns.\n");
-    let columns =
-        ["step", "tasks", "step", "reference", "ratio", "from bytes", "reference from bytes", "ratio", "/ copy"];
+    let columns = ["step", "tasks", "own form", "reference's", "ratio", "from bytes", "reference's", "ratio", "copies"];
     println!("| {} |\n|{}", columns.join(" | "), "---|".repeat(columns.len()));
     let (mut own_form, mut from_bytes) = (Dearest::default(), Dearest::default());
     for scene in [1, 8, 31].into_iter().flat_map(scenes::scenes) {
@@ -195,7 +194,7 @@ fn range(states: &[Supervisor], cost: impl Fn(&Supervisor) -> Costs) -> String {
 
 fn parts() {
     println!("\nTwo parts of each step on own forms, from the cheapest to the dearest of the states above:\n");
-    println!("| tasks | soundness check | reference | dispatcher | reference |\n|---|---|---|---|---|");
+    println!("| tasks | soundness check | reference's | dispatcher | reference's |\n|---|---|---|---|---|");
     for tasks in [1, 8, 31] {
         let states: Vec<Supervisor> = scenes::scenes(tasks).into_iter().map(|scene| scene.state).collect();
         println!("| {tasks} | {} | {} |", range(&states, check), range(&states, dispatcher));
