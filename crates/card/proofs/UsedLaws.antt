@@ -22,10 +22,6 @@ and-true : (a : Bool) → (a && true) ≡ a
 and-true true = refl
 and-true false = refl
 
-and-assoc : (a b c : Bool) → (a && (b && c)) ≡ ((a && b) && c)
-and-assoc true b c = refl
-and-assoc false b c = refl
-
 -- ── bytes that are 0 ──
 
 -- one turn further over the table, and its end
@@ -82,38 +78,21 @@ blank-rest (suc n) k b h =
     let r = blank-rest n (k + 10) b (λ j e f. h j (omega arith) (omega arith)) in
     (are-turn n k b ∙ (λ i. x .0 i && r .0 i), from-turn n k b ∙ (λ i. x .1 i ∷ r .1 i))
 
--- ── the first tasks, and those behind them ──
-
-are-split : (m n k : ℕ) (b : List ℕ) → areTasks (m + n) (drop k b) ≡ (areTasks m (drop k b) && areTasks n (drop (k + m * 10) b))
-are-split zero n k b =
+-- where the bytes behind the first m tasks are 0, these and n blank ones are all
+front : (m n k : ℕ) (b : List ℕ) → ((j : ℕ) → k + m * 10 ≤ j → j < k + (m + n) * 10 → byte b j ≡ 0)
+    → (areTasks (m + n) (drop k b) ≡ areTasks m (drop k b)) × (tasksFrom (m + n) (drop k b) ≡ tasksFrom m (drop k b) ++ replicate n blank)
+front zero n k b h =
     let p : 0 + n ≡ n = omega arith in
-    let q : k + 0 * 10 ≡ k = omega arith in
-    rw (p, q, are-none (drop k b))
-are-split (suc m) n k b =
+    let r = blank-rest n k b (λ j l u. h j (omega arith) (omega arith)) in (
+      ap (λ (n : ℕ). areTasks n (drop k b)) p ∙ r .0 ∙ sym (are-none (drop k b)),
+      ap (λ (n : ℕ). tasksFrom n (drop k b)) p ∙ r .1 ∙ ap (λ (l : List Task). l ++ replicate n blank) (sym (from-none (drop k b))),
+    )
+front (suc m) n k b h =
     let p : suc m + n ≡ suc (m + n) = omega arith in
-    let q : k + 10 + m * 10 ≡ k + suc m * 10 = omega arith in
-    let x = isTask (drop k b) in
-    let y = areTasks m (drop (k + 10) b) in
-    ap (λ (n : ℕ). areTasks n (drop k b)) p
-    ∙ are-turn (m + n) k b
-    ∙ ap (λ (r : Bool). x && r) (are-split m n (k + 10) b ∙ ap (λ (j : ℕ). y && areTasks n (drop j b)) q)
-    ∙ and-assoc x y (areTasks n (drop (k + suc m * 10) b))
-    ∙ ap (λ (r : Bool). r && areTasks n (drop (k + suc m * 10) b)) (sym (are-turn m k b))
-
-from-split : (m n k : ℕ) (b : List ℕ) → tasksFrom (m + n) (drop k b) ≡ tasksFrom m (drop k b) ++ tasksFrom n (drop (k + m * 10) b)
-from-split zero n k b =
-    let p : 0 + n ≡ n = omega arith in
-    let q : k + 0 * 10 ≡ k = omega arith in
-    rw (p, q, from-none (drop k b))
-from-split (suc m) n k b =
-    let p : suc m + n ≡ suc (m + n) = omega arith in
-    let q : k + 10 + m * 10 ≡ k + suc m * 10 = omega arith in
-    let x = taskFrom (drop k b) in
-    let y = tasksFrom m (drop (k + 10) b) in
-    ap (λ (n : ℕ). tasksFrom n (drop k b)) p
-    ∙ from-turn (m + n) k b
-    ∙ ap (λ (r : List Task). x ∷ r) (from-split m n (k + 10) b ∙ ap (λ (j : ℕ). y ++ tasksFrom n (drop j b)) q)
-    ∙ ap (λ (r : List Task). r ++ tasksFrom n (drop (k + suc m * 10) b)) (sym (from-turn m k b))
+    let ih = front m n (k + 10) b (λ j l u. h j (omega arith) (omega arith)) in (
+      ap (λ (n : ℕ). areTasks n (drop k b)) p ∙ are-turn (m + n) k b ∙ ap (λ (r : Bool). isTask (drop k b) && r) (ih .0) ∙ sym (are-turn m k b),
+      ap (λ (n : ℕ). tasksFrom n (drop k b)) p ∙ from-turn (m + n) k b ∙ ap (λ (l : List Task). taskFrom (drop k b) ∷ l) (ih .1) ∙ ap (λ (l : List Task). l ++ replicate n blank) (sym (from-turn m k b)),
+    )
 
 -- ── reading the used tasks is reading all ──
 
@@ -144,34 +123,20 @@ used-tested b t h e = rw (le-ltb 31 (byte b 4) h, e)
 pub used-small : (b : List ℕ) → usedTasks b ≤ 31
 used-small b = used-fits b .0
 
-module _ (b : List ℕ) (m : ℕ) (h : Fits b m) where
-  small : m ≤ 31
-  small = h .0
-
-  all : m + (31 - m) ≡ 31
-  all = let s = small in omega arith
-
-  behind : (areTasks (31 - m) (drop (5 + m * 10) b) ≡ true) × (tasksFrom (31 - m) (drop (5 + m * 10) b) ≡ replicate (31 - m) blank)
-  behind = let s = small in blank-rest (31 - m) (5 + m * 10) b (λ j l u. h .1 j l (omega arith))
-
-  are-used : areTasks 31 (drop 5 b) ≡ areTasks m (drop 5 b)
-  are-used =
-      ap (λ (n : ℕ). areTasks n (drop 5 b)) (sym all)
-      ∙ are-split m (31 - m) 5 b
-      ∙ ap (λ (r : Bool). areTasks m (drop 5 b) && r) (behind .0)
-      ∙ and-true (areTasks m (drop 5 b))
-
-  from-used : tasksFrom 31 (drop 5 b) ≡ tasksFrom m (drop 5 b) ++ replicate (31 - m) blank
-  from-used =
-      ap (λ (n : ℕ). tasksFrom n (drop 5 b)) (sym all)
-      ∙ from-split m (31 - m) 5 b
-      ∙ ap (λ (r : List Task). tasksFrom m (drop 5 b) ++ r) (behind .1)
+used-front : (b : List ℕ) → (areTasks 31 (drop 5 b) ≡ areTasks (usedTasks b) (drop 5 b)) × (tasksFrom 31 (drop 5 b) ≡ tasksFrom (usedTasks b) (drop 5 b) ++ replicate (31 - usedTasks b) blank)
+used-front b =
+    let m = usedTasks b in
+    let f = used-fits b in
+    let small = used-small b in
+    let all : 31 ≡ m + (31 - m) = omega arith in
+    let r = front m (31 - m) 5 b (λ j l u. f .1 j l (omega arith)) in
+    (ap (λ (n : ℕ). areTasks n (drop 5 b)) all ∙ r .0, ap (λ (n : ℕ). tasksFrom n (drop 5 b)) all ∙ r .1)
 
 pub used-are : (b : List ℕ) → areTasks 31 (drop 5 b) ≡ areTasks (usedTasks b) (drop 5 b)
-used-are b = are-used b (usedTasks b) (used-fits b)
+used-are b = used-front b .0
 
 pub used-from : (b : List ℕ) → tasksFrom 31 (drop 5 b) ≡ tasksFrom (usedTasks b) (drop 5 b) ++ replicate (31 - usedTasks b) blank
-used-from b = from-used b (usedTasks b) (used-fits b)
+used-from b = used-front b .1
 
 -- ── the table, filled from its front ──
 
