@@ -1,9 +1,9 @@
 """The module of a program, as the kit hands it to its compiler, with chosen functions kept as functions of their own.
 
-The compiler lays most functions into their callers, so the built programs do not show them one by one. This compiles a program with
-the kit's own front end, as `rt` does but with no proof, and takes the module that the compiler gets for the optimised build, and the words
-with which it is called. (It also gets one with no optimisation, and one in which the compiler's assumptions are checked: slower code, and
-more stack.)
+The compiler lays most functions into their callers, so the built programs do not show them one by one. This compiles a
+program with the kit's own front end, as `rt` does but with no proof, and takes the module that the compiler gets for the
+optimised build, and the words with which it is called. (It gets two more, one to be built with no optimisation and one
+in which its assumptions are checked, which is slower and takes more stack.)
 """
 import platform
 import re
@@ -85,7 +85,8 @@ exec "{self.clang}" "$@"
         words = (work / "words").read_text().split()
         target = [word for word in words if word.startswith("--target=")]
         text = work / "module.ll"
-        run(self.clang, "--no-default-config", *target, "-S", "-emit-llvm", "-x", "ir", work / "module.bc", "-O0", "-Xclang", "-disable-llvm-passes", "-o", text)
+        as_text = ["-S", "-emit-llvm", "-O0", "-Xclang", "-disable-llvm-passes"]
+        run(self.clang, "--no-default-config", *target, *as_text, "-x", "ir", work / "module.bc", "-o", text)
         ir = text.read_text().replace("@main(", "@program(")
         for name in functions:
             ir, times = re.subn(rf'^define internal (.*@"{re.escape(name)}"\()', r"define \1", ir, flags=re.M)

@@ -1,6 +1,6 @@
 """own_form.py OBJECT: compiles functions of the supervisor on its own struct, for tests/reference/own.rs to call.
 
-They are those of the library, compiled as it is shipped, but kept as functions of their own: see module.py.
+They are compiled as the kit compiles a program, but kept as functions of their own: see module.py.
 """
 import os
 import sys
