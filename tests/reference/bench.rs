@@ -1,7 +1,7 @@
-//! What a step costs: the proved library against the reference in Rust, both with their soundness check, and against
-//! copying the state, in one run. The library's state lies in bytes, the reference's in vectors; so the reference is
-//! measured twice: as it is, and from the same bytes to the same bytes. Figures are of the fastest of many rounds, so
-//! that other work on the machine disturbs them little.
+//! What a step costs: the proved supervisor against the reference in Rust, both with their soundness check, in one run.
+//! It is measured twice: each on its own form of the state, the supervisor's struct and the reference's vectors; and as
+//! the library's `card_step` does it, from bytes to bytes. Figures are of the fastest of many rounds, so that other work
+//! on the machine disturbs them little.
 
 // the modules are those of main.rs, and the benchmark needs a part of them
 #![allow(dead_code)]
@@ -10,6 +10,7 @@ mod calls;
 mod card;
 mod flat;
 mod numbers;
+mod own;
 mod scenes;
 mod steps;
 mod supervisor;
@@ -39,27 +40,51 @@ fn fastest<T: Clone>(thing: &T, mut act: impl FnMut(&mut T)) -> f64 {
     best
 }
 
+/// A cost, and what it is for the reference.
 struct Costs {
-    library: f64,
-    over_bytes: f64,
-    own_form: f64,
+    ours: f64,
+    reference: f64,
 }
 
-fn step_costs(scene: &Scene) -> Costs {
-    let record = calls::record(&scene.call);
-    let bytes: [u8; STATE] = flat::write(&scene.state).try_into().expect("a state has its length");
-    agree(scene, &bytes, &record);
-    let mut room = [0; ROOM];
-    let library = fastest(&bytes, |state| {
-        black_box(card::step(state, &record, &mut room));
+impl Costs {
+    fn ratio(&self) -> f64 {
+        self.ours / self.reference
+    }
+
+    fn columns(&self) -> String {
+        format!("{:.0} | {:.0} | {:.1}", self.ours, self.reference, self.ratio())
+    }
+}
+
+fn bytes_of(state: &Supervisor) -> [u8; STATE] {
+    flat::write(state).try_into().expect("a state has its length")
+}
+
+/// A step, each on its own form of the state.
+fn own_step(scene: &Scene) -> Costs {
+    let (state, call) = (own::state(&bytes_of(&scene.state)), own::read(&calls::record(&scene.call)));
+    let (mut room, mut stepped) = ([0; ROOM], own::none());
+    let ours = fastest(&state, |state| {
+        own::step(state, &call, &mut room, &mut stepped);
+        black_box(&stepped);
     });
-    let over_bytes = fastest(&bytes, |state| {
-        black_box(step_over_bytes(state, &record, &mut room));
-    });
-    let own_form = fastest(&scene.state, |state| {
+    let reference = fastest(&scene.state, |state| {
         black_box(state.step(black_box(&scene.call), &mut room));
     });
-    Costs { library, over_bytes, own_form }
+    Costs { ours, reference }
+}
+
+/// A step from bytes to bytes.
+fn byte_step(scene: &Scene) -> Costs {
+    let (bytes, record) = (bytes_of(&scene.state), calls::record(&scene.call));
+    let mut room = [0; ROOM];
+    let ours = fastest(&bytes, |state| {
+        black_box(card::step(state, &record, &mut room));
+    });
+    let reference = fastest(&bytes, |state| {
+        black_box(step_over_bytes(state, &record, &mut room));
+    });
+    Costs { ours, reference }
 }
 
 /// The reference's step as the library's: of the bytes of a state and of a record.
@@ -74,75 +99,115 @@ fn step_over_bytes(bytes: &mut [u8; STATE], record: &[u8], room: &mut [u8]) -> O
     Some(answer)
 }
 
-/// Both do the same step; a figure for something else would say nothing.
-fn agree(scene: &Scene, bytes: &[u8; STATE], record: &[u8]) {
-    let (mut left, mut right) = (*bytes, scene.state.clone());
-    let numbers = card::step(&mut left, record, &mut [0; ROOM]);
-    let a = right.step(&scene.call, &mut [0; ROOM]);
-    assert_eq!(numbers, [a.refusal, a.result, a.task, a.entry, a.partner, a.ended, a.next], "{}", scene.name);
-    assert_eq!(left[..], flat::write(&right)[..], "{}", scene.name);
-}
-
-fn sound_costs(state: &Supervisor) -> Costs {
-    let bytes: [u8; STATE] = flat::write(state).try_into().expect("a state has its length");
-    let library = fastest(&bytes, |state| {
-        black_box(card::sound(black_box(state)));
+fn check(state: &Supervisor) -> Costs {
+    let ours = fastest(&own::state(&bytes_of(state)), |state| {
+        black_box(own::sound(black_box(state)));
     });
-    let over_bytes = fastest(&bytes, |state| {
-        black_box(flat::broken(Flat(black_box(&state[..]))));
-    });
-    let own_form = fastest(state, |state| {
+    let reference = fastest(state, |state| {
         black_box(black_box(state).sound());
     });
-    Costs { library, over_bytes, own_form }
+    Costs { ours, reference }
 }
 
-fn print(name: &str, tasks: usize, costs: &Costs, copy: f64) {
-    let Costs { library, over_bytes, own_form } = costs;
-    let (times, own_times, copies) = (library / over_bytes, library / own_form, library / copy);
-    let figures = format!("{library:.0} | {over_bytes:.0} | {own_form:.0} | {times:.1} | {own_times:.1} | {copies:.0}");
-    println!("| {name} | {tasks} | {figures} |");
+fn dispatcher(state: &Supervisor) -> Costs {
+    let ours = fastest(&own::state(&bytes_of(state)), |state| {
+        black_box(own::running(black_box(state)));
+    });
+    let reference = fastest(state, |state| {
+        black_box(black_box(state).running());
+    });
+    Costs { ours, reference }
+}
+
+/// All do the same; a figure for something else would say nothing.
+fn agree(scene: &Scene) {
+    let (bytes, record) = (bytes_of(&scene.state), calls::record(&scene.call));
+    let (mut after, mut room) = (scene.state.clone(), [0; ROOM]);
+    let a = after.step(&scene.call, &mut room);
+    let wanted = ([a.refusal, a.result, a.task, a.entry, a.partner, a.ended, a.next], bytes_of(&after), room);
+
+    let (mut left, mut room) = (bytes, [0; ROOM]);
+    let answer = card::step(&mut left, &record, &mut room);
+    assert_eq!((answer, left, room), wanted, "{}", scene.name);
+
+    let (state, mut room, mut stepped) = (own::state(&bytes), [0; ROOM], own::none());
+    own::step(&state, &own::read(&record), &mut room, &mut stepped);
+    assert_eq!((own::answer(&stepped), own::bytes(&stepped), room), wanted, "{}", scene.name);
+    assert!(own::sound(&state) && own::running(&state) == scene.state.running(), "{}", scene.name);
 }
 
 /// Makes one step over and over, for a profiler: `bench NAME TASKS`.
 fn repeat(name: &str, tasks: usize) -> Option<()> {
     let scene = scenes::scenes(tasks).into_iter().find(|scene| scene.name == name)?;
-    let record = calls::record(&scene.call);
-    let bytes: [u8; STATE] = flat::write(&scene.state).try_into().ok()?;
+    let (bytes, record) = (bytes_of(&scene.state), calls::record(&scene.call));
     for _ in 0..2_000_000 {
         black_box(card::step(&mut bytes.clone(), &record, &mut [0; ROOM]));
     }
     Some(())
 }
 
-fn table() {
+/// The dearest of the ratios, and the step that has it.
+#[derive(Default)]
+struct Dearest(f64, String);
+
+impl Dearest {
+    fn meet(&mut self, costs: &Costs, scene: &Scene) {
+        if costs.ratio() > self.0 {
+            *self = Dearest(costs.ratio(), format!("{} with {}", scene.name, scene.tasks));
+        }
+    }
+}
+
+fn steps() {
     let copy = fastest(&[0u8; STATE], |state| {
         let mut other = [0u8; STATE];
         other.copy_from_slice(black_box(&state[..]));
         black_box(&other);
     });
-    println!("Copying the {STATE} bytes of a state: {copy:.1} ns.\n");
-    let columns = ["step", "tasks", "library, ns", "reference over bytes, ns", "reference, ns"];
-    println!("| {} | library / over bytes | library / reference | library / copy |", columns.join(" | "));
-    println!("|---|---|---|---|---|---|---|---|");
-    let mut worst = 0f64;
-    for tasks in [1, 8, 31] {
-        for scene in scenes::scenes(tasks) {
-            let costs = step_costs(&scene);
-            worst = worst.max(costs.library / costs.own_form);
-            print(scene.name, tasks, &costs, copy);
-        }
-        let full = &scenes::scenes(tasks)[1].state;
-        assert!(flat::broken(Flat(&flat::write(full))).is_none());
-        print("the soundness check alone", tasks, &sound_costs(full), copy);
+    println!("Copying the {STATE} bytes of a state: {copy:.1} ns. All times are in ns.\n");
+    let columns = ["step", "tasks", "own form", "reference's", "ratio", "from bytes", "reference's", "ratio", "copies"];
+    println!("| {} |\n|{}", columns.join(" | "), "---|".repeat(columns.len()));
+    let (mut own_form, mut from_bytes) = (Dearest::default(), Dearest::default());
+    for scene in [1, 8, 31].into_iter().flat_map(scenes::scenes) {
+        agree(&scene);
+        let (own, bytes) = (own_step(&scene), byte_step(&scene));
+        let copies = bytes.ours / copy;
+        println!("| {} | {} | {} | {} | {copies:.0} |", scene.name, scene.tasks, own.columns(), bytes.columns());
+        own_form.meet(&own, &scene);
+        from_bytes.meet(&bytes, &scene);
     }
-    println!("\nThe dearest step costs {worst:.1} times what it costs the reference in its own form.");
+    println!(
+        "\nThe highest ratio on own forms is {:.1} ({}), from bytes {:.1} ({}).",
+        own_form.0, own_form.1, from_bytes.0, from_bytes.1
+    );
+}
+
+/// What a part of the step costs in the states of all steps: from the cheapest to the dearest.
+fn range(states: &[Supervisor], cost: impl Fn(&Supervisor) -> Costs) -> String {
+    let costs: Vec<Costs> = states.iter().map(cost).collect();
+    let over = |of: fn(&Costs) -> f64| {
+        let (low, high) = costs.iter().map(of).fold((f64::MAX, 0f64), |(low, high), ns| (low.min(ns), high.max(ns)));
+        format!("{low:.0} to {high:.0}")
+    };
+    format!("{} | {}", over(|costs| costs.ours), over(|costs| costs.reference))
+}
+
+fn parts() {
+    println!("\nTwo parts of each step on own forms, from the cheapest to the dearest of the states above:\n");
+    println!("| tasks | soundness check | reference's | dispatcher | reference's |\n|---|---|---|---|---|");
+    for tasks in [1, 8, 31] {
+        let states: Vec<Supervisor> = scenes::scenes(tasks).into_iter().map(|scene| scene.state).collect();
+        println!("| {tasks} | {} | {} |", range(&states, check), range(&states, dispatcher));
+    }
 }
 
 fn main() {
     let words: Vec<String> = std::env::args().skip(1).collect();
     match &words[..] {
-        [] => table(),
+        [] => {
+            steps();
+            parts();
+        }
         [name, tasks] => tasks.parse().ok().and_then(|tasks| repeat(name, tasks)).expect("a step and 1, 8 or 31"),
         _ => panic!("bench, or bench NAME TASKS"),
     }

@@ -75,22 +75,24 @@ from-turn n k b = rw (drop-drop 10 k b)
 pub next-place : (i : ℕ) → 5 + (i + 1) * 10 ≡ 5 + i * 10 + 10
 next-place i = omega arith
 
-pub turns : (i : ℕ) → i < 31 → 31 - i ≡ suc (31 - (i + 1))
-turns i h = omega arith
+pub turns : (n i : ℕ) → i < n → n - i ≡ suc (n - (i + 1))
+turns n i h = omega arith
 
-module _ (b : List ℕ) (i : ℕ) (h : i < 31) where
-  pub are-pass : isTask (drop (5 + i * 10) b) ≡ true → areTasks (31 - i) (drop (5 + i * 10) b) ≡ areTasks (31 - (i + 1)) (drop (5 + (i + 1) * 10) b)
-  are-pass e = rw (turns i h, next-place i, are-turn (31 - (i + 1)) (5 + i * 10) b, e)
+pub all-turns : (n : ℕ) → n - 0 ≡ n
+all-turns n = omega arith
 
-  pub are-fail : isTask (drop (5 + i * 10) b) ≡ false → areTasks (31 - i) (drop (5 + i * 10) b) ≡ false
-  are-fail e = rw (turns i h, are-turn (31 - (i + 1)) (5 + i * 10) b, e)
+module _ (b : List ℕ) (n i : ℕ) (h : i < n) where
+  pub are-pass : isTask (drop (5 + i * 10) b) ≡ true → areTasks (n - i) (drop (5 + i * 10) b) ≡ areTasks (n - (i + 1)) (drop (5 + (i + 1) * 10) b)
+  are-pass e = rw (turns n i h, next-place i, are-turn (n - (i + 1)) (5 + i * 10) b, e)
 
-  pub from-next : (tasks : List Task) (x : Task) → length tasks ≡ 31 → x ≡ taskFrom (drop (5 + i * 10) b)
-      → take i tasks ++ tasksFrom (31 - i) (drop (5 + i * 10) b) ≡ take (i + 1) (set tasks i x) ++ tasksFrom (31 - (i + 1)) (drop (5 + (i + 1) * 10) b)
-  from-next tasks x l e =
-      let fits : i < length tasks = omega arith in
-      rw (turns i h, next-place i, from-turn (31 - (i + 1)) (5 + i * 10) b, ← e, add-one i, take-suc-set tasks i x fits)
-      (sym (append-snoc (take i tasks) x (tasksFrom (31 - suc i) (drop (5 + i * 10 + 10) b))))
+  pub are-fail : isTask (drop (5 + i * 10) b) ≡ false → areTasks (n - i) (drop (5 + i * 10) b) ≡ false
+  are-fail e = rw (turns n i h, are-turn (n - (i + 1)) (5 + i * 10) b, e)
+
+  pub from-next : (tasks : List Task) (x : Task) → i < length tasks → x ≡ taskFrom (drop (5 + i * 10) b)
+      → take i tasks ++ tasksFrom (n - i) (drop (5 + i * 10) b) ≡ take (i + 1) (set tasks i x) ++ tasksFrom (n - (i + 1)) (drop (5 + (i + 1) * 10) b)
+  from-next tasks x fits e =
+      rw (turns n i h, next-place i, from-turn (n - (i + 1)) (5 + i * 10) b, ← e, add-one i, take-suc-set tasks i x fits)
+      (sym (append-snoc (take i tasks) x (tasksFrom (n - suc i) (drop (5 + i * 10 + 10) b))))
 
 -- a copy into a part that is as long
 pub put-mid : (b x last : List ℕ) (k n : ℕ) → n ≡ length x → k + n ≤ length b → last ≡ take (length x) x ++ drop (length x) (take n (drop k b))
@@ -109,7 +111,7 @@ line-copied b k last h e =
     let long : length (take 31 (drop k b)) ≡ 31 = simp (length-take, length-drop) (omega arith) in
     e ∙ rw (n, long) (append-nil (take 31 (take 31 (drop k b))) ∙ take-all 31 (take 31 (drop k b)) (omega arith))
 
-pub rest-cons : (l : List Task) (i : ℕ) (d : Task) → i < length l → drop i l ≡ getD l i d ∷ drop (i + 1) l
+pub rest-cons : {A : Type 0} (l : List A) (i : ℕ) (d : A) → i < length l → drop i l ≡ getD l i d ∷ drop (i + 1) l
 rest-cons l i d h = rw (add-one i, drop-cons l i d)
 
 pub put-end : (room : List ℕ) (tasks : List Task) (i : ℕ) → i ≡ 31 → length tasks ≡ 31 → putAt room (5 + i * 10) (tasksBytes (drop i tasks)) ≡ room

@@ -1,4 +1,5 @@
 pub mod CodecLaws
+pub mod UsedLaws
 pub mod CardLaws
 pub mod Kept
 pub mod Exact

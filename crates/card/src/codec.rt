@@ -4,7 +4,8 @@ ghost use mathlib.Core.List.{_++_};
 ghost use mathlib.Core.Path.{_≡_};
 ghost use Prim.Native.Nat.{_+_, _≤_};
 ghost use lib.ListN.{length, take, drop};
-ghost use Rattle.card.specs.Layout.{placeTag, placeFirst, placeSecond, timerTag, timerDue, taskBytes, tasksBytes, isPlace, isTimer, placeFrom, timerFrom, isTask, taskFrom, areTasks, tasksFrom, decode, lost, stateIn, putAt, placedAt, placedLines, stored};
+ghost use Rattle.card.specs.Layout.{placeTag, placeFirst, placeSecond, timerTag, timerDue, taskBytes, tasksBytes, isPlace, isTimer, placeFrom, timerFrom, isTask, taskFrom, areTasks, lost, stateIn, putAt, placedAt, placedLines, stored};
+ghost use Rattle.card.specs.Used.{areZero, tableFrom, usedTasks};
 use calls::word;
 use rules::Meeting;
 use rules::Offer;
@@ -164,13 +165,41 @@ fn task_from(b: &[u8]) -> Task
     }
 }
 
-// Whether the tasks of a state are tasks.
-fn are_tasks(b: &[u8]) -> bool
+// Whether the bytes of the table of tasks are 0 from an index on.
+fn are_zero(b: &[u8], from: usize) -> bool
     requires { ⌜ 439 ≤ length (now b) ⌝ }
-    ensures { λ r. ⌜ r ≡ areTasks 31 (drop 5 (now (b .entry))) ⌝ }
+    ensures { λ r. ⌜ r ≡ areZero (tableFrom (now (b .entry)) from) ⌝ }
+{
+    let mut all = true;
+    let mut i = from;
+    while i < 315 {
+        all = all & (b[i] == 0);
+        i += 1;
+    }
+    all
+}
+
+// How many tasks of the table have to be read: the bytes behind them are 0, which is blank tasks.
+fn used_tasks(b: &[u8]) -> usize
+    requires { ⌜ 439 ≤ length (now b) ⌝ }
+    ensures { λ r. ⌜ r ≡ usedTasks (now (b .entry)) ⌝ }
+{
+    let n = b[4] as usize;
+    if 31 < n {
+        return 31;
+    }
+    let behind = 5 + n * 10;
+    if are_zero(b, behind) { n } else { 31 }
+}
+
+// Whether the first n tasks of a state are tasks.
+fn are_tasks(b: &[u8], n: usize) -> bool
+    requires { ⌜ 439 ≤ length (now b) ⌝ }
+    requires { ⌜ n ≤ 31 ⌝ }
+    ensures { λ r. ⌜ r ≡ areTasks n (drop 5 (now (b .entry))) ⌝ }
 {
     let mut i: usize = 0;
-    while i < 31 {
+    while i < n {
         let at = 5 + i * 10;
         if is_task(&b[at..]) {
             i += 1;
@@ -179,27 +208,6 @@ fn are_tasks(b: &[u8]) -> bool
         }
     }
     true
-}
-
-// The tasks of a state.
-fn tasks_from(b: &[u8]) -> [Task; 31]
-    requires { ⌜ 439 ≤ length (now b) ⌝ }
-    ensures { λ r. ⌜ r ≡ tasksFrom 31 (drop 5 (now (b .entry))) ⌝ }
-{
-    let blank = Task {
-        priority: 0,
-        entries: 0,
-        place: Place::Blank,
-        timer: Timer::Off,
-    };
-    let mut tasks = [blank; 31];
-    let mut i: usize = 0;
-    while i < 31 {
-        let at = 5 + i * 10;
-        tasks[i] = task_from(&b[at..]);
-        i += 1;
-    }
-    tasks
 }
 
 // The line at an index.
@@ -213,28 +221,6 @@ fn line_from(b: &[u8], at: usize) -> [u8; 31]
     line
 }
 
-// The state of bytes that are long enough.
-fn decoded(b: &[u8]) -> Supervisor
-    requires { ⌜ 439 ≤ length (now b) ⌝ }
-    ensures { λ r. ⌜ r ≡ decode (now (b .entry)) ⌝ }
-{
-    let clock = word(b[0], b[1], b[2], b[3]);
-    let tasks = tasks_from(b);
-    let ready = line_from(b, 315);
-    let callers = line_from(b, 346);
-    let held = line_from(b, 377);
-    let delays = line_from(b, 408);
-    Supervisor {
-        clock,
-        created: b[4],
-        tasks,
-        ready,
-        callers,
-        held,
-        delays,
-    }
-}
-
 // A state that is not sound.
 fn lost_state() -> Supervisor
     ensures { λ r. ⌜ r ≡ lost ⌝ }
@@ -244,18 +230,37 @@ fn lost_state() -> Supervisor
     s
 }
 
-// The state of lent bytes; one that is not sound where they are no encoding.
+// The state of lent bytes; one that is not sound where they are no encoding. One variable is filled in place, with no function
+// between: a state that is handed on is copied.
 pub(crate) fn state_in(b: &[u8]) -> Supervisor
     ensures { λ r. ⌜ r ≡ stateIn (now (b .entry)) ⌝ }
 {
+    let mut s = lost_state();
     if b.len() < 439 {
-        return lost_state();
+        return s;
     }
-    if are_tasks(b) {
-        decoded(b)
-    } else {
-        lost_state()
+    let n = used_tasks(b);
+    if are_tasks(b, n) {
+        let mut i: usize = 0;
+        while i < n {
+            let at = 5 + i * 10;
+            s.tasks[i] = task_from(&b[at..]);
+            i += 1;
+        }
+        let clock = word(b[0], b[1], b[2], b[3]);
+        let ready = line_from(b, 315);
+        let callers = line_from(b, 346);
+        let held = line_from(b, 377);
+        let delays = line_from(b, 408);
+        s.clock = clock;
+        s.created = b[4];
+        s.ready = ready;
+        s.callers = callers;
+        s.held = held;
+        s.delays = delays;
+        return s;
     }
+    s
 }
 
 // Puts a piece at an index of the room, or nothing where it has no room there.

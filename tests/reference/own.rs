@@ -1,0 +1,81 @@
+//! The supervisor's functions on its own struct, as tests/own_form.py compiles them: no bytes in between.
+//!
+//! A state is made of bytes by the library's own `state_in` and read back by its `store`. So little is assumed of the
+//! form: a struct goes by a pointer, as a result too; a slice is a pointer to a pointer and a number of bytes; the call
+//! of a record that was read lies behind four bytes, the answer of a step behind the 628 of the state. Where one of these
+//! is wrong, `agree` of bench.rs fails.
+
+use crate::flat::STATE;
+
+const CALL_AT: usize = 4;
+const ANSWER_AT: usize = 628;
+
+/// A struct of the supervisor, with room for the largest: a state and an answer.
+#[repr(C, align(16))]
+#[derive(Clone)]
+pub struct Form([u8; 640]);
+
+#[repr(C)]
+struct Slice(*const u8, usize);
+
+extern "C" {
+    #[link_name = "card::codec::state_in"]
+    fn state_in(state: *mut Form, bytes: *const Slice);
+    #[link_name = "card::codec::store"]
+    fn store(state: *const Form, bytes: *const Slice);
+    #[link_name = "calls::reader::read_record"]
+    fn read_record(read: *mut Form, record: *const Slice);
+    #[link_name = "supervisor::step"]
+    fn supervisor_step(stepped: *mut Form, state: *const Form, call: *const u8, room: *const Slice);
+    #[link_name = "soundness::is_sound"]
+    fn is_sound(state: *const Form) -> u8;
+    #[link_name = "table::dispatch::running"]
+    fn dispatched(state: *const Form) -> u8;
+}
+
+pub fn none() -> Form {
+    Form([0; 640])
+}
+
+pub fn state(bytes: &[u8; STATE]) -> Form {
+    let mut state = none();
+    // SAFETY: the function reads the bytes that are lent to it and writes a state, for which there is room.
+    unsafe { state_in(&mut state, &Slice(bytes.as_ptr(), bytes.len())) };
+    state
+}
+
+pub fn bytes(state: &Form) -> [u8; STATE] {
+    let mut bytes = [0; STATE];
+    // SAFETY: the function reads a state and writes the bytes that are lent to it.
+    unsafe { store(state, &Slice(bytes.as_mut_ptr(), bytes.len())) };
+    bytes
+}
+
+/// What the reader makes of a record.
+pub fn read(record: &[u8]) -> Form {
+    let mut read = none();
+    // SAFETY: the function reads the bytes that are lent to it and writes what was read, for which there is room.
+    unsafe { read_record(&mut read, &Slice(record.as_ptr(), record.len())) };
+    read
+}
+
+pub fn step(state: &Form, read: &Form, room: &mut [u8], stepped: &mut Form) {
+    let call = read.0[CALL_AT..].as_ptr();
+    // SAFETY: the function reads a state and a call, and writes the bytes that are lent to it and a state with an answer.
+    unsafe { supervisor_step(stepped, state, call, &Slice(room.as_mut_ptr(), room.len())) };
+}
+
+/// The seven numbers of the answer.
+pub fn answer(stepped: &Form) -> [u8; 7] {
+    std::array::from_fn(|i| stepped.0[ANSWER_AT + i])
+}
+
+pub fn sound(state: &Form) -> bool {
+    // SAFETY: the function reads a state. Of its answer one bit is set or not.
+    unsafe { is_sound(state) & 1 == 1 }
+}
+
+pub fn running(state: &Form) -> u8 {
+    // SAFETY: the function reads a state.
+    unsafe { dispatched(state) }
+}
