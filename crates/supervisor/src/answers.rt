@@ -1,6 +1,6 @@
-// What a call gave, and the ticks of a duration.
+// What a call gave.
 ghost use mathlib.Core.Path.{_≡_};
-ghost use Rattle.rules.specs.Step.{item, none, ticks};
+ghost use Rattle.rules.specs.Step.{item, none};
 use rules::Item;
 use rules::Supervisor;
 
@@ -44,11 +44,4 @@ pub fn answered(s: Supervisor, t: u8, result: u8, entry: u8, partner: u8, ended:
         },
         ended,
     }
-}
-
-// The ticks to wait for a duration: zero and below mean the same.
-pub fn ticks_of(d: i32) -> u32
-    ensures { λ r. ⌜ r ≡ ticks d ⌝ }
-{
-    if d > 0 { d as u32 } else { 0 }
 }

@@ -9,7 +9,6 @@ ghost use Rattle.supervisor.specs.Taken.{Stands, takenOf, endedBy};
 use super::answers::Taken;
 use super::answers::answered;
 use super::answers::refused_by;
-use super::answers::ticks_of;
 use super::ended::put;
 use super::numbers::ACCEPTED;
 use super::numbers::CALL_EXPIRED;
@@ -20,6 +19,7 @@ use super::numbers::NOT_NOW;
 use super::numbers::TASKING_ERROR;
 use super::numbers::WAITS;
 use calls::CallMode;
+use calls::ticks;
 use rules::Item;
 use rules::Place;
 use rules::Supervisor;
@@ -58,7 +58,7 @@ fn call_busy(s: Supervisor, t: u8, g: u8, e: u8, m: CallMode) -> Taken
     match m {
         CallMode::Simple => enqueued(s, t, g, e, Timer::Off),
         CallMode::Timed(d) => {
-            let n = ticks_of(d);
+            let n = ticks(d);
             if n == 0 {
                 return answered(s, t, CALL_EXPIRED, e, g, 0);
             }

@@ -7,10 +7,10 @@ ghost use Rattle.supervisor.specs.Taken.{Stands, takenOf};
 use super::answers::Taken;
 use super::answers::answered;
 use super::answers::refused_by;
-use super::answers::ticks_of;
 use super::numbers::ELAPSED;
 use super::numbers::NO_TASK;
 use super::numbers::WAITS;
+use calls::ticks;
 use rules::Place;
 use rules::Supervisor;
 use rules::Timer;
@@ -26,7 +26,7 @@ pub fn delay(s: Supervisor, d: i32) -> Taken
     if t == 0 {
         return refused_by(s, NO_TASK);
     }
-    let n = ticks_of(d);
+    let n = ticks(d);
     if n == 0 {
         let left = moved(s, t, Place::Ready, Timer::Off);
         return answered(left, t, ELAPSED, 0, 0, 0);

@@ -9,7 +9,6 @@ ghost use Rattle.supervisor.specs.Taken.{Stands, takenOf};
 use super::answers::Taken;
 use super::answers::answered;
 use super::answers::refused_by;
-use super::answers::ticks_of;
 use super::callers::lowest;
 use super::numbers::ACCEPTED;
 use super::numbers::DELAY_TAKEN;
@@ -19,6 +18,7 @@ use super::numbers::NO_TASK;
 use super::numbers::PROGRAM_ERROR;
 use super::numbers::WAITS;
 use calls::SelectMode;
+use calls::ticks;
 use rules::Offer;
 use rules::Place;
 use rules::Supervisor;
@@ -43,7 +43,7 @@ fn select_none(s: Supervisor, t: u8, o: u8, m: SelectMode) -> Taken
             answered(n, t, WAITS, 0, 0, 0)
         }
         SelectMode::Delay(d) => {
-            let k = ticks_of(d);
+            let k = ticks(d);
             if k == 0 {
                 return answered(s, t, DELAY_TAKEN, 0, 0, 0);
             }

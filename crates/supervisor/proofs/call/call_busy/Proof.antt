@@ -18,7 +18,7 @@ returns c =
     let a = c .before .before .before .before .before .before .args in
     let k = c .before .before .before .before .m .given in
     let z : toZ w32 (ofZ w32 (k .0 .0)) ≡ k .0 .0 = search needs in
-    rw (k .1) (by-outcome (a .s) (timed-now (view (a .s)) (a .t) (a .g) (a .e) (k .0 .0) (c .before .before .ticks-of .result) (c .before .before .ticks-of .ensures ∙ ap ticks z) (c .before .if1 .taken)) (stay-answers (a .s) _ [] (c .before .before .before .before .before .before .pre .0) (c .answered .ensures)))
+    rw (k .1) (by-outcome (a .s) (timed-now (view (a .s)) (a .t) (a .g) (a .e) (k .0 .0) (c .before .before .ticks .result) (c .before .before .ticks .ensures ∙ ap ticks z) (c .before .if1 .taken)) (stay-answers (a .s) _ [] (c .before .before .before .before .before .before .pre .0) (c .answered .ensures)))
 
 enqueued-requires-2 : tie.Need-enqueued-requires-2
 enqueued-requires-2 c κs = c .before .before .before .before .before .before .pre
@@ -31,7 +31,7 @@ returns-3 c =
     let a = c .before .before .before .before .before .before .before .args in
     let k = c .before .before .before .before .before .m .given in
     let z : toZ w32 (ofZ w32 (k .0 .0)) ≡ k .0 .0 = search needs in
-    rw (k .1) (by-outcome (a .s) (timed-later (view (a .s)) (a .t) (a .g) (a .e) (k .0 .0) (c .before .before .before .ticks-of .result) (c .before .before .before .ticks-of .ensures ∙ ap ticks z) _ (c .before .before .if1 .left) (c .before .wrapping-add-u32 .ensures)) (c .enqueued2 .ensures))
+    rw (k .1) (by-outcome (a .s) (timed-later (view (a .s)) (a .t) (a .g) (a .e) (k .0 .0) (c .before .before .before .ticks .result) (c .before .before .before .ticks .ensures ∙ ap ticks z) _ (c .before .before .if1 .left) (c .before .wrapping-add-u32 .ensures)) (c .enqueued2 .ensures))
 
 returns-4 : tie.Need-returns-4
 returns-4 c =

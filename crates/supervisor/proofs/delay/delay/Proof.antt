@@ -13,8 +13,8 @@ use Rattle.supervisor.proofs.delay.delay.Tie as tie
 runs-here : (c : tie.Else1) → Runs (view (c .before .before .args .s)) (c .before .running .result)
 runs-here c = runner (c .before .before .args .s) (c .before .running .result) (c .before .before .pre) (c .before .running .ensures) (c .if1 .left)
 
-ticks-here : (c : tie.After-ticks-of) → c .ticks-of .result ≡ ticks (c .before .before .before .args .d)
-ticks-here c = c .ticks-of .ensures ∙ ap ticks (toZ-ofZ (c .before .before .before .fits .d))
+ticks-here : (c : tie.After-ticks) → c .ticks .result ≡ ticks (c .before .before .before .args .d)
+ticks-here c = c .ticks .ensures ∙ ap ticks (toZ-ofZ (c .before .before .before .fits .d))
 
 returns : tie.Need-returns
 returns c =
@@ -27,7 +27,7 @@ returns-2 c =
     let e1 = k .before in
     let a = c .before .before .before .before .before .before .args in
     let t = e1 .before .running .result in
-    by-outcome (a .s) (delay-now (view (a .s)) t (e1 .before .running .ensures) (e1 .if1 .left) (a .d) (k .ticks-of .result) (ticks-here k) (c .before .before .if2 .taken))
+    by-outcome (a .s) (delay-now (view (a .s)) t (e1 .before .running .ensures) (e1 .if1 .left) (a .d) (k .ticks .result) (ticks-here k) (c .before .before .if2 .taken))
     (move-answers (a .s) _ _ _ _ _ [] (c .before .before .before .before .before .before .pre) (runs-here e1 .high) (c .answered .ensures) (c .before .moved .ensures))
 
 returns-3 : tie.Need-returns-3
@@ -36,7 +36,7 @@ returns-3 c =
     let e1 = k .before in
     let a = c .before .before .before .before .before .before .before .args in
     let t = e1 .before .running .result in
-    by-outcome (a .s) (delay-later (view (a .s)) t (e1 .before .running .ensures) (e1 .if1 .left) (a .d) (k .ticks-of .result) _ (ticks-here k) (c .before .before .before .if2 .left) (c .before .before .wrapping-add-u32 .ensures))
+    by-outcome (a .s) (delay-later (view (a .s)) t (e1 .before .running .ensures) (e1 .if1 .left) (a .d) (k .ticks .result) _ (ticks-here k) (c .before .before .before .if2 .left) (c .before .before .wrapping-add-u32 .ensures))
     (move-answers (a .s) _ _ _ _ _ [] (c .before .before .before .before .before .before .before .pre) (runs-here e1 .high) (c .answered2 .ensures) (c .before .moved2 .ensures))
 
 pub delay-spec : {M : Type 1} → statement M

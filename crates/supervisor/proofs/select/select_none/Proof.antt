@@ -17,18 +17,18 @@ returns c =
     rw (c .before .before .enum-told .given .1, z) (stay-answers (c .before .before .before .before .args .s) _ [] (c .before .before .before .before .pre .0) (c .answered .ensures))
 
 -- the ticks of the duration
-ticks-here : (c : tie.After-ticks-of) → c .ticks-of .result ≡ ticks (c .before .before .m .given .0 .0)
+ticks-here : (c : tie.After-ticks) → c .ticks .result ≡ ticks (c .before .before .m .given .0 .0)
 ticks-here c =
     let k = c .before .before .m .given in
     let z : toZ w32 (ofZ w32 (k .0 .0)) ≡ k .0 .0 = search needs in
-    c .ticks-of .ensures ∙ ap ticks z
+    c .ticks .ensures ∙ ap ticks z
 
 returns-2 : tie.Need-returns-2
 returns-2 c =
     let n = c .before .before in
     let a = c .before .before .before .before .before .before .args in
     let k = c .before .before .before .before .m .given in
-    rw (k .1) (by-outcome (a .s) (select-now (view (a .s)) (a .t) (a .o) (k .0 .0) (n .ticks-of .result) (ticks-here n) (c .before .if2 .taken)) (stay-answers (a .s) _ [] (c .before .before .before .before .before .before .pre .0) (c .answered3 .ensures)))
+    rw (k .1) (by-outcome (a .s) (select-now (view (a .s)) (a .t) (a .o) (k .0 .0) (n .ticks .result) (ticks-here n) (c .before .if2 .taken)) (stay-answers (a .s) _ [] (c .before .before .before .before .before .before .pre .0) (c .answered3 .ensures)))
 
 returns-3 : tie.Need-returns-3
 returns-3 c =
@@ -40,7 +40,7 @@ returns-4 c =
     let n = c .before .before .before .before in
     let a = c .before .before .before .before .before .before .before .before .args in
     let k = c .before .before .before .before .before .before .m .given in
-    rw (k .1) (by-outcome (a .s) (select-later (view (a .s)) (a .t) (a .o) (k .0 .0) (n .ticks-of .result) (ticks-here n) _ (c .before .before .before .if2 .left) (c .before .before .wrapping-add-u32 .ensures))
+    rw (k .1) (by-outcome (a .s) (select-later (view (a .s)) (a .t) (a .o) (k .0 .0) (n .ticks .result) (ticks-here n) _ (c .before .before .before .if2 .left) (c .before .before .wrapping-add-u32 .ensures))
     (move-answers (a .s) _ _ _ _ _ [] (c .before .before .before .before .before .before .before .before .pre .0) (c .before .before .before .before .before .before .before .before .pre .1) (c .answered4 .ensures) (c .before .moved2 .ensures)))
 
 returns-5 : tie.Need-returns-5
