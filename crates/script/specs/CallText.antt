@@ -28,7 +28,7 @@ entry isOpen mark digit = cond isOpen (mark ∷ digit ∷ []) []
 
 -- the open entries in order, one for each of n bits: `digit` is that of the lowest bit, `mark` stands in front of the first, a comma in front of
 -- each other
-abbrev pub entries : ℕ → ℕ → ℕ → ℕ → List ℕ
+unfoldable pub entries : ℕ → ℕ → ℕ → ℕ → List ℕ
 entries zero digit mark set = []
 entries (suc n) digit mark set =
     entry (eqb (set % 2) 1) mark digit ++ entries n (digit + 1) (cond (eqb (set % 2) 1) 44 mark) (set / 2)

@@ -41,7 +41,7 @@ heardOf s b =
     then record { letters = s .letters; minus = s .minus; fourth = s .third; third = s .second; second = s .last; last = fresh }
     else record {
       letters = addedOf (s .letters) b;
-      minus = s .minus || eqb b 45;
+      minus = eqb b 45 || s .minus;
       fourth = s .fourth;
       third = s .third;
       second = s .second;
@@ -80,8 +80,10 @@ callBy letters a b c d time =
     else if eqb letters 299 then Tick
     else Advance (d .number % 4294967296)
 
+-- the call that what is seen looks like
+abbrev pub guessBy : Seen → C.Call
+guessBy s = callBy (s .letters) (s .fourth) (s .third) (s .second) (s .last) (timeOf (s .minus) (s .last .number))
+
 -- the call that words look like
 unfoldable pub guessOf : List ℕ → C.Call
-guessOf words =
-    let s : Seen = hear unseen words in
-    callBy (s .letters) (s .fourth) (s .third) (s .second) (s .last) (timeOf (s .minus) (s .last .number))
+guessOf words = guessBy (hear unseen words)

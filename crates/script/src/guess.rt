@@ -8,7 +8,7 @@ use calls::CallMode;
 use calls::SelectMode;
 
 // The bit of an entry's digit in an open set.
-const BITS: [u64; 16] = [0, 1, 2, 4, 8, 16, 32, 64, 128, 0, 0, 0, 0, 0, 0, 0];
+const BITS: [u8; 16] = [0, 1, 2, 4, 8, 16, 32, 64, 128, 0, 0, 0, 0, 0, 0, 0];
 
 // What a word is by its digits: a number, and an open set.
 pub struct Word {
@@ -26,7 +26,7 @@ pub struct Seen {
     pub last: Word,
 }
 
-fn bit_of(d: u8) -> u64
+fn bit_of(d: u8) -> u8
     ensures { λ r. ⌜ r ≡ bitOf (d % 16) ⌝ }
 {
     let i = (d % 16) as usize;
@@ -40,7 +40,7 @@ fn grown(w: Word, b: u8) -> Word
     if (48 <= b) & (b <= 57) {
         Word {
             number: w.number % 4294967296 * 10 + (b % 16) as u64,
-            set: w.set % 65536 + bit_of(b),
+            set: w.set % 65536 + bit_of(b) as u64,
         }
     } else {
         w
@@ -76,7 +76,7 @@ fn heard(s: Seen, b: u8) -> Seen
         let more = grown(last, b);
         Seen {
             letters: added(s.letters, b),
-            minus: s.minus | (b == 45),
+            minus: (b == 45) | s.minus,
             fourth,
             third,
             second,

@@ -1,3 +1,4 @@
+use borrow.Author.Tests.{lt-ltb, le-ltb}
 use borrow.Author.Needs.{needs}
 use Rattle.script.proofs.guess.added.Statement.{statement}
 use Rattle.script.proofs.guess.added.Tie as tie
@@ -10,11 +11,11 @@ add-result c = search needs
 
 -- src/guess.rt:51:1
 returns : tie.Need-returns
-returns c = ?
+returns c = rw (lt-ltb 64 (c .before .args .b) (c .if1 .taken))
 
 -- src/guess.rt:51:1
 returns-2 : tie.Need-returns-2
-returns-2 c = ?
+returns-2 c = rw (le-ltb 64 (c .before .args .b) (c .if1 .left))
 
 pub added-spec : {M : Type 1} → statement M
 added-spec = tie.close (tie.spec add-result returns returns-2)

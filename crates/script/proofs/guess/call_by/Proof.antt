@@ -1,3 +1,5 @@
+use borrow.Author.Tests.{ne-eqb}
+use mir.Facts.{toZ-ofZ}
 use borrow.Author.Needs.{needs}
 use Rattle.script.proofs.guess.call_by.Statement.{statement}
 use Rattle.script.proofs.guess.call_by.Tie as tie
@@ -67,63 +69,79 @@ cast-t32 c = search needs
 
 -- src/guess.rt:134:1
 returns : tie.Need-returns
-returns c = ?
+returns c = rw (c .before .before .match .keys1, c .before .low .ensures, c .low2 .ensures)
 
 -- src/guess.rt:134:1
 returns-2 : tie.Need-returns-2
-returns-2 c = ?
+returns-2 c = rw (c .match .keys2, toZ-ofZ (c .before .fits .time))
 
 -- src/guess.rt:134:1
 returns-3 : tie.Need-returns-3
-returns-3 c = ?
+returns-3 c = rw (c .before .before .match .keys3, c .before .low3 .ensures, c .low4 .ensures)
 
 -- src/guess.rt:134:1
 returns-4 : tie.Need-returns-4
-returns-4 c = ?
+returns-4 c = rw (c .before .before .match .keys4, c .before .low5 .ensures, c .low6 .ensures, toZ-ofZ (c .before .before .before .fits .time))
 
 -- src/guess.rt:134:1
 returns-5 : tie.Need-returns-5
-returns-5 c = ?
+returns-5 c = rw (c .before .before .match .keys5, c .before .low7 .ensures, c .low8 .ensures)
 
 -- src/guess.rt:134:1
 returns-6 : tie.Need-returns-6
-returns-6 c = ?
+returns-6 c = rw (c .before .match .keys6, c .low9 .ensures)
 
 -- src/guess.rt:134:1
 returns-7 : tie.Need-returns-7
-returns-7 c = ?
+returns-7 c = rw (c .before .match .keys7, c .low10 .ensures)
 
 -- src/guess.rt:134:1
 returns-8 : tie.Need-returns-8
-returns-8 c = ?
+returns-8 c = rw (c .before .match .keys8, c .low11 .ensures, toZ-ofZ (c .before .before .fits .time))
 
 -- src/guess.rt:134:1
 returns-9 : tie.Need-returns-9
-returns-9 c = ?
+returns-9 c = rw (c .before .match .keys9, c .low12 .ensures, toZ-ofZ (c .before .before .fits .time))
 
 -- src/guess.rt:134:1
 returns-10 : tie.Need-returns-10
-returns-10 c = ?
+returns-10 c = rw (c .before .match .keys10, c .low13 .ensures)
 
 -- src/guess.rt:134:1
 returns-11 : tie.Need-returns-11
-returns-11 c = ?
+returns-11 c = rw (c .before .match .keys11, c .low14 .ensures)
 
 -- src/guess.rt:134:1
 returns-12 : tie.Need-returns-12
-returns-12 c = ?
+returns-12 c = rw (c .match .keys12)
 
 -- src/guess.rt:134:1
 returns-13 : tie.Need-returns-13
-returns-13 c = ?
+returns-13 c = rw (c .match .keys13)
 
 -- src/guess.rt:134:1
 returns-14 : tie.Need-returns-14
-returns-14 c = ?
+returns-14 c = rw (c .match .keys14)
 
 -- src/guess.rt:134:1
 returns-15 : tie.Need-returns-15
-returns-15 c = ?
+returns-15 c = let n = c .before .match .rest in
+    simp (
+      ne-eqb _ _ (n .1),
+      ne-eqb _ _ (n .0 .1),
+      ne-eqb _ _ (n .0 .0 .1),
+      ne-eqb _ _ (n .0 .0 .0 .1),
+      ne-eqb _ _ (n .0 .0 .0 .0 .1),
+      ne-eqb _ _ (n .0 .0 .0 .0 .0 .1),
+      ne-eqb _ _ (n .0 .0 .0 .0 .0 .0 .1),
+      ne-eqb _ _ (n .0 .0 .0 .0 .0 .0 .0 .1),
+      ne-eqb _ _ (n .0 .0 .0 .0 .0 .0 .0 .0 .1),
+      ne-eqb _ _ (n .0 .0 .0 .0 .0 .0 .0 .0 .0 .1),
+      ne-eqb _ _ (n .0 .0 .0 .0 .0 .0 .0 .0 .0 .0 .1),
+      ne-eqb _ _ (n .0 .0 .0 .0 .0 .0 .0 .0 .0 .0 .0 .1),
+      ne-eqb _ _ (n .0 .0 .0 .0 .0 .0 .0 .0 .0 .0 .0 .0 .1),
+      ne-eqb _ _ (n .0 .0 .0 .0 .0 .0 .0 .0 .0 .0 .0 .0 .0 .1),
+    )
 
 pub call-by-spec : {M : Type 1} → statement M
 call-by-spec =

@@ -1,3 +1,4 @@
+use borrow.Author.Tests.{eq-eqb, ne-eqb}
 use borrow.Author.Needs.{needs}
 use Rattle.script.proofs.guess.heard.Statement.{statement}
 use Rattle.script.proofs.guess.heard.Tie as tie
@@ -16,11 +17,11 @@ added-requires c κs = search needs
 
 -- src/guess.rt:58:1
 returns : tie.Need-returns
-returns c = ?
+returns c = rw (eq-eqb (c .before .before .before .before .before .args .b) 32 (c .if1 .taken))
 
 -- src/guess.rt:58:1
 returns-2 : tie.Need-returns-2
-returns-2 c = ?
+returns-2 c = rw (ne-eqb (c .before .before .before .before .before .before .before .before .args .b) 32 (c .before .before .before .if1 .left), c .before .before .grown .ensures, c .before .added .ensures)
 
 pub heard-spec : {M : Type 1} → statement M
 heard-spec = tie.close (tie.spec grown-requires added-requires returns returns-2)

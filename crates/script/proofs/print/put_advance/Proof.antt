@@ -1,3 +1,5 @@
+use Rattle.script.specs.CallText.{textOf}
+use Rattle.text.proofs.Puts.{then-put}
 use borrow.Author.Needs.{needs}
 use Rattle.script.proofs.print.put_advance.Statement.{statement}
 use Rattle.script.proofs.print.put_advance.Tie as tie
@@ -24,7 +26,8 @@ same-length c = search needs
 
 -- src/print.rt:143:1
 returns : tie.Need-returns
-returns c = ?
+unfolding textOf
+returns c = then-put (c .before .before .before .before .before .before .put-bytes .ensures) (c .before .before .put-spaced .ensures)
 
 pub put-advance-spec : {M : Type 1} → statement M
 put-advance-spec =

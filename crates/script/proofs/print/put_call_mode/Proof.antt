@@ -1,3 +1,8 @@
+use Rattle.script.specs.CallText.{callModeText}
+use Rattle.text.proofs.Puts.{then-put, put-none}
+use mir.Val.{toZ, ofZ}
+use mir.Syntax.{w32}
+use mathlib.Core.Path.{_≡_}
 use borrow.Author.Needs.{needs}
 use Rattle.script.proofs.print.put_call_mode.Statement.{statement}
 use Rattle.script.proofs.print.put_call_mode.Tie as tie
@@ -45,7 +50,8 @@ put-bytes-requires-2 c κs = search needs
 
 -- src/print.rt:84:1
 returns : tie.Need-returns
-returns c = ?
+unfolding callModeText
+returns c = rw (c .before .enum-told .given .1) (put-none (c .least .ensures))
 
 -- src/print.rt:84:1
 same-length : tie.Need-same-length
@@ -53,7 +59,10 @@ same-length c = search needs
 
 -- src/print.rt:84:1
 returns-2 : tie.Need-returns-2
-returns-2 c = ?
+unfolding callModeText
+returns-2 c = let k = c .before .before .before .before .before .before .before .before .before .before .mode .given in
+    let e : toZ w32 (ofZ w32 (k .0 .0)) ≡ k .0 .0 = search needs in
+    rw (k .1) (then-put (c .before .before .before .before .before .before .put-bytes .ensures) (rw e at (c .before .before .put-time .ensures)))
 
 -- src/print.rt:84:1
 same-length-2 : tie.Need-same-length-2
@@ -61,7 +70,8 @@ same-length-2 c = search needs
 
 -- src/print.rt:84:1
 returns-3 : tie.Need-returns-3
-returns-3 c = ?
+unfolding callModeText
+returns-3 c = rw (c .before .before .before .before .before .enum-told2 .given .1) (c .before .before .put-bytes2 .ensures)
 
 pub put-call-mode-spec : {M : Type 1} → statement M
 put-call-mode-spec =

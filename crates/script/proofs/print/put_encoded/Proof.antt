@@ -1,3 +1,5 @@
+use Rattle.script.proofs.Reading.{record-taken}
+use Rattle.text.proofs.Puts.{same-text}
 use borrow.Author.Needs.{needs}
 use Rattle.script.proofs.print.put_encoded.Statement.{statement}
 use Rattle.script.proofs.print.put_encoded.Tie as tie
@@ -41,7 +43,7 @@ same-length c = search needs
 
 -- src/print.rt:171:1
 returns : tie.Need-returns
-returns c = ?
+returns c = same-text (record-taken (c .before .before .before .before .before .before .before .before .before .before .before .args .c) _ (c .before .before .before .before .before .before .before .before .write-record .last .1 .0) (c .before .before .before .before .before .before .before .before .write-record .result) (c .before .before .before .before .before .before .least .result) ? (c .before .before .before .before .before .before .before .before .write-record .ensures .0) (c .before .before .before .before .before .before .before .before .write-record .ensures .1) (c .before .before .before .before .before .before .least .ensures)) (c .before .before .put-bytes .ensures)
 
 pub put-encoded-spec : {M : Type 1} → statement M
 put-encoded-spec =

@@ -1,3 +1,5 @@
+use mathlib.Core.Path.{refl}
+use Rattle.text.proofs.Puts.{put-none, same-text}
 use borrow.Author.Needs.{needs}
 use Rattle.script.proofs.print.put_entry.Statement.{statement}
 use Rattle.script.proofs.print.put_entry.Tie as tie
@@ -20,7 +22,7 @@ same-length c = search needs
 
 -- src/print.rt:43:9
 returns : tie.Need-returns
-returns c = ?
+returns c = rw (c .before .before .before .before .before .if1 .taken) (c .before .before .put-bytes .ensures)
 
 -- src/print.rt:45:5
 least-requires : tie.Need-least-requires
@@ -28,7 +30,7 @@ least-requires c κs = search needs
 
 -- src/print.rt:39:1
 returns-2 : tie.Need-returns-2
-returns-2 c = ?
+returns-2 c = rw (c .before .if1 .left) (put-none (c .least .ensures))
 
 pub put-entry-spec : {M : Type 1} → statement M
 put-entry-spec =

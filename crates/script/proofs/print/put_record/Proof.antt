@@ -1,3 +1,4 @@
+use Rattle.text.proofs.Puts.{put-none}
 use borrow.Author.Needs.{needs}
 use Rattle.script.proofs.print.put_record.Statement.{statement}
 use Rattle.script.proofs.print.put_record.Tie as tie
@@ -32,7 +33,7 @@ least-requires-2 c κs = search needs
 
 -- src/print.rt:181:1
 returns : tie.Need-returns
-returns c = ?
+returns c = rw (c .before .enum-told .given .1) (put-none (c .least .ensures))
 
 -- src/print.rt:181:1
 same-length : tie.Need-same-length
@@ -40,11 +41,11 @@ same-length c = search needs
 
 -- src/print.rt:181:1
 returns-2 : tie.Need-returns-2
-returns-2 c = ?
+returns-2 c = rw (c .before .before .before .before .before .line .given .1) (c .before .before .put-encoded .ensures)
 
 -- src/print.rt:181:1
 returns-3 : tie.Need-returns-3
-returns-3 c = ?
+returns-3 c = rw (c .before .enum-told2 .given .1) (put-none (c .least2 .ensures))
 
 pub put-record-spec : {M : Type 1} → statement M
 put-record-spec =

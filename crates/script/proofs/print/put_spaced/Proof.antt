@@ -1,3 +1,5 @@
+use Rattle.script.specs.CallText.{spaced}
+use Rattle.text.proofs.Puts.{then-put}
 use borrow.Author.Needs.{needs}
 use Rattle.script.proofs.print.put_spaced.Statement.{statement}
 use Rattle.script.proofs.print.put_spaced.Tie as tie
@@ -20,7 +22,8 @@ same-length c = search needs
 
 -- src/print.rt:20:1
 returns : tie.Need-returns
-returns c = ?
+unfolding spaced
+returns c = then-put (c .before .before .before .before .before .before .put-byte .ensures) (c .before .before .put-number .ensures)
 
 pub put-spaced-spec : {M : Type 1} → statement M
 put-spaced-spec = tie.close (tie.spec put-byte-requires put-number-requires same-length returns)

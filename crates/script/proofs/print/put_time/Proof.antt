@@ -1,3 +1,6 @@
+use Rattle.script.proofs.Times.{text-below, text-above}
+use mir.Facts.{toZ-ofZ}
+use Rattle.text.proofs.Puts.{then-put, same-text}
 use borrow.Author.Needs.{needs}
 use Rattle.script.proofs.print.put_time.Statement.{statement}
 use Rattle.script.proofs.print.put_time.Tie as tie
@@ -38,7 +41,7 @@ same-length c = search needs
 
 -- src/print.rt:33:9
 returns : tie.Need-returns
-returns c = ?
+returns c = same-text (text-below (c .before .before .before .before .before .before .before .before .before .before .before .before .args .d) (c .before .before .before .before .ticks .result) (c .before .before .before .before .before .before .before .before .before .before .before .before .fits .d) (rw (toZ-ofZ (c .before .before .before .before .before .before .before .before .before .before .before .before .fits .d)) at (c .before .before .before .before .before .before .before .before .before .before .if1 .taken)) (c .before .before .before .before .ticks .ensures)) (then-put (c .before .before .before .before .before .before .before .put-bytes .ensures) (c .before .before .put-number .ensures))
 
 -- src/print.rt:35:16
 ticks-requires-2 : tie.Need-ticks-requires-2
@@ -58,7 +61,7 @@ same-length-2 c = search needs
 
 -- src/print.rt:28:1
 returns-2 : tie.Need-returns-2
-returns-2 c = ?
+returns-2 c = let s = toZ-ofZ (c .before .before .before .before .before .before .before .fits .d) in same-text (text-above (c .before .before .before .before .before .before .before .args .d) (c .before .before .before .before .ticks2 .result) (c .before .before .before .before .before .before .before .fits .d) (rw s at (c .before .before .before .before .before .if1 .left)) (rw s at (c .before .before .before .before .ticks2 .ensures))) (c .before .before .put-spaced .ensures)
 
 pub put-time-spec : {M : Type 1} → statement M
 put-time-spec =

@@ -1,3 +1,5 @@
+use borrow.Author.Tests.{le-leb, lt-leb}
+use Rattle.text.proofs.Puts.{put-none}
 use borrow.Author.Needs.{needs}
 use Rattle.script.proofs.reader.put_part.Statement.{statement}
 use Rattle.script.proofs.reader.put_part.Tie as tie
@@ -13,7 +15,7 @@ least-requires c κs = search needs
 
 -- src/reader.rt:18:9
 returns : tie.Need-returns
-returns c = ?
+returns c = rw (le-leb (c .before .before .before .args .b) 32 (c .before .if1 .taken)) (put-none (c .least .ensures))
 
 -- src/reader.rt:21:9
 put-byte-requires : tie.Need-put-byte-requires
@@ -25,7 +27,7 @@ same-length c = search needs
 
 -- src/reader.rt:21:9
 returns-2 : tie.Need-returns-2
-returns-2 c = ?
+returns-2 c = rw (lt-leb (c .before .before .before .before .before .before .before .args .b) 32 (c .before .before .before .before .before .if1 .left), c .before .before .before .before .if2 .taken) (c .before .before .put-byte .ensures)
 
 -- src/reader.rt:23:15
 slice-aggregate-put-bytes : tie.Need-slice-aggregate-put-bytes
@@ -41,7 +43,7 @@ same-length-2 c = search needs
 
 -- src/reader.rt:14:1
 returns-3 : tie.Need-returns-3
-returns-3 c = ?
+returns-3 c = rw (lt-leb (c .before .before .before .before .before .before .before .before .args .b) 32 (c .before .before .before .before .before .before .if1 .left), c .before .before .before .before .before .if2 .left) (c .before .before .put-bytes .ensures)
 
 pub put-part-spec : {M : Type 1} → statement M
 put-part-spec =
