@@ -42,13 +42,13 @@ encode-short (Advance n) = omega arith
 
 -- what is taken of ten bytes that a record was written into is the record
 pub record-taken : (c : C.Call) (room after : List ℕ) (w : Written) (n : ℕ) → length room ≡ 10 → w ≡ writtenOf (encode c) room
-    → after ≡ roomAfter (encode c) room → n ≡ min (w .count) 10 → take n after ≡ encode c
+    → after ≡ roomAfter (encode c) room → n ≡ min (w .count) 10 → take (n - 0) after ≡ encode c
 record-taken c room after w n h p q m =
     let s = encode-short c in
     let f = le-ltb (length room) (length (encode c)) (omega arith) in
     let p′ : w .count ≡ length (encode c) = ap (λ (w : Written). w .count) p ∙ rw f refl in
-    let k : length (encode c) ≡ n = omega arith in
-    ap (take n) (q ∙ rw f refl) ∙ take-at (encode c) (drop (length (encode c)) room) n k
+    let k : length (encode c) ≡ n - 0 = omega arith in
+    ap (take (n - 0)) (q ∙ rw f refl) ∙ take-at (encode c) (drop (length (encode c)) room) (n - 0) k
 
 -- ── the guess ──
 
@@ -71,10 +71,10 @@ front-taken [] text h = over-taken [] text h
 front-taken (x ∷ row) text h = over-taken (x ∷ row) text h
 
 -- what was put at the front of a room, and did not fill it
-pub all-taken : (row text after : List ℕ) (n : ℕ) → Put row 0 text after n → n < length row → take n after ≡ text
+pub all-taken : (row text after : List ℕ) (n : ℕ) → Put row 0 text after n → n < length row → take (n - 0) after ≡ text
 all-taken row text after n p h =
-    let k : length text ≡ n = omega (arith, p .placed) in
-    ap (take n) (p .written) ∙ subst (λ (n : ℕ). take n (putAt row 0 text) ≡ text) k (front-taken row text (omega (arith, p .placed)))
+    let k : length text ≡ n - 0 = omega (arith, p .placed) in
+    ap (take (n - 0)) (p .written) ∙ subst (λ (n : ℕ). take n (putAt row 0 text) ≡ text) k (front-taken row text (omega (arith, p .placed)))
 
 -- what was put behind the first byte of a room, with that byte
 pub behind-taken : (x : ℕ) (row text after : List ℕ) (n : ℕ) → Put (x ∷ row) 1 text after n → length text ≤ length row → take n after ≡ x ∷ text
@@ -101,11 +101,12 @@ empty [] h = refl
 empty (x ∷ l) h = absurd (omega arith)
 
 -- the guess's text behind a blank is what was printed
-pub printed : (words : List ℕ) (c : C.Call) (row after : List ℕ) (n : ℕ) → c ≡ guessOf words → 62 ≤ length row → Put (32 ∷ row) 1 (textOf c) after n
-    → take n after ≡ 32 ∷ textOf c
-printed words c row after n e h p =
+pub printed : (words : List ℕ) (c : C.Call) (row after : List ℕ) (n m : ℕ) → c ≡ guessOf words → length row ≡ 63 → Put (32 ∷ row) 1 (textOf c) after n
+    → m ≡ min n 64 → take (m - 0) after ≡ 32 ∷ textOf c
+printed words c row after n m e h p l =
     let s = text-short c (subst Fits (sym e) (guess-fits words)) in
-    behind-taken 32 row (textOf c) after n p (omega arith)
+    let z : m - 0 ≡ n = omega (arith, p .placed) in
+    rw z (behind-taken 32 row (textOf c) after n p (omega arith))
 
 -- the print is what the words are
 pub said : (words text : List ℕ) (c : C.Call) → c ≡ guessOf words → text ≡ 32 ∷ textOf c → alike words text ≡ true → Says words (L.Says c)
@@ -114,12 +115,13 @@ said words text c g p e = (subst Fits (sym g) (guess-fits words), alike-same wor
 -- the print is not what the words are, so no call's text is
 pub unsaid : (words text : List ℕ) (c : C.Call) → c ≡ guessOf words → text ≡ 32 ∷ textOf c → alike words text ≡ false → (length words ≡ 0 → ⊥)
     → Says words L.Unread
-unsaid words text c g p e n =
-    (λ z. n (ap length z),
-    λ d f z.
-    let same : c ≡ d = g ∙ ap guessOf z ∙ guess-back d f in
-    let t : text ≡ words = p ∙ ap (λ (c : C.Call). 32 ∷ textOf c) same ∙ sym z in
-    false≢true (sym e ∙ ap (alike words) t ∙ alike-self words))
+unsaid words text c g p e n = (
+  λ z. n (ap length z),
+  λ d f z.
+      let same : c ≡ d = g ∙ ap guessOf z ∙ guess-back d f in
+      let t : text ≡ words = p ∙ ap (λ (c : C.Call). 32 ∷ textOf c) same ∙ sym z in
+      false≢true (sym e ∙ ap (alike words) t ∙ alike-self words),
+)
 
 -- words that fill the room are too long for a call
 pub too-long : (words row after : List ℕ) (n : ℕ) → Put row 0 words after n → 64 ≤ n → Says words L.Unread

@@ -46,12 +46,14 @@ listed-plain : (l : List ℕ) → every listed l ≡ true → AllPlain l
 listed-plain [] e = tt
 listed-plain (b ∷ l) e =
     let h = and-first (listed b) (every listed l) e in
-    let g = and-second (leb 44 b) (leb b 57 && not (eqb b 45)) h in
-    (record {
-      low = leb-true 44 b (and-first (leb 44 b) (leb b 57 && not (eqb b 45)) h);
-      high = leb-true b 57 (and-first (leb b 57) (not (eqb b 45)) g);
-      no-minus = eqb-false b 45 (not-true (eqb b 45) (and-second (leb b 57) (not (eqb b 45)) g));
-    }, listed-plain l (and-second (listed b) (every listed l) e))
+    let g = and-second (leb 44 b) (leb b 57 && not (eqb b 45)) h in (
+      record {
+        low = leb-true 44 b (and-first (leb 44 b) (leb b 57 && not (eqb b 45)) h);
+        high = leb-true b 57 (and-first (leb b 57) (not (eqb b 45)) g);
+        no-minus = eqb-false b 45 (not-true (eqb b 45) (and-second (leb b 57) (not (eqb b 45)) g));
+      },
+      listed-plain l (and-second (listed b) (every listed l) e),
+    )
 
 split : (l : List ℕ) → first l ≡ 32 → l ≡ 32 ∷ tail l
 split [] e = let z : _≡_ {A = ℕ} 0 32 = e in absurd (omega arith)

@@ -2,20 +2,12 @@ use borrow.Author.Tests.{lt-ltb, le-ltb}
 use borrow.Author.Needs.{needs}
 use Rattle.script.proofs.guess.added.Statement.{statement}
 use Rattle.script.proofs.guess.added.Tie as tie
-use Rattle.script.proofs.guess.added.Reads as reads
-use Rattle.script.proofs.guess.added.Lts as lts
 
--- src/guess.rt:54:17
-add-result : tie.Need-add-result
-add-result c = search needs
-
--- src/guess.rt:51:1
 returns : tie.Need-returns
 returns c = rw (lt-ltb 64 (c .before .args .b) (c .if1 .taken))
 
--- src/guess.rt:51:1
 returns-2 : tie.Need-returns-2
 returns-2 c = rw (le-ltb 64 (c .before .args .b) (c .if1 .left))
 
 pub added-spec : {M : Type 1} → statement M
-added-spec = tie.close (tie.spec add-result returns returns-2)
+added-spec = tie.close (tie.spec (λ c. search needs) returns returns-2)

@@ -3,32 +3,7 @@ use Rattle.text.proofs.Puts.{then-put}
 use borrow.Author.Needs.{needs}
 use Rattle.script.proofs.print.put_create.Statement.{statement}
 use Rattle.script.proofs.print.put_create.Tie as tie
-use Rattle.script.proofs.print.put_create.Reads as reads
-use Rattle.script.proofs.print.put_create.Lts as lts
-use Rattle.script.proofs.print.put_spaced.Reads as put-spaced-reads
-use Rattle.text.proofs.put_bytes.Reads as put-bytes-reads
 
--- src/print.rt:114:23
-slice-aggregate-put-bytes : tie.Need-slice-aggregate-put-bytes
-slice-aggregate-put-bytes c = search needs
-
--- src/print.rt:114:9
-put-bytes-requires : tie.Need-put-bytes-requires
-put-bytes-requires c κs = search needs
-
--- src/print.rt:115:9
-put-spaced-requires : tie.Need-put-spaced-requires
-put-spaced-requires c κs = search needs
-
--- src/print.rt:116:5
-put-spaced-requires-2 : tie.Need-put-spaced-requires-2
-put-spaced-requires-2 c κs = search needs
-
--- src/print.rt:111:1
-same-length : tie.Need-same-length
-same-length c = search needs
-
--- src/print.rt:111:1
 returns : tie.Need-returns
 unfolding textOf
 returns c = then-put (c .before .before .before .before .before .before .before .before .before .before .put-bytes .ensures) (then-put (c .before .before .before .before .before .before .put-spaced .ensures) (c .before .before .put-spaced2 .ensures))
@@ -37,9 +12,9 @@ pub put-create-spec : {M : Type 1} → statement M
 put-create-spec =
     tie.close
     (tie.spec
-    slice-aggregate-put-bytes
-    put-bytes-requires
-    put-spaced-requires
-    put-spaced-requires-2
-    same-length
+    (λ c. search needs)
+    (λ c κs. search needs)
+    (λ c κs. search needs)
+    (λ c κs. search needs)
+    (λ c. search needs)
     returns)

@@ -6,69 +6,17 @@ use mathlib.Core.Path.{_≡_}
 use borrow.Author.Needs.{needs}
 use Rattle.script.proofs.print.put_select_mode.Statement.{statement}
 use Rattle.script.proofs.print.put_select_mode.Tie as tie
-use Rattle.script.proofs.print.put_select_mode.Reads as reads
-use Rattle.script.proofs.print.put_select_mode.Lts as lts
-use Rattle.script.proofs.print.put_time.Reads as put-time-reads
-use Rattle.text.proofs.least.Reads as least-reads
-use Rattle.text.proofs.put_bytes.Reads as put-bytes-reads
 
--- src/print.rt:102:40
-enum-told : tie.Need-enum-told
-enum-told c = search needs
-
--- src/print.rt:102:30
-least-requires : tie.Need-least-requires
-least-requires c κs = search needs
-
--- src/print.rt:103:27
-enum-known-mode : tie.Need-enum-known-mode
-enum-known-mode c = search needs
-
--- src/print.rt:104:31
-slice-aggregate-put-bytes : tie.Need-slice-aggregate-put-bytes
-slice-aggregate-put-bytes c = search needs
-
--- src/print.rt:104:17
-put-bytes-requires : tie.Need-put-bytes-requires
-put-bytes-requires c κs = search needs
-
--- src/print.rt:105:13
-put-time-requires : tie.Need-put-time-requires
-put-time-requires c κs = search needs
-
--- src/print.rt:107:39
-enum-told-2 : tie.Need-enum-told-2
-enum-told-2 c = search needs
-
--- src/print.rt:107:39
-slice-aggregate-put-bytes-2 : tie.Need-slice-aggregate-put-bytes-2
-slice-aggregate-put-bytes-2 c = search needs
-
--- src/print.rt:107:29
-put-bytes-requires-2 : tie.Need-put-bytes-requires-2
-put-bytes-requires-2 c κs = search needs
-
--- src/print.rt:98:1
 returns : tie.Need-returns
 unfolding selectModeText
 returns c = rw (c .before .enum-told .given .1) (put-none (c .least .ensures))
 
--- src/print.rt:98:1
-same-length : tie.Need-same-length
-same-length c = search needs
-
--- src/print.rt:98:1
 returns-2 : tie.Need-returns-2
 unfolding selectModeText
 returns-2 c = let k = c .before .before .before .before .before .before .before .before .before .before .mode .given in
     let e : toZ w32 (ofZ w32 (k .0 .0)) ≡ k .0 .0 = search needs in
     rw (k .1) (then-put (c .before .before .before .before .before .before .put-bytes .ensures) (rw e at (c .before .before .put-time .ensures)))
 
--- src/print.rt:98:1
-same-length-2 : tie.Need-same-length-2
-same-length-2 c = search needs
-
--- src/print.rt:98:1
 returns-3 : tie.Need-returns-3
 unfolding selectModeText
 returns-3 c = rw (c .before .before .before .before .before .enum-told2 .given .1) (c .before .before .put-bytes2 .ensures)
@@ -77,17 +25,17 @@ pub put-select-mode-spec : {M : Type 1} → statement M
 put-select-mode-spec =
     tie.close
     (tie.spec
-    enum-told
-    least-requires
-    enum-known-mode
-    slice-aggregate-put-bytes
-    put-bytes-requires
-    put-time-requires
-    enum-told-2
-    slice-aggregate-put-bytes-2
-    put-bytes-requires-2
+    (λ c. search needs)
+    (λ c κs. search needs)
+    (λ c. search needs)
+    (λ c. search needs)
+    (λ c κs. search needs)
+    (λ c κs. search needs)
+    (λ c. search needs)
+    (λ c. search needs)
+    (λ c κs. search needs)
     returns
-    same-length
+    (λ c. search needs)
     returns-2
-    same-length-2
+    (λ c. search needs)
     returns-3)

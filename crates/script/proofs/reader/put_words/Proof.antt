@@ -6,13 +6,9 @@ use borrow.Author.Needs.{needs}
 use native.Mathlib.Omega.{arith}
 use mathlib.Core.Bool.{false}
 use lib.ListN.{length, drop, getD}
-use Prim.Native.Nat.{_+_, _-_, _≤_}
+use Prim.Native.Nat.{_-_, _≤_}
 use Rattle.script.proofs.reader.put_words.Statement.{statement}
 use Rattle.script.proofs.reader.put_words.Tie as tie
-use Rattle.script.proofs.reader.put_words.Reads as reads
-use Rattle.script.proofs.reader.put_words.Lts as lts
-use Rattle.script.proofs.reader.put_part.Reads as put-part-reads
-use Rattle.text.proofs.least.Reads as least-reads
 
 abbrev Inv-loop : tie.InvT-loop
 Inv-loop line out₀ at place₀ inside₀ i₀ out place inside i = (i ≤ length line) × Putting out₀ at (wordsFrom false line) out place (wordsFrom inside (drop i line))
@@ -20,50 +16,33 @@ Inv-loop line out₀ at place₀ inside₀ i₀ out place inside i = (i ≤ leng
 abbrev μ-loop : tie.MeasureT-loop
 μ-loop line out₀ at place₀ inside₀ i₀ out place inside i = length line - i
 
--- src/reader.rt:30:9
-least-requires : tie.Need-least-requires Inv-loop μ-loop
-least-requires c κs = search needs
-
--- src/reader.rt:33:5
 loop-holds : tie.Need-loop-holds Inv-loop μ-loop
 loop-holds c = (omega arith, putting-start (c .before .before .before .args .out .now) (c .before .before .before .args .at) (wordsFrom false (c .before .before .before .args .line .now)) (c .least .ensures))
 
--- src/reader.rt:34:17
 shared-slice-read-b : tie.Need-shared-slice-read-b Inv-loop μ-loop
 shared-slice-read-b c = omega arith
 
--- src/reader.rt:36:13
 same-length : tie.Need-same-length Inv-loop μ-loop
 same-length c = c .before .before .before .loop .inv .1 .long
 
--- src/reader.rt:36:13
 returns : tie.Need-returns Inv-loop μ-loop
 unfolding wordsOf
 returns c = let l = c .before .before .before .loop in putting-done (toward (comment (c .before .before .before .before .before .before .before .args .line .now) (l .inside) (l .i) (omega arith) (c .if1 .taken)) (l .inv .1))
 
--- src/reader.rt:38:9
-put-part-requires : tie.Need-put-part-requires Inv-loop μ-loop
-put-part-requires c κs = search needs
-
--- src/reader.rt:40:9
 add-i : tie.Need-add-i Inv-loop μ-loop
 add-i c = omega arith
 
--- src/reader.rt:33:5
 loop-less : tie.Need-loop-less Inv-loop μ-loop
 loop-less c = omega arith
 
--- src/reader.rt:33:5
 loop-again : tie.Need-loop-again Inv-loop μ-loop
 loop-again c = let l = c .before .before .before .before .before .before .before .loop in
     let w = c .before .before .before .before .before .before .before .before .before .before .before .args .line .now in
     (omega arith, putting-on {a = partOf (l .inside) (getD w (l .i) 0)} (toward (next-part w (l .inside) (l .i) (omega arith) (c .before .before .before .before .if1 .left)) (l .inv .1)) (c .before .before .put-part .ensures))
 
--- src/reader.rt:27:1
 same-length-2 : tie.Need-same-length-2 Inv-loop μ-loop
 same-length-2 c = c .before .loop .inv .1 .long
 
--- src/reader.rt:27:1
 returns-2 : tie.Need-returns-2 Inv-loop μ-loop
 unfolding wordsOf
 returns-2 c = let l = c .before .loop in putting-done (toward (no-part (c .before .before .before .before .before .args .line .now) (l .inside) (l .i) (omega arith)) (l .inv .1))
@@ -74,12 +53,12 @@ put-words-spec =
     (tie.spec
     Inv-loop
     μ-loop
-    least-requires
+    (λ c κs. search needs)
     loop-holds
     shared-slice-read-b
     same-length
     returns
-    put-part-requires
+    (λ c κs. search needs)
     add-i
     loop-less
     loop-again
