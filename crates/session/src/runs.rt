@@ -1,23 +1,18 @@
-// Whole logs, from standard input to standard output. Input and output are buffered: what is printed is written once the
-// buffer is nearly full, and before more input is waited for. Nothing says that the input ends and a proved loop has to:
-// turns are counted down from a number that no run uses up.
+// Whole logs, from standard input to standard output.
 ghost use Prim.Native.Nat.{_≤_};
 use super::turns::Next;
 use super::turns::Session;
 use super::turns::Turned;
 use super::turns::turn;
-use super::window::Window;
-use super::window::headed;
-use super::window::refilled;
-use super::window::unread;
 use calls::word;
-use libc::STDOUT_FILENO;
 use report::put_header;
+use stream::output::drained;
+use stream::output::flushed;
+use stream::window::Window;
+use stream::window::headed;
+use stream::window::refilled;
+use stream::window::unread;
 use text::least;
-
-// Room for a header and the longest line, so that none is cut off: the header has 44 bytes, and a line with 20 digits of the
-// step's number, six numbers and 255 ended waits of three digits each 4635.
-const SPARE: usize = 8192;
 
 // The bytes of a log that goes on to the end of the input.
 const ENDLESS: u64 = u64::MAX;
@@ -31,33 +26,6 @@ pub struct Run {
     pub waits: usize,
     pub goes: bool,
     pub writes: bool,
-}
-
-// How much output waits, and whether what does not could be written.
-pub struct Output {
-    pub waits: usize,
-    pub writes: bool,
-}
-
-// Writes all that waits.
-fn flushed(out: &[u8], waits: usize) -> Output {
-    let n = least(waits, out.len());
-    Output {
-        waits: 0,
-        writes: io::write_all(STDOUT_FILENO, &out[0..n]),
-    }
-}
-
-// Writes all that waits where there is little room behind it.
-fn drained(out: &[u8], waits: usize) -> Output {
-    let n = least(waits, out.len());
-    if out.len() - n < SPARE {
-        return flushed(out, n);
-    }
-    Output {
-        waits: n,
-        writes: true,
-    }
 }
 
 // The smaller of a number of bytes and what the log still has.

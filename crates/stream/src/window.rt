@@ -1,7 +1,9 @@
 // The window on the input: what has been read of it and not yet been taken stands in a buffer.
 // A window that reaches outside its buffer is cut to it, so each function takes every input.
 ghost use Prim.Native.Nat.{_≤_};
+ghost use mathlib.Core.Path.{_≡_};
 ghost use lib.ListN.{length};
+ghost use Rattle.stream.specs.Windows.{noWindow};
 use libc::STDIN_FILENO;
 use text::least;
 
@@ -13,7 +15,9 @@ pub struct Window {
 }
 
 // A window on nothing yet.
-pub fn unread() -> Window {
+pub fn unread() -> Window
+    ensures { λ r. ⌜ r ≡ noWindow ⌝ }
+{
     Window {
         at: 0,
         end: 0,

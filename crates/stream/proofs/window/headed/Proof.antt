@@ -2,8 +2,8 @@ use Prim.Native.Nat.{_-_, _≤_}
 use mathlib.Core.Path.{_≡_}
 use lib.ListN.{length}
 use borrow.Author.Needs.{needs}
-use Rattle.session.proofs.window.headed.Statement.{statement}
-use Rattle.session.proofs.window.headed.Tie as tie
+use Rattle.stream.proofs.window.headed.Statement.{statement}
+use Rattle.stream.proofs.window.headed.Tie as tie
 
 abbrev Inv-loop : tie.InvT-loop
 Inv-loop buf₀ n₀ i₀ buf n i = (length buf ≡ length buf₀) × (i ≤ 8)

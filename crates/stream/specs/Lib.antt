@@ -1,0 +1,2 @@
+-- The window on the input.
+pub mod Windows

@@ -1,0 +1,34 @@
+// What is printed is gathered in a buffer, and written once that is nearly full or before more input is waited for.
+use libc::STDOUT_FILENO;
+use text::least;
+
+// Room for a header and the longest line, so that none is cut off: the header of stepper has 44 bytes, and a line with 20 digits of the
+// step's number, six numbers and 255 ended waits of three digits each 4635.
+const SPARE: usize = 8192;
+
+// How much output waits, and whether what does not could be written.
+pub struct Output {
+    pub waits: usize,
+    pub writes: bool,
+}
+
+// Writes all that waits.
+pub fn flushed(out: &[u8], waits: usize) -> Output {
+    let n = least(waits, out.len());
+    Output {
+        waits: 0,
+        writes: io::write_all(STDOUT_FILENO, &out[0..n]),
+    }
+}
+
+// Writes all that waits where there is little room behind it.
+pub fn drained(out: &[u8], waits: usize) -> Output {
+    let n = least(waits, out.len());
+    if out.len() - n < SPARE {
+        return flushed(out, n);
+    }
+    Output {
+        waits: n,
+        writes: true,
+    }
+}
