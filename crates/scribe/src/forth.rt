@@ -1,26 +1,18 @@
 // Text to records, line by line.
 use crate::errors;
+use crate::work::Work;
+use crate::work::begun;
+use crate::work::fed;
+use crate::work::passed;
+use crate::work::stopped;
 use script::Line;
 use script::put_record;
 use script::read_line;
-use stream::output::drained;
 use stream::output::flushed;
-use stream::window::Window;
-use stream::window::refilled;
 use stream::window::unread;
 use text::least;
 
-// Text on its way: the window on the input, how much output waits, the number of the line that comes next, whether the rest of that line is
-// skipped since it is too long, and whether it goes on.
-struct Work {
-    window: Window,
-    waits: usize,
-    number: u64,
-    skips: bool,
-    goes: bool,
-}
-
-// The record of a line is put into out; a line that cannot be read is told, and nothing is put.
+// The record of a line is put into out. Of a line that cannot be read the number is told, and nothing is put.
 fn put_line(number: u64, line: &[u8], out: &mut [u8], at: usize) -> usize {
     let said = read_line(line);
     if let Line::Unread = said {
@@ -29,46 +21,13 @@ fn put_line(number: u64, line: &[u8], out: &mut [u8], at: usize) -> usize {
     put_record(said, out, at)
 }
 
-// Behind a whole line, which ends at `next`.
+// Behind a whole line; the next one begins at `next`.
 fn taken(w: Work, line: &[u8], next: usize, out: &mut [u8]) -> Work {
-    let v = w.window;
-    let window = Window {
-        at: next,
-        end: v.end,
-        last: v.last,
-    };
-    let number = std::num::wrapping_add_u64(w.number, 1);
     if w.skips {
-        return Work {
-            window,
-            waits: w.waits,
-            number,
-            skips: false,
-            goes: true,
-        };
+        return passed(w, next, w.waits, out);
     }
     let place = put_line(w.number, line, out, w.waits);
-    let o = drained(out, place);
-    Work {
-        window,
-        waits: o.waits,
-        number,
-        skips: false,
-        goes: o.writes,
-    }
-}
-
-// Behind the input's end. A last line may lack its line end.
-fn ended(w: Work, line: &[u8], out: &mut [u8]) -> Work {
-    let t = taken(w, line, 0, out);
-    let window = t.window;
-    Work {
-        window,
-        waits: t.waits,
-        number: t.number,
-        skips: false,
-        goes: false,
-    }
+    passed(w, next, place, out)
 }
 
 // A line that fills the buffer is told, and the rest of it skipped.
@@ -76,8 +35,9 @@ fn skipped(w: Work) -> Work {
     if !w.skips {
         errors::too_long(w.number);
     }
+    let window = unread();
     Work {
-        window: unread(),
+        window,
         waits: w.waits,
         number: w.number,
         skips: true,
@@ -85,21 +45,7 @@ fn skipped(w: Work) -> Work {
     }
 }
 
-// With more input. What waits is written first, for whoever feeds it line by line.
-fn fed(w: Work, buf: &mut [u8], out: &[u8]) -> Work {
-    let o = flushed(out, w.waits);
-    let v = w.window;
-    let window = refilled(v, buf);
-    Work {
-        window,
-        waits: o.waits,
-        number: w.number,
-        skips: w.skips,
-        goes: o.writes,
-    }
-}
-
-// One turn, on what stands in the window.
+// One turn, on what stands in the window. The last line may lack its line end.
 fn turn(w: Work, buf: &mut [u8], out: &mut [u8]) -> Work {
     let v = w.window;
     let end = least(v.end, buf.len());
@@ -109,7 +55,8 @@ fn turn(w: Work, buf: &mut [u8], out: &mut [u8]) -> Work {
         return taken(w, &buf[at..stop], stop + 1, out);
     }
     if v.last {
-        return ended(w, &buf[at..end], out);
+        let t = taken(w, &buf[at..end], end, out);
+        return stopped(t);
     }
     if end - at == buf.len() {
         return skipped(w);
@@ -119,14 +66,7 @@ fn turn(w: Work, buf: &mut [u8], out: &mut [u8]) -> Work {
 
 // All lines of standard input.
 pub fn run(buf: &mut [u8], out: &mut [u8]) {
-    let window = unread();
-    let mut w = Work {
-        window,
-        waits: 0,
-        number: 1,
-        skips: false,
-        goes: true,
-    };
+    let mut w = begun();
     let mut turns = u64::MAX;
     while turns > 0 && w.goes {
         w = turn(w, buf, out);

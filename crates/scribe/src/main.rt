@@ -3,6 +3,7 @@
 mod back; // back.rt: records to text
 mod errors; // errors.rt: what is told on standard error
 mod forth; // forth.rt: text to records
+mod work; // work.rt: input on its way to output
 
 // Whether the only argument is `back`.
 fn is_back(count: usize, word: &[u8; 5], n: usize) -> bool {
