@@ -202,12 +202,12 @@ guess-fits words =
     (by-test Fits (eqb l 284) (omega arith, (omega arith, z))
     (by-test Fits (eqb l 815) (omega arith, (omega arith, t))
     (by-test Fits (eqb l 1456) (omega arith, (omega arith, z))
+    (by-test Fits (eqb l 215) tt
+    (by-test Fits (eqb l 449) tt
+    (by-test Fits (eqb l 299) tt
     (by-test Fits (eqb l 448) (omega arith, z)
     (by-test Fits (eqb l 880) (omega arith, z)
     (by-test Fits (eqb l 975) (omega arith, t)
     (by-test Fits (eqb l 1407) (omega arith, t)
     (by-test Fits (eqb l 873) (omega arith, z)
-    (by-test Fits (eqb l 1305) (omega arith, z)
-    (by-test Fits (eqb l 215) tt
-    (by-test Fits (eqb l 449) tt
-    (by-test Fits (eqb l 299) tt (omega arith))))))))))))))
+    (by-test Fits (eqb l 1305) (omega arith, z) (omega arith))))))))))))))

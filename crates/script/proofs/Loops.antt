@@ -11,8 +11,7 @@ use borrow.Author.Tests.{eq-eqb, ne-eqb}
 use Rattle.text.proofs.Puts.{rest-cons}
 use Rattle.script.specs.CallText.{entry, entries}
 use Rattle.script.specs.Words.{partOf, wordsFrom}
-use Rattle.script.specs.Says.{alike}
-use Rattle.script.specs.Guess.{hear, heardOf}
+use Rattle.script.specs.Guess.{alike, hear, heardOf}
 use Rattle.script.specs.declared.guess.Seen.{Seen}
 
 -- ── the entries of an open set ──

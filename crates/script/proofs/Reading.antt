@@ -20,8 +20,8 @@ use Rattle.calls.specs.declared.Call as C
 use Rattle.calls.specs.declared.Call.the-variants.{Create, Delay, Call, Select, End, Finish, Tick, Advance}
 use Rattle.text.specs.Text.{over, putAt, behind, Put}
 use Rattle.script.specs.CallText.{textOf}
-use Rattle.script.specs.Says.{Fits, Says, alike}
-use Rattle.script.specs.Guess.{hear, unseen, timeOf, callBy, guessBy, guessOf}
+use Rattle.script.specs.Says.{Fits, Says}
+use Rattle.script.specs.Guess.{alike, hear, unseen, timeOf, callBy, guessBy, guessOf}
 use Rattle.script.specs.declared.guess.Seen.{Seen}
 use Rattle.script.specs.declared.Line.{Line}
 use Rattle.script.specs.declared.Line.the-variants as L

@@ -61,7 +61,18 @@ unseen = record { letters = 0; minus = false; fourth = fresh; third = fresh; sec
 abbrev pub timeOf : Bool → ℕ → ℤ
 timeOf minus n = if minus then negsuc ((n % 4294967296 + 2147483647) % 2147483648) else pos (n % 2147483648)
 
--- the call that the sum of the letters stands for; each form of a call has a sum of its own
+-- a SELECT by the sum of the letters, or an ADVANCE
+abbrev pub selectBy : ℕ → Word → Word → Word → ℤ → C.Call
+selectBy letters b c d time =
+    if eqb letters 448 then Select (d .set % 256) S.Plain
+    else if eqb letters 880 then Select (d .set % 256) S.Plain
+    else if eqb letters 975 then Select (b .set % 256) (S.Delay time)
+    else if eqb letters 1407 then Select (b .set % 256) (S.Delay time)
+    else if eqb letters 873 then Select (c .set % 256) S.Else
+    else if eqb letters 1305 then Select (c .set % 256) S.Else
+    else Advance (d .number % 4294967296)
+
+-- the call that the sum of the letters stands for, with the four last words a, b, c, d; each form of a call has a sum of its own
 abbrev pub callBy : ℕ → Word → Word → Word → Word → ℤ → C.Call
 callBy letters a b c d time =
     if eqb letters 436 then Create (c .number % 256) (d .number % 256)
@@ -69,16 +80,10 @@ callBy letters a b c d time =
     else if eqb letters 284 then Call (c .number % 256) (d .number % 256) Simple
     else if eqb letters 815 then Call (a .number % 256) (b .number % 256) (Timed time)
     else if eqb letters 1456 then Call (b .number % 256) (c .number % 256) Conditional
-    else if eqb letters 448 then Select (d .set % 256) S.Plain
-    else if eqb letters 880 then Select (d .set % 256) S.Plain
-    else if eqb letters 975 then Select (b .set % 256) (S.Delay time)
-    else if eqb letters 1407 then Select (b .set % 256) (S.Delay time)
-    else if eqb letters 873 then Select (c .set % 256) S.Else
-    else if eqb letters 1305 then Select (c .set % 256) S.Else
     else if eqb letters 215 then End
     else if eqb letters 449 then Finish
     else if eqb letters 299 then Tick
-    else Advance (d .number % 4294967296)
+    else selectBy letters b c d time
 
 -- the call that what is seen looks like
 abbrev pub guessBy : Seen → C.Call
@@ -87,3 +92,10 @@ guessBy s = callBy (s .letters) (s .fourth) (s .third) (s .second) (s .last) (ti
 -- the call that words look like
 unfoldable pub guessOf : List ℕ → C.Call
 guessOf words = guessBy (hear unseen words)
+
+-- two texts are the same, as a test
+abbrev pub alike : List ℕ → List ℕ → Bool
+alike [] [] = true
+alike [] (y ∷ b) = false
+alike (x ∷ a) [] = false
+alike (x ∷ a) (y ∷ b) = eqb x y && alike a b

@@ -2,9 +2,7 @@
 -- Assumes nothing.
 use Prim.Native.Nat.{ℕ, _<_, _^_}
 use mathlib.Core.Path.{_≡_}
-use mathlib.Core.Bool.{Bool, true, false, _&&_}
 use mathlib.Core.List.{List, [], _∷_}
-use lib.Dec.{eqb}
 use mir.Syntax.{w32}
 use mir.Val.{SFits}
 use Rattle.calls.specs.Record.{callTime, selectTime, encode}
@@ -36,10 +34,3 @@ abbrev pub recordOf : Line → List ℕ
 recordOf L.Nothing = []
 recordOf (L.Says c) = encode c
 recordOf L.Unread = []
-
--- two texts are the same, as a test
-abbrev pub alike : List ℕ → List ℕ → Bool
-alike [] [] = true
-alike [] (y ∷ b) = false
-alike (x ∷ a) [] = false
-alike (x ∷ a) (y ∷ b) = eqb x y && alike a b

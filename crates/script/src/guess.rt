@@ -2,7 +2,7 @@
 // prints it and compares.
 ghost use mathlib.Core.Path.{_≡_};
 ghost use Prim.Native.Nat.{_%_};
-ghost use Rattle.script.specs.Guess.{bitOf, fresh, grownOf, addedOf, heardOf, hear, unseen, timeOf, callBy, guessOf};
+ghost use Rattle.script.specs.Guess.{bitOf, fresh, grownOf, addedOf, heardOf, hear, unseen, timeOf, selectBy, callBy, guessOf};
 use calls::Call;
 use calls::CallMode;
 use calls::SelectMode;
@@ -124,37 +124,18 @@ fn time_of(minus: bool, n: u64) -> i32
     }
 }
 
+// The low byte of a number.
 fn low(n: u64) -> u8
     ensures { λ r. ⌜ r ≡ n % 256 ⌝ }
 {
     (n % 256) as u8
 }
 
-// The call that the sum of the letters stands for. Each form of a call has a sum of its own.
-fn call_by(letters: u64, a: Word, b: Word, c: Word, d: Word, time: i32) -> Call
-    ensures { λ r. ⌜ r ≡ callBy letters a b c d time ⌝ }
+// A SELECT by the sum of the letters, or an ADVANCE.
+fn select_by(letters: u64, b: Word, c: Word, d: Word, time: i32) -> Call
+    ensures { λ r. ⌜ r ≡ selectBy letters b c d time ⌝ }
 {
     match letters {
-        436 => Call::Create {
-            priority: low(c.number),
-            entries: low(d.number),
-        },
-        367 => Call::Delay(time),
-        284 => Call::Call {
-            target: low(c.number),
-            entry: low(d.number),
-            mode: CallMode::Simple,
-        },
-        815 => Call::Call {
-            target: low(a.number),
-            entry: low(b.number),
-            mode: CallMode::Timed(time),
-        },
-        1456 => Call::Call {
-            target: low(b.number),
-            entry: low(c.number),
-            mode: CallMode::Conditional,
-        },
         448 => Call::Select {
             open: low(d.set),
             mode: SelectMode::Plain,
@@ -179,10 +160,39 @@ fn call_by(letters: u64, a: Word, b: Word, c: Word, d: Word, time: i32) -> Call
             open: low(c.set),
             mode: SelectMode::Else,
         },
+        _ => Call::Advance((d.number % 4294967296) as u32),
+    }
+}
+
+// The call that the sum of the letters stands for, with the four last words a, b, c, d. Each form of a call has a sum of its own.
+fn call_by(letters: u64, a: Word, b: Word, c: Word, d: Word, time: i32) -> Call
+    ensures { λ r. ⌜ r ≡ callBy letters a b c d time ⌝ }
+{
+    match letters {
+        436 => Call::Create {
+            priority: low(c.number),
+            entries: low(d.number),
+        },
+        367 => Call::Delay(time),
+        284 => Call::Call {
+            target: low(c.number),
+            entry: low(d.number),
+            mode: CallMode::Simple,
+        },
+        815 => Call::Call {
+            target: low(a.number),
+            entry: low(b.number),
+            mode: CallMode::Timed(time),
+        },
+        1456 => Call::Call {
+            target: low(b.number),
+            entry: low(c.number),
+            mode: CallMode::Conditional,
+        },
         215 => Call::End,
         449 => Call::Finish,
         299 => Call::Tick,
-        _ => Call::Advance((d.number % 4294967296) as u32),
+        _ => select_by(letters, b, c, d, time),
     }
 }
 

@@ -2,7 +2,8 @@
 ghost use mathlib.Core.Path.{_≡_};
 ghost use Rattle.text.specs.Text.{Put};
 ghost use Rattle.script.specs.Words.{partOf, wordsOf};
-ghost use Rattle.script.specs.Says.{Says, alike};
+ghost use Rattle.script.specs.Says.{Says};
+ghost use Rattle.script.specs.Guess.{alike};
 use crate::Line;
 use crate::guess::guess_at;
 use crate::print::put_call;

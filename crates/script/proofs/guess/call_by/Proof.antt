@@ -1,5 +1,5 @@
-use borrow.Author.Tests.{ne-eqb}
 use mir.Facts.{toZ-ofZ}
+use borrow.Author.Tests.{ne-eqb}
 use borrow.Author.Needs.{needs}
 use Rattle.script.proofs.guess.call_by.Statement.{statement}
 use Rattle.script.proofs.guess.call_by.Tie as tie
@@ -20,34 +20,17 @@ returns-5 : tie.Need-returns-5
 returns-5 c = rw (c .before .before .match .keys5, c .before .low7 .ensures, c .low8 .ensures)
 
 returns-6 : tie.Need-returns-6
-returns-6 c = rw (c .before .match .keys6, c .low9 .ensures)
+returns-6 c = rw (c .match .keys6)
 
 returns-7 : tie.Need-returns-7
-returns-7 c = rw (c .before .match .keys7, c .low10 .ensures)
+returns-7 c = rw (c .match .keys7)
 
 returns-8 : tie.Need-returns-8
-returns-8 c = rw (c .before .match .keys8, c .low11 .ensures, toZ-ofZ (c .before .before .fits .time))
+returns-8 c = rw (c .match .keys8)
 
 returns-9 : tie.Need-returns-9
-returns-9 c = rw (c .before .match .keys9, c .low12 .ensures, toZ-ofZ (c .before .before .fits .time))
-
-returns-10 : tie.Need-returns-10
-returns-10 c = rw (c .before .match .keys10, c .low13 .ensures)
-
-returns-11 : tie.Need-returns-11
-returns-11 c = rw (c .before .match .keys11, c .low14 .ensures)
-
-returns-12 : tie.Need-returns-12
-returns-12 c = rw (c .match .keys12)
-
-returns-13 : tie.Need-returns-13
-returns-13 c = rw (c .match .keys13)
-
-returns-14 : tie.Need-returns-14
-returns-14 c = rw (c .match .keys14)
-
-returns-15 : tie.Need-returns-15
-returns-15 c = let n = c .before .match .rest in
+returns-9 c =
+    let n = c .before .match .rest in
     simp (
       ne-eqb _ _ (n .1),
       ne-eqb _ _ (n .0 .1),
@@ -57,13 +40,7 @@ returns-15 c = let n = c .before .match .rest in
       ne-eqb _ _ (n .0 .0 .0 .0 .0 .1),
       ne-eqb _ _ (n .0 .0 .0 .0 .0 .0 .1),
       ne-eqb _ _ (n .0 .0 .0 .0 .0 .0 .0 .1),
-      ne-eqb _ _ (n .0 .0 .0 .0 .0 .0 .0 .0 .1),
-      ne-eqb _ _ (n .0 .0 .0 .0 .0 .0 .0 .0 .0 .1),
-      ne-eqb _ _ (n .0 .0 .0 .0 .0 .0 .0 .0 .0 .0 .1),
-      ne-eqb _ _ (n .0 .0 .0 .0 .0 .0 .0 .0 .0 .0 .0 .1),
-      ne-eqb _ _ (n .0 .0 .0 .0 .0 .0 .0 .0 .0 .0 .0 .0 .1),
-      ne-eqb _ _ (n .0 .0 .0 .0 .0 .0 .0 .0 .0 .0 .0 .0 .0 .1),
-    )
+    ) (rw (toZ-ofZ (c .before .before .fits .time)) at (c .select-by .ensures))
 
 pub call-by-spec : {M : Type 1} → statement M
 call-by-spec =
@@ -78,12 +55,6 @@ call-by-spec =
     (λ c κs. search needs)
     (λ c κs. search needs)
     (λ c κs. search needs)
-    (λ c κs. search needs)
-    (λ c κs. search needs)
-    (λ c κs. search needs)
-    (λ c κs. search needs)
-    (λ c κs. search needs)
-    (λ c. search needs)
     returns
     returns-2
     returns-3
@@ -92,10 +63,4 @@ call-by-spec =
     returns-6
     returns-7
     returns-8
-    returns-9
-    returns-10
-    returns-11
-    returns-12
-    returns-13
-    returns-14
-    returns-15)
+    returns-9)

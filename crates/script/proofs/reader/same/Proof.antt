@@ -1,5 +1,5 @@
 use Rattle.script.proofs.Loops.{alike-next, alike-not, alike-done, unlike}
-use Rattle.script.specs.Says.{alike}
+use Rattle.script.specs.Guess.{alike}
 use native.Mathlib.Omega.{arith}
 use lib.ListN.{length, drop}
 use mathlib.Core.Path.{_≡_, sym, refl, _∙_}
