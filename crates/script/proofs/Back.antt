@@ -1,13 +1,13 @@
 -- The guess at the text of a call is that call.
 -- Assumes nothing.
-use Prim.Native.Nat.{ℕ, zero, suc, _+_, _-_, _*_, _/_, _%_, _^_, _≤_, _<_}
-use mathlib.Core.Path.{_≡_, refl, sym, ap, subst, _∙_}
-use mathlib.Core.Bool.{Bool, true, false, _&&_, _||_, cond}
+use Prim.Native.Nat.{ℕ, zero, suc, _%_, _^_, _≤_, _<_}
+use mathlib.Core.Path.{_≡_, refl, sym, ap, _∙_}
+use mathlib.Core.Bool.{Bool, true, false, cond}
 use mathlib.Core.List.{List, [], _∷_, _++_, append-nil}
 use native.Mathlib.Omega.{arith}
-use lib.Dec.{eqb, ltb, leb}
+use lib.Dec.{eqb}
 use lib.IntN.{ℤ, pos, negsuc}
-use borrow.Author.Tests.{ne-eqb, le-ltb, eq-eqb}
+use borrow.Author.Tests.{ne-eqb, le-ltb}
 use mir.Syntax.{w32}
 use mir.Val.{SFits}
 use Rattle.lists.specs.Lists.{if_then_else_}
@@ -21,7 +21,7 @@ use Rattle.calls.specs.declared.Call.the-variants.{Create, Delay, Call, Select,
 use Rattle.text.specs.Text.{decimal}
 use Rattle.script.specs.CallText.{spaced, spacedTime, entries, openText, callModeText, selectModeText, textOf}
 use Rattle.script.specs.Says.{Fits}
-use Rattle.script.specs.Guess.{fresh, grownOf, heardOf, hear, unseen, timeOf, callBy, guessBy, guessOf}
+use Rattle.script.specs.Guess.{fresh, grownOf, heardOf, hear, unseen, timeOf, guessBy, guessOf}
 use Rattle.script.specs.declared.guess.Word.{Word}
 use Rattle.script.specs.declared.guess.Seen.{Seen}
 use Rattle.script.proofs.Digits.{AllPlain, growAll, decimal-plain, decimal-back}

@@ -1,17 +1,16 @@
 -- Decimal numbers: their digits, their length, and the number that is read back.
 -- Assumes nothing.
-use Prim.Native.Nat.{ℕ, zero, suc, _+_, _-_, _*_, _/_, _%_, _^_, _≤_, _<_}
+use Prim.Native.Nat.{ℕ, zero, suc, _+_, _*_, _/_, _%_, _^_, _≤_, _<_}
 use mathlib.Core.Path.{_≡_, refl, sym, ap, subst, _∙_}
-use mathlib.Core.Bool.{Bool, true, false, _&&_}
 use mathlib.Core.List.{List, [], _∷_, _++_}
 use native.Mathlib.Omega.{arith}
 use native.Mathlib.Nat.{pow-suc, pow-zero}
-use lib.Dec.{ltb, leb}
+use lib.Dec.{ltb}
 use lib.ListN.{length, length-append}
 use borrow.Author.Tests.{lt-ltb, le-ltb, le-leb, ltb-true, ltb-false}
 use Rattle.lists.proofs.Tests.{cases}
 use Rattle.text.specs.Text.{spelled, decimal}
-use Rattle.script.specs.Guess.{bitOf, fresh, grownOf}
+use Rattle.script.specs.Guess.{fresh, grownOf}
 use Rattle.script.specs.declared.guess.Word.{Word}
 
 -- ── digits ──

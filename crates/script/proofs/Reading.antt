@@ -1,9 +1,9 @@
 -- From what the parts of the reader promise to what a line says.
 -- Assumes nothing.
-use Prim.Native.Nat.{ℕ, zero, suc, _+_, _-_, _≤_, _<_, min}
+use Prim.Native.Nat.{ℕ, suc, _-_, _≤_, _<_, min}
 use mathlib.Core.Path.{_≡_, refl, sym, ap, subst, _∙_}
-use mathlib.Core.Bool.{Bool, true, false, _&&_, false≢true}
-use mathlib.Core.List.{List, [], _∷_, _++_}
+use mathlib.Core.Bool.{true, false, false≢true}
+use mathlib.Core.List.{List, [], _∷_}
 use native.Mathlib.Omega.{arith}
 use lib.Dec.{eqb}
 use lib.ListN.{length, take, drop}
@@ -14,16 +14,13 @@ use Rattle.lists.proofs.Tests.{and-first, and-second}
 use Rattle.calls.specs.Record.{encode}
 use Rattle.calls.specs.Writing.{writtenOf, roomAfter}
 use Rattle.calls.specs.declared.Written.{Written}
-use Rattle.calls.specs.declared.CallMode.the-variants.{Simple, Timed, Conditional}
-use Rattle.calls.specs.declared.SelectMode.the-variants as S
 use Rattle.calls.specs.declared.Call as C
 use Rattle.calls.specs.declared.Call.the-variants.{Create, Delay, Call, Select, End, Finish, Tick, Advance}
-use Rattle.text.specs.Text.{over, putAt, behind, Put}
+use Rattle.text.specs.Text.{over, putAt, Put}
 use Rattle.script.specs.CallText.{textOf}
 use Rattle.script.specs.Says.{Fits, Says}
 use Rattle.script.specs.Guess.{alike, hear, unseen, timeOf, callBy, guessBy, guessOf}
 use Rattle.script.specs.declared.guess.Seen.{Seen}
-use Rattle.script.specs.declared.Line.{Line}
 use Rattle.script.specs.declared.Line.the-variants as L
 use Rattle.script.proofs.Back.{guess-back, guess-fits}
 use Rattle.script.proofs.Shape.{text-short}

@@ -1,9 +1,9 @@
 -- The text of an open set that is not empty: one table of all 255, computed once.
 -- Assumes nothing.
-use Prim.Native.Nat.{ℕ, zero, suc, _+_, _≤_, _<_}
-use mathlib.Core.Path.{_≡_, refl, sym, ap, subst, _∙_}
-use mathlib.Core.Bool.{Bool, true, false, not, _&&_}
-use mathlib.Core.List.{List, [], _∷_, _++_}
+use Prim.Native.Nat.{ℕ, zero, suc, _≤_, _<_}
+use mathlib.Core.Path.{_≡_, refl, sym, ap, subst}
+use mathlib.Core.Bool.{Bool, true, not, _&&_}
+use mathlib.Core.List.{List, [], _∷_}
 use native.Mathlib.Omega.{arith}
 use lib.Dec.{eqb, leb, ltb}
 use lib.ListN.{length}
@@ -12,7 +12,7 @@ use Rattle.lists.specs.Lists.{first, every, downFrom}
 use Rattle.lists.proofs.Tests.{cases, and-first, and-second}
 use Rattle.script.specs.CallText.{entries}
 use Rattle.script.specs.Guess.{fresh}
-use Rattle.script.proofs.Digits.{Plain, AllPlain, growAll}
+use Rattle.script.proofs.Digits.{AllPlain, growAll}
 
 -- a text without its first byte
 abbrev pub tail : List ℕ → List ℕ

@@ -1,11 +1,11 @@
 -- The text of a call is its words with one blank between them, and it is short.
 -- Assumes nothing.
-use Prim.Native.Nat.{ℕ, zero, suc, _+_, _^_, _≤_, _<_}
-use mathlib.Core.Path.{_≡_, refl, sym, ap, subst, _∙_}
-use mathlib.Core.Bool.{Bool, true, false, cond}
+use Prim.Native.Nat.{ℕ, zero, suc, _^_, _≤_, _<_}
+use mathlib.Core.Path.{_≡_, refl, sym, ap, _∙_}
+use mathlib.Core.Bool.{true, false}
 use mathlib.Core.List.{List, [], _∷_, _++_, append-nil, append-assoc}
 use native.Mathlib.Omega.{arith}
-use lib.Dec.{eqb, leb, ltb}
+use lib.Dec.{eqb}
 use lib.IntN.{ℤ, pos, negsuc}
 use lib.ListN.{length, length-append}
 use borrow.Author.Tests.{ne-eqb, lt-leb, lt-ltb}
@@ -23,7 +23,7 @@ use Rattle.script.specs.CallText.{spaced, spacedTime, entries, openText,
 use Rattle.script.specs.Words.{wordsFrom, wordsOf}
 use Rattle.script.specs.Says.{Fits}
 use Rattle.script.proofs.Digits.{Plain, AllPlain, decimal-plain, decimal-some, decimal-short}
-use Rattle.script.proofs.Sets.{tail, SetText, set-text}
+use Rattle.script.proofs.Sets.{tail, set-text}
 
 -- ── words ──
 

@@ -23,7 +23,8 @@ Fits Finish = Unit {0}
 Fits Tick = Unit {0}
 Fits (Advance n) = n < 2 ^ 32
 
--- what words say: nothing where there are none; a call where they are its text; else they cannot be read, and are no call's text
+-- what words say, each with a blank in front: nothing where there are none; a call where they are its text; else they cannot be read, and are no
+-- call's text
 abbrev pub Says : List ℕ → Line → Type 0
 Says words L.Nothing = words ≡ []
 Says words (L.Says c) = Fits c × (words ≡ 32 ∷ textOf c)

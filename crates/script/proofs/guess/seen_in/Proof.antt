@@ -28,12 +28,14 @@ loop-less : tie.Need-loop-less Inv-loop μ-loop
 loop-less c = omega arith
 
 loop-again : tie.Need-loop-again Inv-loop μ-loop
-loop-again c = let l = c .before .before .before .loop in
+loop-again c =
+    let l = c .before .before .before .loop in
     let w = c .before .before .before .before .before .before .args .words .now in
     (omega arith, l .inv .1 ∙ hear-next (l .s) w (l .i) (omega arith) ∙ ap (λ (s : Seen). hear s (drop (l .i + 1) w)) (sym (c .heard .ensures)))
 
 returns : tie.Need-returns Inv-loop μ-loop
-returns c = let l = c .before .loop in sym (l .inv .1 ∙ hear-done (l .s) (c .before .before .before .before .args .words .now) (l .i) (omega arith))
+returns c =
+    let l = c .before .loop in sym (l .inv .1 ∙ hear-done (l .s) (c .before .before .before .before .args .words .now) (l .i) (omega arith))
 
 pub seen-in-spec : {M : Type 1} → statement M
 seen-in-spec =

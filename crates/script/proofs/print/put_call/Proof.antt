@@ -10,7 +10,8 @@ returns : tie.Need-returns
 returns c = rw (c .before .before .before .before .before .c .given .1) (c .before .before .put-create .ensures)
 
 returns-2 : tie.Need-returns-2
-returns-2 c = let k = c .before .before .before .before .before .c2 .given in
+returns-2 c =
+    let k = c .before .before .before .before .before .c2 .given in
     let e : toZ w32 (ofZ w32 (k .0 .0)) ≡ k .0 .0 = search needs in
     rw (k .1) (rw e at (c .before .before .put-delay .ensures))
 

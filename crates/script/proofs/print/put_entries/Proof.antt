@@ -21,14 +21,16 @@ loop-less : tie.Need-loop-less Inv-loop μ-loop
 loop-less c = omega arith
 
 loop-again : tie.Need-loop-again Inv-loop μ-loop
-loop-again c = let l = c .before .before .before .before .before .before .loop in
+loop-again c =
+    let l = c .before .before .before .before .before .before .loop in
     (omega arith, rw (c .next-mark .ensures) (putting-on {a = entry (eqb (l .rest % 2) 1) (l .mark) (49 + l .i)} (toward (next-entry (l .i) (l .mark) (l .rest) (omega arith)) (l .inv .1)) (c .before .before .before .put-entry .ensures)))
 
 same-length : tie.Need-same-length Inv-loop μ-loop
 same-length c = c .before .loop .inv .1 .long
 
 returns : tie.Need-returns Inv-loop μ-loop
-returns c = let l = c .before .loop in putting-done (toward (no-entry (l .i) (l .mark) (l .rest) (omega arith)) (l .inv .1))
+returns c =
+    let l = c .before .loop in putting-done (toward (no-entry (l .i) (l .mark) (l .rest) (omega arith)) (l .inv .1))
 
 pub put-entries-spec : {M : Type 1} → statement M
 put-entries-spec =

@@ -13,7 +13,8 @@ returns c = rw (c .before .enum-told .given .1) (put-none (c .least .ensures))
 
 returns-2 : tie.Need-returns-2
 unfolding selectModeText
-returns-2 c = let k = c .before .before .before .before .before .before .before .before .before .before .mode .given in
+returns-2 c =
+    let k = c .before .before .before .before .before .before .before .before .before .before .mode .given in
     let e : toZ w32 (ofZ w32 (k .0 .0)) ≡ k .0 .0 = search needs in
     rw (k .1) (then-put (c .before .before .before .before .before .before .put-bytes .ensures) (rw e at (c .before .before .put-time .ensures)))
 

@@ -9,7 +9,8 @@ returns : tie.Need-returns
 returns c = same-text (text-below (c .before .before .before .before .before .before .before .before .before .before .before .before .args .d) (c .before .before .before .before .ticks .result) (c .before .before .before .before .before .before .before .before .before .before .before .before .fits .d) (rw (toZ-ofZ (c .before .before .before .before .before .before .before .before .before .before .before .before .fits .d)) at (c .before .before .before .before .before .before .before .before .before .before .if1 .taken)) (c .before .before .before .before .ticks .ensures)) (then-put (c .before .before .before .before .before .before .before .put-bytes .ensures) (c .before .before .put-number .ensures))
 
 returns-2 : tie.Need-returns-2
-returns-2 c = let s = toZ-ofZ (c .before .before .before .before .before .before .before .fits .d) in same-text (text-above (c .before .before .before .before .before .before .before .args .d) (c .before .before .before .before .ticks2 .result) (c .before .before .before .before .before .before .before .fits .d) (rw s at (c .before .before .before .before .before .if1 .left)) (rw s at (c .before .before .before .before .ticks2 .ensures))) (c .before .before .put-spaced .ensures)
+returns-2 c =
+    let s = toZ-ofZ (c .before .before .before .before .before .before .before .fits .d) in same-text (text-above (c .before .before .before .before .before .before .before .args .d) (c .before .before .before .before .ticks2 .result) (c .before .before .before .before .before .before .before .fits .d) (rw s at (c .before .before .before .before .before .if1 .left)) (rw s at (c .before .before .before .before .ticks2 .ensures))) (c .before .before .put-spaced .ensures)
 
 pub put-time-spec : {M : Type 1} → statement M
 put-time-spec =

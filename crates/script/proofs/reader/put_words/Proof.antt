@@ -27,7 +27,8 @@ same-length c = c .before .before .before .loop .inv .1 .long
 
 returns : tie.Need-returns Inv-loop μ-loop
 unfolding wordsOf
-returns c = let l = c .before .before .before .loop in putting-done (toward (comment (c .before .before .before .before .before .before .before .args .line .now) (l .inside) (l .i) (omega arith) (c .if1 .taken)) (l .inv .1))
+returns c =
+    let l = c .before .before .before .loop in putting-done (toward (comment (c .before .before .before .before .before .before .before .args .line .now) (l .inside) (l .i) (omega arith) (c .if1 .taken)) (l .inv .1))
 
 add-i : tie.Need-add-i Inv-loop μ-loop
 add-i c = omega arith
@@ -36,7 +37,8 @@ loop-less : tie.Need-loop-less Inv-loop μ-loop
 loop-less c = omega arith
 
 loop-again : tie.Need-loop-again Inv-loop μ-loop
-loop-again c = let l = c .before .before .before .before .before .before .before .loop in
+loop-again c =
+    let l = c .before .before .before .before .before .before .before .loop in
     let w = c .before .before .before .before .before .before .before .before .before .before .before .args .line .now in
     (omega arith, putting-on {a = partOf (l .inside) (getD w (l .i) 0)} (toward (next-part w (l .inside) (l .i) (omega arith) (c .before .before .before .before .if1 .left)) (l .inv .1)) (c .before .before .put-part .ensures))
 
@@ -45,7 +47,8 @@ same-length-2 c = c .before .loop .inv .1 .long
 
 returns-2 : tie.Need-returns-2 Inv-loop μ-loop
 unfolding wordsOf
-returns-2 c = let l = c .before .loop in putting-done (toward (no-part (c .before .before .before .before .before .args .line .now) (l .inside) (l .i) (omega arith)) (l .inv .1))
+returns-2 c =
+    let l = c .before .loop in putting-done (toward (no-part (c .before .before .before .before .before .args .line .now) (l .inside) (l .i) (omega arith)) (l .inv .1))
 
 pub put-words-spec : {M : Type 1} → statement M
 put-words-spec =

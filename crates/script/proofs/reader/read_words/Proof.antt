@@ -8,10 +8,22 @@ returns : tie.Need-returns
 returns c = empty (c .before .before .args .words .now) (c .if1 .taken)
 
 returns-2 : tie.Need-returns-2
-returns-2 c = said (c .before .before .before .before .before .before .before .before .before .before .before .args .words .now) _ (c .before .before .before .before .before .before .before .before .guess-at .result) (c .before .before .before .before .before .before .before .before .guess-at .ensures) (printed (c .before .before .before .before .before .before .before .before .before .before .before .args .words .now) (c .before .before .before .before .before .before .before .before .guess-at .result) _ (c .before .before .before .before .before .before .put-call .last .1 .0) (c .before .before .before .before .before .before .put-call .result) (c .before .before .before .before .least .result) (c .before .before .before .before .before .before .before .before .guess-at .ensures) refl (c .before .before .before .before .before .before .put-call .ensures) (c .before .before .before .before .least .ensures)) (rw (← c .before .same .ensures) (c .if2 .taken))
+returns-2 c =
+    let g = c .before .before .before .before .before .before .before .before in
+    let w = g .before .before .before .args .words .now in
+    let p = c .before .before .before .before .before .before .put-call in
+    let m = c .before .before .before .before .least in
+    let t = printed w (g .guess-at .result) _ (p .last .1 .0) (p .result) (m .result) (g .guess-at .ensures) refl (p .ensures) (m .ensures) in
+    said w _ (g .guess-at .result) (g .guess-at .ensures) t (rw (← c .before .same .ensures) (c .if2 .taken))
 
 returns-3 : tie.Need-returns-3
-returns-3 c = unsaid (c .before .before .before .before .before .before .before .before .before .before .before .args .words .now) _ (c .before .before .before .before .before .before .before .before .guess-at .result) (c .before .before .before .before .before .before .before .before .guess-at .ensures) (printed (c .before .before .before .before .before .before .before .before .before .before .before .args .words .now) (c .before .before .before .before .before .before .before .before .guess-at .result) _ (c .before .before .before .before .before .before .put-call .last .1 .0) (c .before .before .before .before .before .before .put-call .result) (c .before .before .before .before .least .result) (c .before .before .before .before .before .before .before .before .guess-at .ensures) refl (c .before .before .before .before .before .before .put-call .ensures) (c .before .before .before .before .least .ensures)) (rw (← c .before .same .ensures) (c .if2 .left)) (c .before .before .before .before .before .before .before .before .before .if1 .left)
+returns-3 c =
+    let g = c .before .before .before .before .before .before .before .before in
+    let w = g .before .before .before .args .words .now in
+    let p = c .before .before .before .before .before .before .put-call in
+    let m = c .before .before .before .before .least in
+    let t = printed w (g .guess-at .result) _ (p .last .1 .0) (p .result) (m .result) (g .guess-at .ensures) refl (p .ensures) (m .ensures) in
+    unsaid w _ (g .guess-at .result) (g .guess-at .ensures) t (rw (← c .before .same .ensures) (c .if2 .left)) (g .before .if1 .left)
 
 pub read-words-spec : {M : Type 1} → statement M
 read-words-spec =

@@ -26,7 +26,8 @@ shared-slice-read-if2-2 : tie.Need-shared-slice-read-if2-2 Inv-loop μ-loop
 shared-slice-read-if2-2 c = omega arith
 
 returns-2 : tie.Need-returns-2 Inv-loop μ-loop
-returns-2 c = let l = c .before .before .before .before .loop in sym (l .inv .1 .1 ∙ alike-not (c .before .before .before .before .before .before .args .a .now) (c .before .before .before .before .before .before .args .b .now) (l .i) (omega arith) (omega arith) (c .if2 .taken))
+returns-2 c =
+    let l = c .before .before .before .before .loop in sym (l .inv .1 .1 ∙ alike-not (c .before .before .before .before .before .before .args .a .now) (c .before .before .before .before .before .before .args .b .now) (l .i) (omega arith) (omega arith) (c .if2 .taken))
 
 add-i : tie.Need-add-i Inv-loop μ-loop
 add-i c = omega arith
@@ -35,11 +36,13 @@ loop-less : tie.Need-loop-less Inv-loop μ-loop
 loop-less c = omega arith
 
 loop-again : tie.Need-loop-again Inv-loop μ-loop
-loop-again c = let l = c .before .before .before .before .loop in
+loop-again c =
+    let l = c .before .before .before .before .loop in
     (l .inv .0, (omega arith, l .inv .1 .1 ∙ alike-next (c .before .before .before .before .before .before .args .a .now) (c .before .before .before .before .before .before .args .b .now) (l .i) (omega arith) (omega arith) (c .if2 .left)))
 
 returns-3 : tie.Need-returns-3 Inv-loop μ-loop
-returns-3 c = let l = c .before .loop in sym (l .inv .1 .1 ∙ alike-done (c .before .before .before .args .a .now) (c .before .before .before .args .b .now) (l .i) (omega arith) (omega arith))
+returns-3 c =
+    let l = c .before .loop in sym (l .inv .1 .1 ∙ alike-done (c .before .before .before .args .a .now) (c .before .before .before .args .b .now) (l .i) (omega arith) (omega arith))
 
 pub same-spec : {M : Type 1} → statement M
 same-spec =
