@@ -1,4 +1,4 @@
-/* Puts the cases of its standard input to the library and writes what it answers; tests/reference/judge.rs says how a
+/* Puts the cases of its standard input to the library and writes what it answers; tests/reference/replies.rs says how a
    case and a reply are laid out. It takes two functions of the C library and none of its headers, so that the kit's
    compiler alone builds it. */
 #include "fuzgerlint.h"

@@ -54,7 +54,7 @@ pub fn call_for(aim: Aim, random: &mut Random, state: &Supervisor) -> Option<Cal
         _ => {}
     }
     match aim {
-        Aim::Delay => Some(Call::Delay(random.between(1, 9) as i32)),
+        Aim::Delay => Some(Call::Delay(short(random))),
         Aim::DelayEqual => equal(random, state).map(Call::Delay),
         Aim::DelayNone => Some(Call::Delay(none(random))),
         Aim::DelayLong => Some(Call::Delay(long(random))),
@@ -108,6 +108,12 @@ fn none(random: &mut Random) -> i32 {
         3 => i32::MIN,
         _ => -(random.below(1 << 31) as i64) as i32,
     }
+}
+
+/// Mostly close together, sometimes further apart.
+fn short(random: &mut Random) -> i32 {
+    let most = if random.once_in(3) { 30 } else { 9 };
+    random.between(1, most) as i32
 }
 
 fn long(random: &mut Random) -> i32 {
@@ -297,20 +303,28 @@ fn anything(random: &mut Random) -> Call {
     }
 }
 
-/// A tick, or a stretch of them: none, up to a due moment, one short of it or past it, or anything.
 fn tick(random: &mut Random, state: &Supervisor) -> Call {
-    if !random.once_in(8) {
-        return Call::Tick;
+    // clock 0 is met seldom
+    match random.once_in(if state.clock == 0 { 2 } else { 8 }) {
+        true => advance(random, state),
+        false => Call::Tick,
     }
-    let some = random.below(state.delays.len().max(1));
-    let left = state.delays.get(some).map_or(5, |timer| state.left(timer.due));
-    Call::Advance(match random.below(16) {
-        0 => 0,
-        1..=4 => left,
-        5 | 6 => left - 1,
-        7..=9 => left.wrapping_add(random.between(1, 5) as u32),
-        10 => u32::MAX,
-        11 => random.next() as u32,
+}
+
+/// A stretch of ticks: none; up to a due moment, one tick short of it, or past it; the largest, or anything; up to clock
+/// 0, or a tick more or less; or a short one.
+pub fn advance(random: &mut Random, state: &Supervisor) -> Call {
+    let due = random.pick(&state.delays).map(|timer| state.left(timer.due));
+    Call::Advance(match (random.below(16), due) {
+        (0, _) => 0,
+        (1, _) => u32::MAX,
+        // from clock 0 to the last reading, not round the clock
+        (2 | 3, _) if state.clock == 0 => u32::MAX,
+        (2, _) => random.next() as u32,
+        (3, _) => (random.between(-1, 1) as u32).wrapping_sub(state.clock),
+        (4..=7, Some(left)) => left,
+        (8 | 9, Some(left)) => left - 1,
+        (10 | 11, Some(left)) => left + random.between(1, 5) as u32,
         _ => random.between(1, 12) as u32,
     })
 }

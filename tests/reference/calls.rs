@@ -98,8 +98,8 @@ fn fields(tag: u8, f: &[u8]) -> Result<Call, Fault> {
         4 => Call::Select { open: f[0], mode: select_mode(f[1], number(&f[2..]) as i32)? },
         5 => Call::End,
         6 => Call::Finish,
-        8 => Call::Advance(number(f)),
-        _ => Call::Tick,
+        7 => Call::Tick,
+        _ => Call::Advance(number(f)),
     })
 }
 

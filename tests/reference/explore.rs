@@ -23,6 +23,7 @@ fn alphabet() -> Vec<Call> {
     let modes = [SelectMode::Plain, SelectMode::Delay(1), SelectMode::Delay(2), SelectMode::Else];
     calls.extend(modes.map(|mode| Call::Select { open: 1, mode }));
     calls.extend([Call::Select { open: 0, mode: SelectMode::Delay(1) }, Call::End, Call::Finish, Call::Tick]);
+    calls.extend([0, 2, u32::MAX].map(Call::Advance));
     calls
 }
 

@@ -1,5 +1,6 @@
-//! The reference: document 01 in plain Rust, apart from the rules and the proofs, to hold the programs against.
+//! The reference: document 01, and ADVANCE of document 02, in plain Rust, apart from the rules and the proofs, to hold the programs against.
 
+mod advances;
 mod aims;
 mod calls;
 mod damage;
@@ -12,6 +13,7 @@ mod logs;
 mod numbers;
 mod promises;
 mod random;
+mod replies;
 mod shrink;
 mod spoil;
 mod states;
@@ -38,6 +40,8 @@ const USAGE: &str = "the reference of the supervisor; it reads standard input wh
   damage SEED N              writes N states of 439 bytes, sound ones and damaged ones
   verdicts                   prints for each state whether it is sound
   cases SEED N               writes N cases of a state, a call, a length of room and a question
+  tally-cases                prints how often each event of ADVANCE occurs in cases; fails if one never does
+  replies                    writes what the reference answers to cases
   each-byte SEED             writes the cases of one state of 31 tasks with each of its bytes set to each value
   explore N                  writes the cases of the first N states of a small world, each with every call of it
   judge CASES WRITTEN        fails, with the first difference, if the answers in WRITTEN are not the reference's
@@ -82,13 +86,28 @@ fn assemble() -> Result<(), String> {
     output(&logs::pack(&logs))
 }
 
+/// Prints a line for each event, most of them of the same width; fails if one never occurred.
+fn counted(counts: &[(impl AsRef<str>, usize)]) -> Result<(), String> {
+    for (event, count) in counts {
+        output(format!("{count:8} {}\n", event.as_ref()).as_bytes())?;
+    }
+    let never: Vec<&str> = counts.iter().filter(|(_, count)| *count == 0).map(|(event, _)| event.as_ref()).collect();
+    match never[..] {
+        [] => Ok(()),
+        _ => Err(format!("never occurred: {}", never.join("; "))),
+    }
+}
+
 fn tally() -> Result<(), String> {
     let tally = tally::Tally::of(&logs::unpack(&input()?));
-    output(tally.printed().as_bytes())?;
-    match tally.never()[..] {
-        [] => Ok(()),
-        ref never => Err(format!("never occurred: {}", never.join("; "))),
-    }
+    output(format!("{} logs, {} calls\n", tally.logs, tally.calls).as_bytes())?;
+    counted(&tally.counts())
+}
+
+fn tally_cases() -> Result<(), String> {
+    let cases = input()?;
+    output(format!("{} cases\n", cases.len() / replies::CASE).as_bytes())?;
+    counted(&judge::advances(&cases))
 }
 
 fn promises() -> Result<(), String> {
@@ -96,7 +115,8 @@ fn promises() -> Result<(), String> {
     for (i, log) in logs::unpack(&input()?).iter().enumerate() {
         ledger.log(log).map_err(|broken| format!("log {}, {broken}", i + 1))?;
     }
-    output(format!("{} steps keep the promises\n", ledger.steps).as_bytes())
+    let (steps, stretches) = (ledger.steps, ledger.stretches);
+    output(format!("{steps} steps keep the promises; {stretches} ADVANCEs are so many TICKs\n").as_bytes())
 }
 
 fn shrink(file: &str, command: &[&str]) -> Result<(), String> {
@@ -109,18 +129,11 @@ fn shrink(file: &str, command: &[&str]) -> Result<(), String> {
 
 fn tally_states() -> Result<(), String> {
     let input = input()?;
-    let counts = states::tally(&input);
-    for (name, count) in &counts {
-        output(format!("{count:8} {name}\n").as_bytes())?;
-    }
     let sound = |state: &&&[u8]| flat::broken(flat::Flat(state)).is_none();
     if !states::unpack(&input).iter().filter(sound).all(|state| states::reads_back(state)) {
         return Err("a sound state does not read back".to_string());
     }
-    match counts.iter().find(|(_, count)| *count == 0) {
-        None => Ok(()),
-        Some((name, _)) => Err(format!("never occurred: {name}")),
-    }
+    counted(&states::tally(&input))
 }
 
 fn explore(states: usize) -> Result<(), String> {
@@ -134,7 +147,7 @@ fn judge(cases: &str, written: &str) -> Result<(), String> {
     let read = |file: &str| std::fs::read(file).map_err(|e| format!("{file}: {e}"));
     let cases = read(cases)?;
     match judge::first_difference(&cases, &read(written)?) {
-        None => output(format!("{} cases are answered alike\n", cases.len() / judge::CASE).as_bytes()),
+        None => output(format!("{} cases are answered alike\n", cases.len() / replies::CASE).as_bytes()),
         Some(text) => Err(text),
     }
 }
@@ -157,6 +170,8 @@ fn run(words: &[&str]) -> Result<(), String> {
         ["verdicts"] => output(states::verdicts(&input()?).as_bytes()),
         ["tally-states"] => tally_states(),
         ["cases", seed, count] => output(&judge::cases(number(seed)?, number(count)? as usize)),
+        ["tally-cases"] => tally_cases(),
+        ["replies"] => output(&replies::replies(&input()?)),
         ["each-byte", seed] => output(&judge::each_byte(number(seed)?)),
         ["explore", states] => explore(number(states)? as usize),
         ["judge", cases, written] => judge(cases, written),

@@ -1,4 +1,5 @@
-//! What the mission's third statement promises of every log, checked on the reference itself as the logs run.
+//! What the mission's third statement promises of every log, checked on the reference itself as the logs run; and that an
+//! ADVANCE is so many TICKs.
 
 use crate::calls::{self, Call, CallMode, Read, SelectMode};
 use crate::flat::{self, Flat};
@@ -6,6 +7,10 @@ use crate::logs::Log;
 use crate::numbers::{refusal, result, ROOM, TASKS};
 use crate::states;
 use crate::supervisor::{Answer, Place, Supervisor};
+use std::collections::BTreeSet;
+
+/// An ADVANCE of at most so many ticks is held against TICKs one by one.
+const ONE_BY_ONE: u32 = 100_000;
 
 /// A task's waits so far, and the one it is in.
 #[derive(Clone, Copy, Default)]
@@ -19,6 +24,8 @@ struct Waits {
 pub struct Ledger {
     waits: [Waits; TASKS + 1],
     pub steps: usize,
+    /// The ADVANCEs that were held against TICKs one by one.
+    pub stretches: usize,
 }
 
 /// The duration a wait begins with.
@@ -31,6 +38,22 @@ fn time_of(call: &Call) -> Option<u32> {
     }
 }
 
+/// The state's bytes after n TICKs, their lists joined, and the number of different clock readings at which a wait ended.
+fn ticked(before: &Supervisor, n: u32) -> (Vec<u8>, Vec<u8>, usize) {
+    let mut state = before.clone();
+    let mut items = Vec::new();
+    let mut readings = BTreeSet::new();
+    for _ in 0..n {
+        let mut room = [0; ROOM];
+        let ended = state.step(&Call::Tick, &mut room).ended as usize;
+        items.extend(&room[..ended * 4]);
+        if ended > 0 {
+            readings.insert(state.clock);
+        }
+    }
+    (flat::write(&state), items, readings.len())
+}
+
 fn demand(holds: bool, promise: &str) -> Result<(), String> {
     if holds {
         Ok(())
@@ -41,7 +64,7 @@ fn demand(holds: bool, promise: &str) -> Result<(), String> {
 
 impl Ledger {
     pub fn new() -> Ledger {
-        Ledger { waits: [Waits::default(); TASKS + 1], steps: 0 }
+        Ledger { waits: [Waits::default(); TASKS + 1], steps: 0, stretches: 0 }
     }
 
     /// Runs one log; the error says which promise is broken at which step.
@@ -88,12 +111,18 @@ impl Ledger {
             let same = bytes == flat::write(before) && *a == Answer::refused(a.refusal, before.running());
             return demand(same, "a refused step changes nothing and answers 0");
         }
-        let passed = match *call {
-            Call::Tick => 1,
-            Call::Advance(n) => n,
-            _ => 0,
-        };
-        self.waits.iter_mut().for_each(|waits| waits.ticks_left = waits.ticks_left.map(|ticks| ticks.saturating_sub(passed)));
+        match *call {
+            Call::Tick => self.pass(1),
+            Call::Advance(n) => {
+                let items = room[..a.ended as usize * 4].to_vec();
+                let compared = n <= ONE_BY_ONE;
+                let same = !compared || (bytes, items, a.entry as usize) == ticked(before, n);
+                demand(same && a.partner == 0, "ADVANCE is so many TICKs")?;
+                self.stretches += usize::from(compared);
+                self.pass(n);
+            }
+            _ => {}
+        }
         for item in room.chunks(4).take(a.ended as usize) {
             self.ended(before, item)?;
         }
@@ -108,6 +137,12 @@ impl Ledger {
             self.waits[a.partner as usize].ticks_left = None;
         }
         self.balance(after, a)
+    }
+
+    fn pass(&mut self, ticks: u32) {
+        for waits in &mut self.waits {
+            waits.ticks_left = waits.ticks_left.map(|left| left.saturating_sub(ticks));
+        }
     }
 
     fn ended(&mut self, before: &Supervisor, item: &[u8]) -> Result<(), String> {

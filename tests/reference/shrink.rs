@@ -92,6 +92,7 @@ impl Pieces {
     /// The same with simpler numbers at one place.
     fn simpler(&self, at: usize) -> Vec<Pieces> {
         let simple: &[Call] = match self.calls[at] {
+            Call::Advance(n) if n > 0 => &[Call::Tick, Call::Advance(n / 2), Call::Advance(n - 1)],
             Call::Delay(d) if d > 1 => &[Call::Delay(1), Call::Delay(d / 2), Call::Delay(d - 1)],
             Call::Call { target, entry, mode: CallMode::Timed(d) } => &[
                 Call::Call { target, entry, mode: CallMode::Simple },

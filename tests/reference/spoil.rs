@@ -42,7 +42,7 @@ fn with_length(random: &mut Random) -> Vec<u8> {
 /// A tag next to the known ones, with the fields of one that is known.
 fn with_tag(random: &mut Random) -> Vec<u8> {
     let tag = random.one_of(&[0, 0, 9, 9, 255]);
-    let call = random.one_of(&[Call::Create { priority: 5, entries: 2 }, Call::Tick]);
+    let call = random.one_of(&[Call::Create { priority: 5, entries: 2 }, Call::Tick, Call::Advance(2)]);
     [&[tag][..], &calls::record(&call)[1..]].concat()
 }
 

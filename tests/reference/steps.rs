@@ -3,7 +3,7 @@
 use crate::calls::{Call, CallMode, SelectMode};
 use crate::numbers::{refusal, result, ENTRIES, LEVELS, ROOM, TASKS};
 use crate::supervisor::{Answer, Place, Supervisor, Task, Timer};
-use std::collections::VecDeque;
+use std::collections::{BTreeSet, VecDeque};
 
 /// The items of the ended waits, written one behind the other to the lent room.
 struct Ended<'a> {
@@ -18,9 +18,6 @@ impl Ended<'_> {
         self.items += 1;
     }
 }
-
-/// Up to so many ticks ADVANCE ticks plainly.
-const PLAIN: u32 = 4096;
 
 /// Result, entry and partner of an accepted step.
 type Outcome = (u8, u8, u8);
@@ -240,25 +237,27 @@ impl Supervisor {
         (result::DONE, 0, 0)
     }
 
-    /// n ticks, one after the other, and the number of clock readings at which a wait ended. Of a long stretch the ticks
-    /// at which nobody can be due are left out.
+    /// n ticks, their lists joined; the entry is the number of different clock readings at which a wait ended.
+    /// A tick at which nobody is due moves the clock and nothing else, so those before the next due moment are one sum.
     fn advance(&mut self, n: u32, ended: &mut Ended) -> Outcome {
-        let mut readings = 0;
-        let mut rest = n;
-        while rest > 0 {
-            if n > PLAIN {
-                let quiet = self.delays.first().map_or(rest, |timer| rest.min(self.left(timer.due) - 1));
-                self.clock = self.clock.wrapping_add(quiet);
-                rest -= quiet;
-                if rest == 0 {
-                    break;
-                }
-            }
-            let before = ended.items;
+        let mut readings = BTreeSet::new();
+        let mut to_go = n;
+        while to_go > 0 {
+            let quiet = self.quiet_ticks().min(to_go - 1);
+            self.clock = self.clock.wrapping_add(quiet);
+            let listed = ended.items;
             self.tick(ended);
-            readings += u8::from(ended.items > before);
-            rest -= 1;
+            if ended.items > listed {
+                readings.insert(self.clock);
+            }
+            to_go -= quiet + 1;
         }
-        (result::DONE, readings, 0)
+        (result::DONE, readings.len() as u8, 0)
+    }
+
+    /// How many of the next ticks, at least, find nobody due: those before the soonest time; any number without a time.
+    fn quiet_ticks(&self) -> u32 {
+        let soonest = self.delays.iter().map(|timer| self.left(timer.due)).min();
+        soonest.map_or(u32::MAX, |left| left - 1)
     }
 }

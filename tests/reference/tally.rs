@@ -1,12 +1,13 @@
 //! How often each named event occurs in logs: what the generator is measured by.
 
+use crate::advances::{self, in_the_middle, Stretch};
 use crate::calls::{self, Call, CallMode, Fault, Read, SelectMode};
 use crate::logs::Log;
 use crate::numbers::{refusal, result, ROOM, TASKS};
 use crate::supervisor::{Answer, Place, Supervisor};
 use std::collections::BTreeMap;
 
-/// Every event that must occur, in the order of printing.
+/// Every event that must occur, in the order of printing; those of ADVANCE come behind.
 const EVENTS: &[&str] = &[
     "CREATE done",
     "CREATE that preempts",
@@ -60,15 +61,6 @@ const EVENTS: &[&str] = &[
     "TICK, waits of two kinds due",
     "TICK, equal times begun at different readings",
     "TICK that preempts",
-    "ADVANCE 0",
-    "ADVANCE, nothing due",
-    "ADVANCE over one due moment",
-    "ADVANCE over several due moments",
-    "ADVANCE over equal times",
-    "ADVANCE to exactly a due moment",
-    "ADVANCE that ends one tick before a due moment",
-    "ADVANCE round the clock, over a due moment",
-    "ADVANCE of the largest number",
     "TICK round the clock",
     "a wait that crosses the wrap ends",
     "an expired call leaves others queued before and behind it",
@@ -111,10 +103,14 @@ const EVENTS: &[&str] = &[
     "a log that ends well",
 ];
 
+fn events() -> impl Iterator<Item = &'static str> {
+    EVENTS.iter().copied().chain(advances::EVENTS.map(|(event, _)| event))
+}
+
 pub struct Tally {
     counts: BTreeMap<&'static str, usize>,
-    logs: usize,
-    calls: usize,
+    pub logs: usize,
+    pub calls: usize,
     /// The clock reading at which each task's wait began, and the wraps before it.
     begun: [(u32, usize); TASKS + 1],
     wraps: usize,
@@ -133,23 +129,14 @@ struct Seen<'a> {
 
 impl Tally {
     pub fn of(logs: &[Log]) -> Tally {
-        let counts = EVENTS.iter().map(|&event| (event, 0)).collect();
+        let counts = events().map(|event| (event, 0)).collect();
         let mut tally = Tally { counts, logs: logs.len(), calls: 0, begun: [(0, 0); TASKS + 1], wraps: 0 };
         logs.iter().for_each(|log| tally.log(log));
         tally
     }
 
-    /// A line for each event, most of them of the same width.
-    pub fn printed(&self) -> String {
-        let mut text = format!("{} logs, {} calls\n", self.logs, self.calls);
-        for event in EVENTS {
-            text += &format!("{:8} {event}\n", self.counts[event]);
-        }
-        text
-    }
-
-    pub fn never(&self) -> Vec<&'static str> {
-        EVENTS.iter().copied().filter(|event| self.counts[event] == 0).collect()
+    pub fn counts(&self) -> Vec<(&'static str, usize)> {
+        events().map(|event| (event, self.counts[event])).collect()
     }
 
     fn hit(&mut self, event: &'static str, when: bool) {
@@ -321,20 +308,11 @@ impl Tally {
     }
 
     fn advance(&mut self, seen: &Seen, n: u32) {
-        let ended = seen.items.len();
-        let readings = seen.answer.entry as usize;
-        let round = n > 0 && seen.after.clock <= seen.before.clock;
-        let last = seen.items.last().map(|item| seen.before.timer(item[0]).map_or(0, |timer| seen.before.left(timer.due)));
-        self.wraps += usize::from(round);
-        self.hit("ADVANCE 0", n == 0);
-        self.hit("ADVANCE, nothing due", n > 0 && ended == 0);
-        self.hit("ADVANCE over one due moment", readings == 1);
-        self.hit("ADVANCE over several due moments", readings > 1);
-        self.hit("ADVANCE over equal times", readings < ended);
-        self.hit("ADVANCE to exactly a due moment", last == Some(n));
-        self.hit("ADVANCE that ends one tick before a due moment", seen.before.delays.iter().any(|timer| Some(seen.before.left(timer.due)) == n.checked_add(1)));
-        self.hit("ADVANCE round the clock, over a due moment", round && ended > 0);
-        self.hit("ADVANCE of the largest number", n == u32::MAX);
+        let stretch = &Stretch::new(n, seen.before, seen.after, seen.answer, &seen.items);
+        self.wraps += usize::from(stretch.round());
+        for (event, occurs) in advances::EVENTS {
+            self.hit(event, occurs(stretch));
+        }
     }
 
     fn refused(&mut self, seen: &Seen) {
@@ -387,15 +365,4 @@ fn no_task(call: &Call) -> &'static str {
         Call::End => "NO_TASK: END",
         _ => "NO_TASK: FINISH",
     }
-}
-
-/// Whether the caller's queue has others before and behind it that stay.
-fn in_the_middle(before: &Supervisor, after: &Supervisor, caller: u8) -> bool {
-    let Place::Queued { target, entry } = before.task(caller).place else {
-        return false;
-    };
-    let queue = &before.task(target).queues[entry as usize - 1];
-    let stays = |task: &u8| after.task(*task).place == before.task(*task).place;
-    let at = queue.iter().position(|&task| task == caller).unwrap_or(0);
-    queue.iter().take(at).any(stays) && queue.iter().skip(at + 1).any(stays)
 }

@@ -1,5 +1,7 @@
 // The writer of call records.
 ghost use mathlib.Core.Path.{_≡_};
+ghost use mathlib.Core.List.{_∷_};
+ghost use Rattle.calls.specs.Duration.{bytesOf};
 ghost use Rattle.calls.specs.Record.{callMode, callTime, selectMode, selectTime, encode};
 ghost use Rattle.calls.specs.Writing.{writtenOf, roomAfter};
 use super::Call;
@@ -26,16 +28,59 @@ fn put(bytes: &[u8], room: &mut [u8]) -> Written
     }
 }
 
-fn put_delay(d: i32, room: &mut [u8]) -> Written
-    ensures { λ r. ⌜ r ≡ writtenOf (encode (Call.Delay d)) (now (room .entry)) ⌝ }
-    ensures { λ r. ⌜ now (room .exit) ≡ roomAfter (encode (Call.Delay d)) (now (room .entry)) ⌝ }
+// Puts a record whose only field is a number of four bytes.
+fn put_number(tag: u8, n: u32, room: &mut [u8]) -> Written
+    ensures { λ r. ⌜ r ≡ writtenOf (tag ∷ 0 ∷ 4 ∷ bytesOf n) (now (room .entry)) ⌝ }
+    ensures { λ r. ⌜ now (room .exit) ≡ roomAfter (tag ∷ 0 ∷ 4 ∷ bytesOf n) (now (room .entry)) ⌝ }
 {
-    let n = duration_bits(d);
     put(
         &[
-            2,
+            tag,
             0,
             4,
+            (n / 16777216) as u8,
+            (n / 65536 % 256) as u8,
+            (n / 256 % 256) as u8,
+            (n % 256) as u8,
+        ],
+        room,
+    )
+}
+
+// Puts the record of a CALL, by its mode's number and the bits of its duration.
+fn put_call(target: u8, entry: u8, m: u8, n: u32, room: &mut [u8]) -> Written
+    ensures { λ r. ⌜ r ≡ writtenOf (3 ∷ 0 ∷ 7 ∷ target ∷ entry ∷ m ∷ bytesOf n) (now (room .entry)) ⌝ }
+    ensures { λ r. ⌜ now (room .exit) ≡ roomAfter (3 ∷ 0 ∷ 7 ∷ target ∷ entry ∷ m ∷ bytesOf n) (now (room .entry)) ⌝ }
+{
+    put(
+        &[
+            3,
+            0,
+            7,
+            target,
+            entry,
+            m,
+            (n / 16777216) as u8,
+            (n / 65536 % 256) as u8,
+            (n / 256 % 256) as u8,
+            (n % 256) as u8,
+        ],
+        room,
+    )
+}
+
+// Puts the record of a SELECT, likewise.
+fn put_select(set: u8, m: u8, n: u32, room: &mut [u8]) -> Written
+    ensures { λ r. ⌜ r ≡ writtenOf (4 ∷ 0 ∷ 6 ∷ set ∷ m ∷ bytesOf n) (now (room .entry)) ⌝ }
+    ensures { λ r. ⌜ now (room .exit) ≡ roomAfter (4 ∷ 0 ∷ 6 ∷ set ∷ m ∷ bytesOf n) (now (room .entry)) ⌝ }
+{
+    put(
+        &[
+            4,
+            0,
+            6,
+            set,
+            m,
             (n / 16777216) as u8,
             (n / 65536 % 256) as u8,
             (n / 256 % 256) as u8,
@@ -85,69 +130,6 @@ fn select_time(mode: SelectMode) -> i32
     }
 }
 
-fn put_call(target: u8, entry: u8, mode: CallMode, room: &mut [u8]) -> Written
-    ensures { λ r. ⌜ r ≡ writtenOf (encode (Call.Call target entry mode)) (now (room .entry)) ⌝ }
-    ensures { λ r. ⌜ now (room .exit) ≡ roomAfter (encode (Call.Call target entry mode)) (now (room .entry)) ⌝ }
-{
-    let m = call_number(mode);
-    let n = duration_bits(call_time(mode));
-    put(
-        &[
-            3,
-            0,
-            7,
-            target,
-            entry,
-            m,
-            (n / 16777216) as u8,
-            (n / 65536 % 256) as u8,
-            (n / 256 % 256) as u8,
-            (n % 256) as u8,
-        ],
-        room,
-    )
-}
-
-fn put_select(set: u8, mode: SelectMode, room: &mut [u8]) -> Written
-    ensures { λ r. ⌜ r ≡ writtenOf (encode (Call.Select set mode)) (now (room .entry)) ⌝ }
-    ensures { λ r. ⌜ now (room .exit) ≡ roomAfter (encode (Call.Select set mode)) (now (room .entry)) ⌝ }
-{
-    let m = select_number(mode);
-    let n = duration_bits(select_time(mode));
-    put(
-        &[
-            4,
-            0,
-            6,
-            set,
-            m,
-            (n / 16777216) as u8,
-            (n / 65536 % 256) as u8,
-            (n / 256 % 256) as u8,
-            (n % 256) as u8,
-        ],
-        room,
-    )
-}
-
-fn put_advance(n: u32, room: &mut [u8]) -> Written
-    ensures { λ r. ⌜ r ≡ writtenOf (encode (Call.Advance n)) (now (room .entry)) ⌝ }
-    ensures { λ r. ⌜ now (room .exit) ≡ roomAfter (encode (Call.Advance n)) (now (room .entry)) ⌝ }
-{
-    put(
-        &[
-            8,
-            0,
-            4,
-            (n / 16777216) as u8,
-            (n / 65536 % 256) as u8,
-            (n / 256 % 256) as u8,
-            (n % 256) as u8,
-        ],
-        room,
-    )
-}
-
 // Writes the record of c at the start of room.
 pub fn write_record(c: Call, room: &mut [u8]) -> Written
     ensures { λ r. ⌜ r ≡ writtenOf (encode c) (now (room .entry)) ⌝ }
@@ -155,16 +137,22 @@ pub fn write_record(c: Call, room: &mut [u8]) -> Written
 {
     match c {
         Call::Create { priority, entries } => put(&[1, 0, 2, priority, entries], room),
-        Call::Delay(d) => put_delay(d, room),
+        Call::Delay(d) => put_number(2, duration_bits(d), room),
         Call::Call {
             target,
             entry,
             mode,
-        } => put_call(target, entry, mode, room),
-        Call::Select { open, mode } => put_select(open, mode, room),
+        } => {
+            let m = call_number(mode);
+            put_call(target, entry, m, duration_bits(call_time(mode)), room)
+        }
+        Call::Select { open, mode } => {
+            let m = select_number(mode);
+            put_select(open, m, duration_bits(select_time(mode)), room)
+        }
         Call::End => put(&[5, 0, 0], room),
         Call::Finish => put(&[6, 0, 0], room),
         Call::Tick => put(&[7, 0, 0], room),
-        Call::Advance(n) => put_advance(n, room),
+        Call::Advance(n) => put_number(8, n, room),
     }
 }

@@ -1,1 +1,2 @@
 pub mod RejoinLaws
+pub mod Unique

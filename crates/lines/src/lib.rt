@@ -7,6 +7,7 @@ ghost use lib.Dec.{ltb};
 ghost use lib.ListN.{length, set};
 ghost use Rattle.lists.specs.Lists.{if_then_else_, remove, rejoin, first, last};
 ghost use Rattle.lists.specs.Line.{line, pad, insertAt};
+ghost use Rattle.lists.specs.Marks.{noMarks, markOf, marked, withMark};
 
 // How many stand in the line.
 pub fn len(a: [u8; 31]) -> usize
@@ -144,4 +145,47 @@ pub fn last_of(a: [u8; 31]) -> u8
         return 0;
     }
     a[n - 1]
+}
+
+// The mark of t; 0 for a number that has none.
+fn mark_of(marks: [u8; 32], t: u8) -> u8
+    ensures { λ r. ⌜ r ≡ markOf marks t ⌝ }
+{
+    if t < 32 { marks[t as usize] } else { 0 }
+}
+
+// Marks with a 1 for each of the line.
+pub fn marks_of(a: [u8; 31]) -> [u8; 32]
+    ensures { λ r. ⌜ r ≡ marked (λ _. 1) (line a) noMarks ⌝ }
+{
+    let mut r = [0u8; 32];
+    for i in 0..31 {
+        let t = a[i];
+        if t == 0 {
+            return r;
+        }
+        if t < 32 {
+            r[t as usize] = 1;
+        }
+    }
+    r
+}
+
+// Those of the line with the mark k.
+pub fn picked(a: [u8; 31], marks: [u8; 32], k: u8) -> [u8; 31]
+    ensures { λ r. ⌜ r ≡ pad (withMark marks k (line a)) ⌝ }
+{
+    let mut r = [0u8; 31];
+    let mut j: usize = 0;
+    for i in 0..31 {
+        let x = a[i];
+        if x == 0 {
+            return r;
+        }
+        if mark_of(marks, x) == k {
+            r[j] = x;
+            j += 1;
+        }
+    }
+    r
 }

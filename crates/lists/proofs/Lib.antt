@@ -3,3 +3,4 @@ pub mod Tests
 pub mod ListLaws
 pub mod LineLaws
 pub mod Turns
+pub mod MarkLaws

@@ -17,7 +17,7 @@ use Rattle.script.specs.declared.Line.the-variants as L
 use Rattle.script.proofs.Back.{guess-back}
 use Rattle.script.proofs.Shape.{words-back}
 use Rattle.script.proofs.print.put_call.Reads as call
-use Rattle.script.proofs.print.put_record.Reads as record′
+use Rattle.script.proofs.print.put_record.Reads as recorded
 use Rattle.script.proofs.reader.read_line.Reads as line
 
 -- a call's text is read as that call
@@ -50,5 +50,5 @@ line-once κs x r r′ y y′ p q = said-once _ r r′ p q
 pub call-once : (κs : _) (x : _) (r r′ : _) (y y′ : _) → call.Post κs x r y → call.Post κs x r′ y′ → (r ≡ r′) × (now (y .1 .0) ≡ now (y′ .1 .0))
 call-once κs x r r′ y y′ p q = (p .placed ∙ sym (q .placed), p .written ∙ sym (q .written))
 
-pub record-once : (κs : _) (x : _) (r r′ : _) (y y′ : _) → record′.Post κs x r y → record′.Post κs x r′ y′ → (r ≡ r′) × (now (y .1 .0) ≡ now (y′ .1 .0))
-record-once κs x r r′ y y′ p q = (p .placed ∙ sym (q .placed), p .written ∙ sym (q .written))
+pub recorded-once : (κs : _) (x : _) (r r′ : _) (y y′ : _) → recorded.Post κs x r y → recorded.Post κs x r′ y′ → (r ≡ r′) × (now (y .1 .0) ≡ now (y′ .1 .0))
+recorded-once κs x r r′ y y′ p q = (p .placed ∙ sym (q .placed), p .written ∙ sym (q .written))

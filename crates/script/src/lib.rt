@@ -1,7 +1,7 @@
 // Calls as lines of text, in the words of document 01: a call's text, and the call that a line says.
 mod guess;
-mod print;
-mod reader;
+pub mod print;
+pub mod reader;
 
 use calls::Call;
 pub use print::put_call;

@@ -1,3 +1,2 @@
-// A log on its way through the supervisor, turn by turn: what stepper and replay share.
-pub mod runs;
+// A log on its way through the supervisor, turn by turn.
 pub mod turns;

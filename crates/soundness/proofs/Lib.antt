@@ -3,3 +3,4 @@ mod TaskLaws
 mod Turns
 mod LineLaws
 mod WholeLaws
+pub mod Unique

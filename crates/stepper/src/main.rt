@@ -3,5 +3,5 @@ fn main() {
     let mut buf = io::large_buffer();
     let mut out = io::large_buffer();
     let mut room = [0u8; 124];
-    session::runs::run_input(0, &mut buf, &mut room, &mut out);
+    logs::run_input(0, &mut buf, &mut room, &mut out);
 }

@@ -1,1 +1,3 @@
+mod Shifts
+mod Growing
 pub mod Unique

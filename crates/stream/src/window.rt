@@ -1,9 +1,9 @@
 // The window on the input: what has been read of it and not yet been taken stands in a buffer.
 // A window that reaches outside its buffer is cut to it, so each function takes every input.
-ghost use Prim.Native.Nat.{_≤_};
+ghost use Prim.Native.Nat.{_≤_, _-_};
 ghost use mathlib.Core.Path.{_≡_};
 ghost use lib.ListN.{length};
-ghost use Rattle.stream.specs.Windows.{noWindow};
+ghost use Rattle.stream.specs.Windows.{noWindow, shifted, Grown};
 use libc::STDIN_FILENO;
 use text::least;
 
@@ -28,7 +28,8 @@ pub fn unread() -> Window
 // Moves what stands from `at` to `end` to the front, and answers how much that is.
 fn shift(buf: &mut [u8], at: usize, end: usize) -> usize
     requires { ⌜ (at ≤ end) × (end ≤ length (now buf)) ⌝ }
-    ensures { λ r. ⌜ r ≤ length (now (buf .entry)) ⌝ }
+    ensures { λ r. ⌜ (r ≡ end - at) × (r ≤ length (now (buf .entry))) ⌝ }
+    ensures { λ r. ⌜ now (buf .exit) ≡ shifted (now (buf .entry)) at end ⌝ }
 {
     let n = end - at;
     let mut i: usize = 0;
@@ -40,7 +41,9 @@ fn shift(buf: &mut [u8], at: usize, end: usize) -> usize
 }
 
 // The window after one read more. A read that fails ends the input.
-pub fn refilled(w: Window, buf: &mut [u8]) -> Window {
+pub fn refilled(w: Window, buf: &mut [u8]) -> Window
+    ensures { λ r. ⌜ Grown w (now (buf .entry)) r (now (buf .exit)) ⌝ }
+{
     let end = least(w.end, buf.len());
     let at = least(w.at, end);
     let n = shift(buf, at, end);
@@ -55,7 +58,9 @@ pub fn refilled(w: Window, buf: &mut [u8]) -> Window {
 }
 
 // The window with a whole head of eight bytes in it, where the input has one.
-pub fn headed(w: Window, buf: &mut [u8]) -> Window {
+pub fn headed(w: Window, buf: &mut [u8]) -> Window
+    ensures { λ r. ⌜ Grown w (now (buf .entry)) r (now (buf .exit)) ⌝ }
+{
     let mut n = w;
     let mut i: usize = 0;
     while i < 8 {
@@ -66,7 +71,9 @@ pub fn headed(w: Window, buf: &mut [u8]) -> Window {
 }
 
 // The window after one read more, where it has less than a head and more bytes may come.
-fn topped(w: Window, buf: &mut [u8]) -> Window {
+fn topped(w: Window, buf: &mut [u8]) -> Window
+    ensures { λ r. ⌜ Grown w (now (buf .entry)) r (now (buf .exit)) ⌝ }
+{
     let end = least(w.end, buf.len());
     let at = least(w.at, end);
     if w.last {

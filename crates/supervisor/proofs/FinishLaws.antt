@@ -2,32 +2,37 @@
 -- Assumes nothing.
 use Prim.Native.Nat.{ℕ, zero, suc, _+_, _-_, _≤_, _<_}
 use mathlib.Core.Path.{_≡_, refl, sym, ap, _∙_}
-use mathlib.Core.List.{List, [], _∷_, _++_, map, append-assoc, append-nil, tail-eq-of-cons-eq}
+use mathlib.Core.List.{List, [], _∷_, _++_, map, append-assoc, append-nil, tail-eq-of-cons-eq, nil≢cons}
 use native.Mathlib.Omega.{arith}
 use native.Mathlib.Numerals.{add-one}
-use lib.Dec.{ltb}
-use lib.ListN.{length}
-use borrow.Author.Tests.{ltb-true, lt-ltb, le-ltb, ltb-false}
+use lib.Dec.{eqb, ltb}
+use lib.ListN.{length, List·getD-eq-default}
+use borrow.Author.Tests.{ltb-true, lt-ltb, le-ltb, ltb-false, ne-eqb}
 use Rattle.lists.proofs.LineLaws.{line-line, line-append, line-pad}
 use Rattle.lists.specs.Line.{line, pad, padTo}
-use Rattle.lists.specs.Lists.{count}
+use Rattle.lists.specs.Lists.{if_then_else_, count, first}
+use Rattle.lists.specs.Marks.{noMarks, markOf, marked, withMark}
+use Rattle.lists.proofs.MarkLaws.{filter-same, mark-in, marked-length}
 use Rattle.rules.specs.State.{State, move, running, queue, heldBy, wakeAll}
 use Rattle.rules.specs.Step.{refused, took, NO-TASK, item, DONE, takeCall, STILL-SERVING, queuedFrom, queuedOn, finish, failed}
 use Rattle.rules.specs.Whole.{pack}
 use Rattle.rules.specs.declared.Supervisor.{Supervisor}
+use Rattle.rules.specs.declared.Task.{Task}
 use Rattle.rules.specs.declared.Place.the-variants.{Completed}
 use Rattle.rules.specs.declared.Timer.the-variants.{Off}
 use Rattle.calls.specs.declared.Call.the-variants.{Finish}
 use Rattle.rules.proofs.Invariant.{Sound}
-use Rattle.rules.proofs.Members.{queued-there}
+use Rattle.rules.proofs.Members.{queued-there, nth-beyond}
 use Rattle.lists.proofs.ListLaws.{by-bool}
 use Rattle.rules.proofs.StepSound.{of-queuedFrom, wakeAll-sound, wakeAll-length}
 use Rattle.rules.proofs.WholeLaws.{at-most, no-zero}
 use Rattle.table.specs.Moved.{movedOf}
-use Rattle.supervisor.specs.Taken.{AllThere}
+use Rattle.supervisor.specs.Lowest.{openCall, callOf}
+use Rattle.supervisor.specs.Taken.{AllThere, EachOnce}
 use Rattle.rules.proofs.Fate.{queued-once}
 use Rattle.supervisor.proofs.MoveLaws.{moved-state}
 use Rattle.supervisor.proofs.AnswerLaws.{no-runner, of-runner}
+use Rattle.supervisor.proofs.LowestLaws.{at-open, all-open}
 
 -- ---- a line that is laid out, read back and added to
 
@@ -45,26 +50,64 @@ pad-again xs ys h = padTo-again 31 xs ys h
 pub pad-none : (xs : List ℕ) → pad (xs ++ []) ≡ pad xs
 pad-none xs = ap pad (append-nil xs)
 
-module _ (v : State) (t e : ℕ) (r n q : List ℕ) (en : n ≡ pad (line r ++ line q)) (eq : line q ≡ queue v t e) (low : e < 9) where
+-- the queues of the entries e, e + 1, .., k of them, by the marks of the callers
+pub byMarks : List ℕ → List ℕ → ℕ → ℕ → List ℕ
+byMarks m l zero e = []
+byMarks m l (suc k) e = withMark m e l ++ byMarks m l k (suc e)
+
+-- line q behind line r, also where q is empty
+behind-is : (r q n : List ℕ) → r ≡ pad (line r) → n ≡ (if eqb (first (line q)) 0 then r else pad (line r ++ line q)) → n ≡ pad (line r ++ line q)
+behind-is r q n er en = en ∙ go (line q) (line-line q)
+  where
+    go : (l : List ℕ) → line l ≡ l → (if eqb (first l) 0 then r else pad (line r ++ l)) ≡ pad (line r ++ l)
+    go [] h = er ∙ sym (pad-none (line r))
+    go (zero ∷ xs) h = absurd (nil≢cons h)
+    go (suc x ∷ xs) h = rw (ne-eqb (suc x) 0 (λ z. omega arith))
+
+module _ (m l : List ℕ) (e : ℕ) (r n q : List ℕ) (er : r ≡ pad (line r)) (en : n ≡ (if eqb (first (line q)) 0 then r else pad (line r ++ line q))) (eq : line q ≡ withMark m e l) (low : e < 9) where
+  here : n ≡ pad (line r ++ line q)
+  here = behind-is r q n er en
+
   none : line (line r ++ line q) ≡ line r ++ line q
   none = line-append (line r) (line q) (line-line r) (line-line q)
 
   pub queued-laid : n ≡ pad (line n)
-  queued-laid = en ∙ sym (pad-none (line r ++ line q)) ∙ sym (pad-again (line r ++ line q) [] none) ∙ pad-none (line (pad (line r ++ line q))) ∙ ap (λ (x : List ℕ). pad (line x)) (sym en)
+  queued-laid = here ∙ sym (pad-none (line r ++ line q)) ∙ sym (pad-again (line r ++ line q) [] none) ∙ pad-none (line (pad (line r ++ line q))) ∙ ap (λ (x : List ℕ). pad (line x)) (sym here)
 
-  pub queued-turn : pad (line r ++ queuedFrom v t (9 - e) e) ≡ pad (line n ++ queuedFrom v t (9 - (e + 1)) (e + 1))
+  pub queued-turn : pad (line r ++ byMarks m l (9 - e) e) ≡ pad (line n ++ byMarks m l (9 - (e + 1)) (e + 1))
+  unfolding byMarks
   queued-turn =
       let k : 9 - e ≡ suc (9 - (e + 1)) = omega arith in
-      let m : List ℕ = queuedFrom v t (9 - (e + 1)) (suc e) in
-      ap (λ (j : ℕ). pad (line r ++ queuedFrom v t j e)) k
-      ∙ ap (λ (x : List ℕ). pad (line r ++ (x ++ m))) (sym eq)
-      ∙ ap pad (sym (append-assoc (line r) (line q) m))
-      ∙ sym (pad-again (line r ++ line q) m none)
-      ∙ ap (λ (x : List ℕ). pad (line x ++ m)) (sym en)
-      ∙ ap (λ (j : ℕ). pad (line n ++ queuedFrom v t (9 - (e + 1)) j)) (sym (add-one e))
+      let rest : List ℕ = byMarks m l (9 - (e + 1)) (suc e) in
+      ap (λ (j : ℕ). pad (line r ++ byMarks m l j e)) k
+      ∙ ap (λ (x : List ℕ). pad (line r ++ (x ++ rest))) (sym eq)
+      ∙ ap pad (sym (append-assoc (line r) (line q) rest))
+      ∙ sym (pad-again (line r ++ line q) rest none)
+      ∙ ap (λ (x : List ℕ). pad (line x ++ rest)) (sym here)
+      ∙ ap (λ (j : ℕ). pad (line n ++ byMarks m l (9 - (e + 1)) j)) (sym (add-one e))
 
-pub queued-end : (v : State) (t e : ℕ) (r : List ℕ) → 9 ≤ e → r ≡ pad (line r) → pad (line r ++ queuedFrom v t (9 - e) e) ≡ r
-queued-end v t e r h q = let k : 9 - e ≡ 0 = omega arith in ap (λ (j : ℕ). pad (line r ++ queuedFrom v t j e)) k ∙ pad-none (line r) ∙ sym q
+pub queued-end : (m l : List ℕ) (e : ℕ) (r : List ℕ) → 9 ≤ e → r ≡ pad (line r) → pad (line r ++ byMarks m l (9 - e) e) ≡ r
+unfolding byMarks
+queued-end m l e r h q = let k : 9 - e ≡ 0 = omega arith in ap (λ (j : ℕ). pad (line r ++ byMarks m l j e)) k ∙ pad-none (line r) ∙ sym q
+
+-- the callers that are marked with the entry of task t that they have called
+module _ (v : State) (t : ℕ) (m : List ℕ) (few : length (v .tasks) ≤ 31) (em : m ≡ marked (callOf v t 255) (v .callers) noMarks) where
+  mark-is : (e x : ℕ) → 1 ≤ e → e ≤ 8 → 0 < count x (v .callers) → eqb (markOf m x) e ≡ eqb (callOf v t 255 x) e
+  mark-is e x lo hi k =
+      by-bool (ltb x 32)
+      (λ b. rw (em, mark-in (callOf v t 255) (v .callers) noMarks x k (ltb-true x 32 b)))
+      (λ b.
+      let far : 32 ≤ x = ltb-false x 32 b in
+      let none : markOf m x ≡ 0 = rw em (List·getD-eq-default (marked (callOf v t 255) (v .callers) noMarks) 0 (omega (arith, far, marked-length (callOf v t 255) (v .callers) noMarks))) in
+      let blank : callOf v t 255 x ≡ 9 = ap (λ (y : Task). openCall t 255 (y .place)) (nth-beyond (v .tasks) x (omega arith)) in
+      rw (none, blank, ne-eqb 0 e (λ z. omega arith), ne-eqb 9 e (λ z. omega arith)))
+
+  pub marks-queued : (k e : ℕ) → 1 ≤ e → e + k ≤ 9 → byMarks m (v .callers) k e ≡ queuedFrom v t k e
+  unfolding byMarks
+  marks-queued zero e lo hi = refl
+  marks-queued (suc k) e lo hi =
+      let q : withMark m e (v .callers) ≡ queue v t e = filter-same _ _ (v .callers) (λ x j. mark-is e x lo (omega arith) j) ∙ at-open v t 255 e lo (omega arith) (all-open e lo (omega arith)) in
+      λ i. q i ++ marks-queued k (suc e) (omega arith) (omega arith) i
 
 -- ---- the call
 
@@ -76,6 +119,9 @@ module _ (v : State) (t : ℕ) where
   pub queued-single : (u : ℕ) → Sound v → count u (queuedOn v t) ≤ 1
   unfolding queuedOn
   queued-single u h = queued-once v u t 8 1 h
+
+  pub queued-each : Sound v → EachOnce v (queuedOn v t)
+  queued-each h = (queued-all, λ u. queued-single u h)
 
   pub queued-line : (l : List ℕ) → Sound v → l ≡ pad (queuedOn v t) → line l ≡ queuedOn v t
   queued-line l h e = ap line e ∙ line-pad (queuedOn v t) (no-zero (queuedOn v t) nobody) (omega (arith, h .few, at-most (length (v .tasks)) (queuedOn v t) (λ u. queued-single u h) queued-all))

@@ -9,6 +9,7 @@ use lib.Dec.{eqb, ltb, leb}
 use lib.ListN.{length}
 use borrow.Author.Tests.{eq-eqb, ne-eqb, eqb-true, lt-ltb, le-leb, ltb-true, ltb-false}
 use Rattle.lists.specs.Lists.{if_then_else_, filter, first}
+use Rattle.lists.proofs.MarkLaws.{filter-same}
 use Rattle.lists.proofs.ListLaws.{by-bool, by-eq}
 use Rattle.lists.proofs.Tests.{and-first, and-second}
 use Rattle.rules.specs.State.{State, placeOf, isQueued, partnerOf, entryOf, opens, waitsOn, queue}
@@ -69,10 +70,6 @@ module _ (f : ℕ → ℕ) where
 
 -- ---- the callers of open entries
 
-filter-ext : (f g : ℕ → Bool) (l : List ℕ) → ((c : ℕ) → f c ≡ g c) → filter f l ≡ filter g l
-filter-ext f g [] h = refl
-filter-ext f g (c ∷ l) h = rw (h c, filter-ext f g l h)
-
 filter-none : (l : List ℕ) → filter (λ c. false) l ≡ []
 filter-none [] = refl
 filter-none (c ∷ l) = filter-none l
@@ -105,12 +102,12 @@ module _ (v : State) (t o : ℕ) where
   abbrev test : ℕ → Bool
   test e = opens o e && ltb 0 (length (queue v t e))
 
-  at-open : (e : ℕ) → 1 ≤ e → e ≤ 8 → opens o e ≡ true → at (callOf v t o) e (v .callers) ≡ queue v t e
-  at-open e lo hi q = filter-ext (λ c. eqb (callOf v t o c) e) (waitsOn v t e) (v .callers) (λ c. call-is (isQueued (placeOf v c) && eqb (partnerOf (placeOf v c)) t) o (entryOf (placeOf v c)) e lo hi ∙ rw q)
+  pub at-open : (e : ℕ) → 1 ≤ e → e ≤ 8 → opens o e ≡ true → at (callOf v t o) e (v .callers) ≡ queue v t e
+  at-open e lo hi q = filter-same (λ c. eqb (callOf v t o c) e) (waitsOn v t e) (v .callers) (λ c k. call-is (isQueued (placeOf v c) && eqb (partnerOf (placeOf v c)) t) o (entryOf (placeOf v c)) e lo hi ∙ rw q)
 
   at-shut : (e : ℕ) → 1 ≤ e → e ≤ 8 → opens o e ≡ false → at (callOf v t o) e (v .callers) ≡ []
   at-shut e lo hi q =
-      filter-ext (λ c. eqb (callOf v t o c) e) (λ c. false) (v .callers) (λ c. call-is (isQueued (placeOf v c) && eqb (partnerOf (placeOf v c)) t) o (entryOf (placeOf v c)) e lo hi ∙ rw q)
+      filter-same (λ c. eqb (callOf v t o c) e) (λ c. false) (v .callers) (λ c k. call-is (isQueued (placeOf v c) && eqb (partnerOf (placeOf v c)) t) o (entryOf (placeOf v c)) e lo hi ∙ rw q)
       ∙ filter-none (v .callers)
 
   test-no : (e : ℕ) → 1 ≤ e → e ≤ 8 → at (callOf v t o) e (v .callers) ≡ [] → test e ≡ false
@@ -166,7 +163,7 @@ module _ (v : State) (t o : ℕ) where
 
 -- ---- where no entry at all has a caller, nobody is queued
 
-all-open : (e : ℕ) → 1 ≤ e → e ≤ 8 → opens 255 e ≡ true
+pub all-open : (e : ℕ) → 1 ≤ e → e ≤ 8 → opens 255 e ≡ true
 all-open zero lo hi = absurd (omega arith)
 all-open (suc zero) lo hi = refl
 all-open (suc (suc zero)) lo hi = refl

@@ -28,7 +28,7 @@ use Rattle.supervisor.specs.Taken.{Stands}
 pub stands-pack : (st : State) → Sound st → Stands (pack st)
 stands-pack st h = record { packs = ap pack (sym (view-pack st h)); sound = subst Sound (sym (view-pack st h)) h }
 
-set-first : (xs ys : List Task) (t : ℕ) (x : Task) → t ≤ length xs → setNth (xs ++ ys) t x ≡ setNth xs t x ++ ys
+pub set-first : (xs ys : List Task) (t : ℕ) (x : Task) → t ≤ length xs → setNth (xs ++ ys) t x ≡ setNth xs t x ++ ys
 set-first xs ys zero x h = refl
 set-first xs ys (suc t) x h = set-append-left xs ys t x (omega arith)
 

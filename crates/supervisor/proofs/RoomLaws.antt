@@ -1,28 +1,19 @@
--- The lent room, and the loop that wakes a list of tasks with an item for each.
+-- The lent room, and the loop that writes an item for each of a list.
 -- Assumes nothing.
 use Prim.Native.Nat.{ℕ, suc, _+_, _-_, _*_, _≤_}
-use mathlib.Core.Path.{_≡_, refl, sym, ap, subst, _∙_}
+use mathlib.Core.Path.{_≡_, refl, sym, ap, _∙_}
 use mathlib.Core.Bool.{Bool}
 use mathlib.Core.List.{List, [], _∷_, _++_, map, append-assoc, append-nil}
 use native.Mathlib.Omega.{arith}
 use lib.ListN.{length, set, take, drop, take-append-drop, length-take, length-drop, length-append, drop-of-length-le}
 use lib.Seq.{take-at, drop-at, take-all}
 use borrow.Rule.Slice.PartMut.{putMid}
-use borrow.Author.Tests.{eq-eqb}
 use Rattle.lists.specs.Line.{line}
 use Rattle.lists.proofs.LineLaws.{length-line}
-use Rattle.rules.specs.State.{State, wake, wakeAll}
+use Rattle.rules.specs.State.{State}
 use Rattle.rules.specs.Step.{bytes, roomAfter}
-use Rattle.rules.specs.Whole.{view, pack}
 use Rattle.rules.specs.declared.Item.{Item}
-use Rattle.rules.specs.declared.Supervisor.{Supervisor}
-use Rattle.rules.specs.declared.Place.the-variants.{Ready}
-use Rattle.rules.specs.declared.Timer.the-variants.{Off}
-use Rattle.rules.proofs.MoveLaws.{wake-sound, length-move}
-use Rattle.rules.proofs.WholeLaws.{view-pack}
-use Rattle.table.specs.Moved.{movedOf}
-use Rattle.supervisor.specs.Taken.{Stands, itemOf, AllThere, WokenAs}
-use Rattle.supervisor.proofs.MoveLaws.{stands-pack, moved-packed}
+use Rattle.supervisor.specs.Taken.{itemOf}
 
 -- 124 bytes are room for what stands in an array
 pub in-room : (a : List ℕ) (n : ℕ) → length a ≡ 31 → 124 ≤ n → length (line a) * 4 ≤ n
@@ -101,49 +92,34 @@ from-append (w ∷ is) js room k h =
     ∙ ap (λ (r : List ℕ). roomFrom r (k + 4 + length is * 4) js) (sym (put-on room k w fit is))
     ∙ ap (λ (j : ℕ). roomFrom (roomFrom room k (w ∷ is)) j js) z
 
--- i of the list are woken, their items are written, and the rest is to do
-pub record Going (v : State) (failed : Bool) (l : List ℕ) (room₀ : List ℕ) (n : Supervisor) (room : List ℕ) (i : ℕ) (rest : List ℕ) : Type 0 where
-  pub stands : Stands n
-  pub state : wakeAll v l ≡ wakeAll (view n) rest
+-- the items of the first i of the list are written, and the rest is to do
+pub record Going (v : State) (failed : Bool) (l : List ℕ) (room₀ : List ℕ) (room : List ℕ) (i : ℕ) (rest : List ℕ) : Type 0 where
   pub number : length l ≡ i + length rest
-  pub there : AllThere (view n) rest
   pub long : length room ≡ length room₀
   pub written : roomAfter room₀ (map (itemOf v failed) l) ≡ roomFrom room (i * 4) (map (itemOf v failed) rest)
 
 module _ (v : State) (failed : Bool) (l : List ℕ) (room₀ : List ℕ) where
-  pub going-start : (s : Supervisor) → view s ≡ v → Stands s → AllThere (view s) l → Going v failed l room₀ s room₀ 0 l
+  pub going-start : Going v failed l room₀ room₀ 0 l
   unfolding roomFrom
-  going-start s e h k = record { stands = h; state = ap (λ (z : State). wakeAll z l) (sym e); number = omega arith; there = k; long = refl; written = refl }
+  going-start = record { number = omega arith; long = refl; written = refl }
 
-  pub going-end : (n : Supervisor) (room : List ℕ) (i : ℕ) (rest : List ℕ) → Going v failed l room₀ n room i rest → rest ≡ [] → WokenAs v failed l n i room₀ room
-  going-end n room i rest g e =
-      let z : length rest ≡ 0 = ap length e in
-      record {
-        state = g .stands .packs ∙ ap pack (sym (g .state ∙ ap (wakeAll (view n)) e));
-        number = omega (arith, g .number);
-        written = sym (g .written ∙ ap (λ (r : List ℕ). roomFrom room (i * 4) (map (itemOf v failed) r)) e ∙ from-none room (i * 4));
-      }
+  pub going-end : (room : List ℕ) (i : ℕ) (rest : List ℕ) → Going v failed l room₀ room i rest → rest ≡ [] → (i ≡ length l) × (room ≡ roomAfter room₀ (map (itemOf v failed) l))
+  going-end room i rest g e =
+      let z : length rest ≡ 0 = ap length e in (
+        omega (arith, g .number),
+        sym (g .written ∙ ap (λ (r : List ℕ). roomFrom room (i * 4) (map (itemOf v failed) r)) e ∙ from-none room (i * 4)),
+      )
 
-  pub going-on : (n m : Supervisor) (room last : List ℕ) (i t : ℕ) (rest ys : List ℕ) (w : Item) → Going v failed l room₀ n room i rest → rest ≡ t ∷ ys → w ≡ itemOf v failed t
-      → last ≡ roomAfter (take (length room - i * 4) (drop (i * 4) room)) (w ∷ []) → m ≡ movedOf n t Ready Off → length l * 4 ≤ length room₀
-      → Going v failed l room₀ m (putMid (i * 4) (length room - i * 4) room last) (i + 1) ys
-  going-on n m room last i t rest ys w g q ew el em hr =
+  pub going-on : (room last : List ℕ) (i t : ℕ) (rest ys : List ℕ) (w : Item) → Going v failed l room₀ room i rest → rest ≡ t ∷ ys → w ≡ itemOf v failed t
+      → last ≡ roomAfter (take (length room - i * 4) (drop (i * 4) room)) (w ∷ []) → length l * 4 ≤ length room₀
+      → Going v failed l room₀ (putMid (i * 4) (length room - i * 4) room last) (i + 1) ys
+  going-on room last i t rest ys w g q ew el hr =
       let len = g .long in
       let fit : i * 4 + 4 ≤ length room = omega (arith, g .number, ap length q, len, hr) in
-      let here = g .there t (rw (q, eq-eqb t t refl) (omega arith)) in
-      let st = wake (view n) t in
-      let snd = wake-sound (view n) t (here .0) (here .1) (g .stands .sound) in
-      let e : m ≡ pack st = em ∙ moved-packed n t Ready Off (g .stands) (here .1) in
-      let ve : view m ≡ st = ap view e ∙ view-pack st snd in
       let k : (i + 1) * 4 ≡ i * 4 + 4 = omega arith in
       let p = put-part room last (i * 4) w (omega arith) el in
       record {
-        stands = subst Stands (sym e) (stands-pack st snd);
-        state = g .state ∙ ap (wakeAll (view n)) q ∙ ap (λ (z : State). wakeAll z ys) (sym ve);
         number = omega (arith, g .number, ap length q);
-        there = λ u j.
-            let a = g .there u (rw q (omega arith)) in
-            (a .0, subst (λ (z : State). u ≤ length (z .tasks)) (sym ve) (omega (arith, a .1, length-move (view n) t Ready Off)));
         long = ap length p ∙ put-length room (i * 4) w (omega arith) ∙ len;
         written = g .written ∙ ap (λ (r : List ℕ). roomFrom room (i * 4) (map (itemOf v failed) r)) q
             ∙ ap (λ (x : Item). roomFrom room (i * 4) (x ∷ map (itemOf v failed) ys)) (sym ew)

@@ -1,14 +1,12 @@
 -- TICK.
 -- Assumes nothing.
 use Prim.Native.Nat.{ℕ, _*_, _≤_}
-use mathlib.Core.Path.{_≡_, refl, sym, ap, _∙_}
+use mathlib.Core.Path.{_≡_, sym, ap, _∙_}
 use mathlib.Core.Bool.{false}
-use mathlib.Core.List.{List, [], _∷_, map}
+use mathlib.Core.List.{List, map}
 use native.Mathlib.Omega.{arith}
-use borrow.Author.Tests.{eq-eqb}
-use Rattle.lists.specs.Lists.{first}
 use lib.ListN.{length, length-map}
-use Rattle.rules.specs.State.{State, after, timerOf, wakeAll, setClock}
+use Rattle.rules.specs.State.{State, after, timerOf, hasTime, wakeAll, setClock}
 use Rattle.rules.specs.Step.{took, item, DONE, takeCall, isDue, dueAt, expired, tickTo, endsAt, roomAfter}
 use Rattle.rules.specs.Whole.{pack}
 use Rattle.rules.specs.declared.Supervisor.{Supervisor}
@@ -16,12 +14,18 @@ use Rattle.calls.specs.declared.Call.the-variants.{Tick}
 use Rattle.rules.proofs.Members.{in-filter, timed-there}
 use Rattle.rules.proofs.StepSound.{due-is}
 use Rattle.lists.proofs.LineLaws.{length-filter}
+use Rattle.lists.proofs.ListLaws.{count-filter-le}
+use Rattle.rules.proofs.Passes.{bit-le}
 use Rattle.rules.proofs.Invariant.{Sound}
 use Rattle.rules.proofs.WholeLaws.{delays-fit}
-use Rattle.supervisor.specs.Taken.{AllThere, WokenAs, PassedTo}
+use Rattle.supervisor.specs.Taken.{AllThere, EachOnce, WokenAs, PassedTo}
 
 pub due-all : (v : State) (now : ℕ) → AllThere v (dueAt v now)
 due-all v now u k = let w = due-is now (timerOf v u) (in-filter (λ t. isDue now (timerOf v t)) u (v .delays) k .0) in timed-there v u (rw w)
+
+pub due-each : (v : State) (now : ℕ) → Sound v → EachOnce v (dueAt v now)
+due-each v now h =
+    (due-all v now, λ u. omega (arith, count-filter-le (λ t. isDue now (timerOf v t)) u (v .delays), h .delays u, bit-le (hasTime (timerOf v u))))
 
 pub clock-packed : (n : Supervisor) (st : State) (now : ℕ) → n ≡ pack st
     → _≡_ {A = Supervisor} (record { clock = now; created = n .created; tasks = n .tasks; ready = n .ready; callers = n .callers; held = n .held; delays = n .delays }) (pack (setClock st now))
@@ -50,20 +54,3 @@ due-room v now n h k = times (length (endsAt v now)) (few-due v now h)
   where
     times : (l : ℕ) → l ≤ 31 → l * 4 ≤ n
     times l j = omega (arith, j, k)
-
--- nobody is due
-pub due-none : (v : State) (now : ℕ) → first (dueAt v now) ≡ 0 → dueAt v now ≡ []
-due-none v now z = go (dueAt v now) (due-all v now) z
-  where
-    go : (l : List ℕ) → AllThere v l → first l ≡ 0 → l ≡ []
-    go [] h z = refl
-    go (x ∷ xs) h z = absurd (omega (arith, h x (rw (eq-eqb x x refl) (omega arith)) .0))
-
--- nobody is due: the clock alone goes on
-pub passed-still : (v : State) (s : Supervisor) (now : ℕ) (room : List ℕ) → s ≡ pack v → dueAt v now ≡ []
-    → PassedTo v now (record { clock = now; created = s .created; tasks = s .tasks; ready = s .ready; callers = s .callers; held = s .held; delays = s .delays }) 0 room room
-passed-still v s now room e z = record {
-  state = clock-packed s v now e ∙ ap (λ (l : List ℕ). pack (setClock (wakeAll v l) now)) (sym z);
-  number = ap (λ (l : List ℕ). length (map (expired v) l)) (sym z);
-  written = ap (λ (l : List ℕ). roomAfter room (map (expired v) l)) (sym z);
-}

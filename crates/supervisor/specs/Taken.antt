@@ -45,6 +45,10 @@ itemOf s b c = itemAt b c (placeOf s c)
 abbrev pub AllThere : State → List ℕ → Type 0
 AllThere s l = (u : ℕ) → 0 < count u l → (0 < u) × (u ≤ length (s .tasks))
 
+-- and stands in it once
+abbrev pub EachOnce : State → List ℕ → Type 0
+EachOnce s l = AllThere s l × ((u : ℕ) → count u l ≤ 1)
+
 -- all of the list were woken, one after the other, and their items written one behind the other
 pub record WokenAs (v : State) (failed : Bool) (l : List ℕ) (s : Supervisor) (n : ℕ) (room after : List ℕ) : Type 0 where
   pub state : s ≡ pack (wakeAll v l)

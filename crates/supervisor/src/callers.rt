@@ -1,6 +1,10 @@
 // Who is queued on a task: the caller that SELECT takes, and all whom FINISH wakes.
+ghost use lib.Dec.{eqb};
+ghost use mathlib.Core.List.{_++_};
 ghost use mathlib.Core.Path.{_≡_};
 ghost use Rattle.lists.specs.Line.{line, pad};
+ghost use Rattle.lists.specs.Lists.{if_then_else_, first};
+ghost use Rattle.lists.specs.Marks.{noMarks, marked};
 ghost use Rattle.rules.specs.Step.{queuedOn};
 ghost use Rattle.rules.specs.Whole.{view};
 ghost use Rattle.supervisor.specs.Lowest.{openCall, callOf, nobody, lowerOf, lowestOf};
@@ -11,8 +15,6 @@ use table::place::is_between;
 use table::place::is_open;
 use table::place::is_queued;
 use table::place::partner_of;
-use table::queues::Test;
-use table::queues::picked;
 use table::tasks::index_of;
 use table::tasks::shown;
 
@@ -64,23 +66,49 @@ pub fn lowest(s: Supervisor, t: u8, o: u8) -> Caller
     b
 }
 
+// Each caller marked with the entry of task t that it has called; with 9 where it has called none.
+fn entries_called(s: Supervisor, t: u8) -> [u8; 32]
+    ensures { λ r. ⌜ r ≡ marked (callOf (view s) t 255) (line (s .callers)) noMarks ⌝ }
+{
+    let mut marks = [0u8; 32];
+    for i in 0..31 {
+        let c = s.callers[i];
+        if c == 0 {
+            return marks;
+        }
+        let at = index_of(c);
+        let k = s.tasks[at];
+        let x = shown(s.created, c, k);
+        let p = x.place;
+        let e = open_call(t, 255, p);
+        if c < 32 {
+            marks[c as usize] = e;
+        }
+    }
+    marks
+}
+
+// Line q behind line r, where there is anything in it.
+fn behind(r: [u8; 31], q: [u8; 31]) -> [u8; 31]
+    ensures { λ n. ⌜ n ≡ (if eqb (first (line q)) 0 then r else pad (line r ++ line q)) ⌝ }
+{
+    if lines::first_of(q) == 0 {
+        return r;
+    }
+    lines::joined_all(r, q)
+}
+
 // The queues of task t one behind the other.
 fn each_queue(s: Supervisor, t: u8) -> [u8; 31]
     ensures { λ r. ⌜ r ≡ pad (queuedOn (view s) t) ⌝ }
 {
     let callers = s.callers;
+    let marks = entries_called(s, t);
     let mut r = [0u8; 31];
     let mut e: u8 = 1;
     while e < 9 {
-        let q = picked(
-            s,
-            callers,
-            Test::QueuedOn {
-                target: t,
-                entry: e,
-            },
-        );
-        let next = lines::joined_all(r, q);
+        let q = lines::picked(callers, marks, e);
+        let next = behind(r, q);
         r = next;
         e += 1;
     }

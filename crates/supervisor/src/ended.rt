@@ -1,18 +1,17 @@
 // Ended waits: their items in the lent room, and the tasks that wake.
 ghost use Prim.Native.Nat.{_*_, _≤_};
 ghost use lib.ListN.{length};
-ghost use mathlib.Core.List.{[], _∷_};
+ghost use mathlib.Core.List.{[], _∷_, map};
 ghost use mathlib.Core.Path.{_≡_};
 ghost use Rattle.lists.specs.Line.{line};
 ghost use Rattle.rules.specs.Step.{roomAfter};
 ghost use Rattle.rules.specs.Whole.{view};
-ghost use Rattle.supervisor.specs.Taken.{Stands, reasonOf, itemAt, AllThere, WokenAs};
+ghost use Rattle.supervisor.specs.Taken.{Stands, reasonOf, itemAt, itemOf, EachOnce, WokenAs};
 use super::numbers::TASKING_ERROR;
 use rules::Item;
 use rules::Place;
 use rules::Supervisor;
-use rules::Timer;
-use table::moves::moved;
+use table::moves::woken;
 use table::place::entry_of;
 use table::place::expiry_of;
 use table::place::partner_of;
@@ -49,26 +48,17 @@ fn item_of(failed: bool, k: u8, p: Place) -> Item
     }
 }
 
-// What is left when a line of tasks was woken: the state, and how many they were.
-pub struct Woken {
-    pub state: Supervisor,
-    pub count: u8,
-}
-
-// Each task of the line becomes ready, and its item is written directly behind the one before.
-pub fn wake_all(s: Supervisor, l: [u8; 31], failed: bool, room: &mut [u8]) -> Woken
-    requires { ⌜ Stands s × (length (line l) * 4 ≤ length (now room)) × AllThere (view s) (line l) ⌝ }
-    ensures { λ r. ⌜ WokenAs (view s) failed (line l) (r .state) (r .count) (now (room .entry)) (now (room .exit)) ⌝ }
+// Writes the items of a line of waiting tasks one behind the other; how many they are.
+fn put_items(s: Supervisor, l: [u8; 31], failed: bool, room: &mut [u8]) -> u8
+    requires { ⌜ length (line l) * 4 ≤ length (now room) ⌝ }
+    ensures { λ r. ⌜ r ≡ length (line l) ⌝ }
+    ensures room { λ r. ⌜ now (room .exit) ≡ roomAfter (now (room .entry)) (map (itemOf (view s) failed) (line l)) ⌝ }
 {
-    let mut n = s;
     let mut i: usize = 0;
     while i < 31 {
         let t = l[i];
         if t == 0 {
-            return Woken {
-                state: n,
-                count: i as u8,
-            };
+            return i as u8;
         }
         let at = index_of(t);
         let k = s.tasks[at];
@@ -77,11 +67,26 @@ pub fn wake_all(s: Supervisor, l: [u8; 31], failed: bool, room: &mut [u8]) -> Wo
         let w = item_of(failed, t, p);
         let from = i * 4;
         put(&mut room[from..], w);
-        n = moved(n, t, Place::Ready, Timer::Off);
         i += 1;
     }
-    Woken {
-        state: n,
-        count: 31,
+    31
+}
+
+// What is left when a line of tasks was woken: the state, and how many they were.
+pub struct Woken {
+    pub state: Supervisor,
+    pub count: u8,
+}
+
+// Each task of the line becomes ready, and its item is written directly behind the one before.
+pub fn wake_all(s: Supervisor, l: [u8; 31], failed: bool, room: &mut [u8]) -> Woken
+    requires { ⌜ Stands s × (length (line l) * 4 ≤ length (now room)) × EachOnce (view s) (line l) ⌝ }
+    ensures { λ r. ⌜ WokenAs (view s) failed (line l) (r .state) (r .count) (now (room .entry)) (now (room .exit)) ⌝ }
+{
+    if l[0] == 0 {
+        return Woken { state: s, count: 0 };
     }
+    let n = put_items(s, l, failed, room);
+    let m = woken(s, l);
+    Woken { state: m, count: n }
 }

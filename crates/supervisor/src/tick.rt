@@ -22,15 +22,6 @@ pub fn tick_to(s: Supervisor, reading: u32, room: &mut [u8]) -> Woken
 {
     let delays = s.delays;
     let l = picked(s, delays, Test::DueAt { now: reading });
-    let k = lines::first_of(l);
-    if k == 0 {
-        let mut still = s;
-        still.clock = reading;
-        return Woken {
-            state: still,
-            count: 0,
-        };
-    }
     let w = wake_all(s, l, false, room);
     let mut n = w.state;
     n.clock = reading;

@@ -3,27 +3,29 @@
 use Prim.Native.Nat.{ℕ, zero, suc, _-_, _≤_, _<_}
 use mathlib.Core.Path.{_≡_, refl, sym, ap, _∙_}
 use mathlib.Core.Bool.{Bool, true}
-use mathlib.Core.List.{List, [], _∷_, map}
+use mathlib.Core.List.{List, [], _∷_, _++_, map}
 use native.Mathlib.Numerals.{unary-clauses}
 use native.Mathlib.Omega.{arith}
-use lib.Dec.{ltb, leb}
+use lib.Dec.{eqb, ltb, leb}
 use lib.ListN.{length, getD, set, take, length-map}
 use lib.Seq.{getD-take, set-out, set-getD}
 use borrow.Author.Tests.{ltb-true, ltb-false, leb-true, leb-false}
 use Rattle.lists.specs.Line.{line, pad, insertAt, slotOf}
 use Rattle.lists.proofs.ListLaws.{by-bool}
 use Rattle.lists.proofs.Tests.{and-first, and-second}
-use Rattle.lists.proofs.LineLaws.{left-over, insert-slot}
+use Rattle.lists.proofs.LineLaws.{left-over, insert-slot, line-picked}
 use Rattle.lists.specs.Lists.{if_then_else_, remove, rejoin}
+use Rattle.lists.specs.Marks.{noMarks, markOf, marked, withMark}
 use Rattle.rules.specs.State.{blank, nth, setNth, taskOf, isReady, isQueued, isHeld, retime, ticksLeft, placed}
 use Rattle.rules.specs.Whole.{view}
 use Rattle.rules.specs.declared.Supervisor.{Supervisor}
 use Rattle.rules.specs.declared.Place.{Place}
 use Rattle.rules.specs.declared.Timer.{Timer}
-use Rattle.rules.specs.declared.Timer.the-variants.{Due}
+use Rattle.rules.specs.declared.Timer.the-variants.{Off, Due}
+use Rattle.rules.specs.declared.Place.the-variants.{Ready}
 use Rattle.rules.specs.declared.Task.{Task}
 use Rattle.rules.proofs.Members.{nth-beyond}
-use Rattle.table.specs.Moved.{withTask, movedOf}
+use Rattle.table.specs.Moved.{withTask, movedOf, readiedOf, wokenOf}
 use Rattle.table.specs.Numbers.{isNumber, indexOf, shownOf}
 
 -- ---- the table
@@ -110,26 +112,56 @@ module _ (a : List ℕ) (t : ℕ) (l : List ℕ) (long : length a ≡ 31) (e : l
       → pad (insertAt at t (line l)) ≡ pad (retime now ts (Due d) t (line a))
   retime-due now ts d n at q f = rw (f, q, left-over a t l long e) (sym (ap pad (insert-slot (λ x. ltb (ticksLeft now (Due d)) (ticksLeft now (nth ts x .timer))) t (remove t (line a)))))
 
-pub moved-law :
-    (s : Supervisor) (t : ℕ) (p : Place) (w : Timer) (at : ℕ) (x y z : Task) (b b1 b2 b3 : Bool) (r c h d : List ℕ) → length (s .tasks) ≡ 31
+-- task t, put back into the table in another place
+pub task-put :
+    (s : Supervisor) (t : ℕ) (p : Place) (w : Timer) (at : ℕ) (x y z : Task) (b : Bool) → length (s .tasks) ≡ 31
     → at ≡ indexOf t → x ≡ shownOf (s .created) t (getD (s .tasks) at blank) → y ≡ placed x p w → b ≡ isNumber t → z ≡ (if b then y else getD (s .tasks) at blank)
-    → b1 ≡ isReady p → b2 ≡ isQueued p → b3 ≡ isHeld p
-    → r ≡ pad (rejoin b1 t (line (s .ready))) → c ≡ pad (rejoin b2 t (line (s .callers))) → h ≡ pad (rejoin b3 t (line (s .held))) → d ≡ pad (retime (s .clock) (view s .tasks) w t (line (s .delays)))
-    → record { clock = s .clock; created = s .created; tasks = set (s .tasks) at z; ready = r; callers = c; held = h; delays = d }
-    ≡ movedOf s t p w
-unfolding movedOf
-moved-law s t p w at x y z b b1 b2 b3 r c h d l ea ex ey eb ez e1 e2 e3 er ec eh ed =
+    → set (s .tasks) at z ≡ setNth (s .tasks) t (placed (taskOf (view s) t) p w)
+task-put s t p w at x y z b l ea ex ey eb ez =
     let f : z ≡ (if isNumber t then placed (taskOf (view s) t) p w else getD (s .tasks) at blank) =
     ez ∙ ap (λ (a : Bool). if a then y else getD (s .tasks) at blank) eb
     ∙ ap (λ (k : Task). if isNumber t then k else getD (s .tasks) at blank) (ey ∙ ap (λ (k : Task). placed k p w) (shown-at s t at x l ea ex)) in
-    let g : set (s .tasks) at z ≡ setNth (s .tasks) t (placed (taskOf (view s) t) p w) =
-    ap (set (s .tasks) at) f ∙ ap (λ (i : ℕ). set (s .tasks) i (if isNumber t then placed (taskOf (view s) t) p w else getD (s .tasks) i blank)) ea ∙ put-back (s .tasks) t (placed (taskOf (view s) t) p w) l in
-    λ i. record {
-      clock = s .clock;
-      created = s .created;
-      tasks = g i;
-      ready = (er ∙ ap (λ (a : Bool). pad (rejoin a t (line (s .ready)))) e1) i;
-      callers = (ec ∙ ap (λ (a : Bool). pad (rejoin a t (line (s .callers)))) e2) i;
-      held = (eh ∙ ap (λ (a : Bool). pad (rejoin a t (line (s .held)))) e3) i;
-      delays = ed i;
-    }
+    ap (set (s .tasks) at) f ∙ ap (λ (i : ℕ). set (s .tasks) i (if isNumber t then placed (taskOf (view s) t) p w else getD (s .tasks) i blank)) ea ∙ put-back (s .tasks) t (placed (taskOf (view s) t) p w) l
+
+pub moved-law :
+    (s : Supervisor) (t : ℕ) (p : Place) (w : Timer) (ts : List Task) (b1 b2 b3 : Bool) (r c h d : List ℕ) → ts ≡ setNth (s .tasks) t (placed (taskOf (view s) t) p w)
+    → b1 ≡ isReady p → b2 ≡ isQueued p → b3 ≡ isHeld p
+    → r ≡ pad (rejoin b1 t (line (s .ready))) → c ≡ pad (rejoin b2 t (line (s .callers))) → h ≡ pad (rejoin b3 t (line (s .held))) → d ≡ pad (retime (s .clock) (view s .tasks) w t (line (s .delays)))
+    → record { clock = s .clock; created = s .created; tasks = ts; ready = r; callers = c; held = h; delays = d }
+    ≡ movedOf s t p w
+unfolding movedOf
+moved-law s t p w ts b1 b2 b3 r c h d g e1 e2 e3 er ec eh ed = λ i. record {
+  clock = s .clock;
+  created = s .created;
+  tasks = g i;
+  ready = (er ∙ ap (λ (a : Bool). pad (rejoin a t (line (s .ready)))) e1) i;
+  callers = (ec ∙ ap (λ (a : Bool). pad (rejoin a t (line (s .callers)))) e2) i;
+  held = (eh ∙ ap (λ (a : Bool). pad (rejoin a t (line (s .held)))) e3) i;
+  delays = ed i;
+}
+
+-- ---- all of a line ready
+
+-- one turn: the next of the list is ready in the table
+pub readied-on : (n : Supervisor) (t : ℕ) (xs ys : List ℕ) (ts : List Task) → xs ≡ t ∷ ys → ts ≡ setNth (n .tasks) t (placed (taskOf (view n) t) Ready Off)
+    → readiedOf n xs ≡ readiedOf (record { clock = n .clock; created = n .created; tasks = ts; ready = n .ready; callers = n .callers; held = n .held; delays = n .delays }) ys
+readied-on n t xs ys ts q e =
+    ap (readiedOf n) q
+    ∙ ap (λ (k : List Task). readiedOf (record { clock = n .clock; created = n .created; tasks = k; ready = n .ready; callers = n .callers; held = n .held; delays = n .delays }) ys) (sym e)
+
+-- the lines, from what their parts answer
+pub woken-law : (s n : Supervisor) (l m still r c h d : List ℕ) → length (s .ready) ≡ 31 → n ≡ readiedOf s l → m ≡ marked (λ _. 1) l noMarks
+    → still ≡ pad (withMark m 0 (line (s .ready))) → r ≡ pad (line still ++ l)
+    → c ≡ pad (withMark m 0 (line (s .callers))) → h ≡ pad (withMark m 0 (line (s .held))) → d ≡ pad (withMark m 0 (line (s .delays)))
+    → record { clock = n .clock; created = n .created; tasks = n .tasks; ready = r; callers = c; held = h; delays = d }
+    ≡ wokenOf s l
+unfolding wokenOf
+woken-law s n l m still r c h d k en em es er ec eh ed = λ i. record {
+  clock = en i .clock;
+  created = en i .created;
+  tasks = en i .tasks;
+  ready = (er ∙ ap (λ (x : List ℕ). pad (x ++ l)) (ap line es ∙ line-picked (λ t. eqb (markOf m t) 0) (s .ready) k) ∙ ap (λ (x : List ℕ). pad (withMark x 0 (line (s .ready)) ++ l)) em) i;
+  callers = (ec ∙ ap (λ (x : List ℕ). pad (withMark x 0 (line (s .callers)))) em) i;
+  held = (eh ∙ ap (λ (x : List ℕ). pad (withMark x 0 (line (s .held)))) em) i;
+  delays = (ed ∙ ap (λ (x : List ℕ). pad (withMark x 0 (line (s .delays)))) em) i;
+}

@@ -1,3 +1,4 @@
 pub mod LeafLaws
 pub mod Levels
 pub mod Bits
+pub mod Unique

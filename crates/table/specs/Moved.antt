@@ -2,10 +2,11 @@
 -- Assumes nothing.
 use Prim.Native.Nat.{ℕ, zero, suc}
 use mathlib.Core.Bool.{Bool, true, false, not, _&&_}
-use mathlib.Core.List.{List, [], _∷_}
+use mathlib.Core.List.{List, [], _∷_, _++_}
 use lib.Dec.{eqb, ltb}
 use Rattle.lists.specs.Line.{line, pad}
 use Rattle.lists.specs.Lists.{if_then_else_, rejoin}
+use Rattle.lists.specs.Marks.{noMarks, marked, withMark}
 use Rattle.rules.specs.State.{State, setNth, taskOf, timerOf, isReady, isQueued, isHeld, ticksLeft, retime, placed, partnerOf, entryOf, meeting}
 use Rattle.rules.specs.declared.Place.the-variants.{Ready, Held}
 use Rattle.rules.specs.declared.Timer.the-variants.{Off}
@@ -40,6 +41,23 @@ movedOf s t p w = record {
   callers = pad (rejoin (isQueued p) t (line (s .callers)));
   held = pad (rejoin (isHeld p) t (line (s .held)));
   delays = pad (retime (s .clock) (view s .tasks) w t (line (s .delays)));
+}
+
+-- those of the list are ready, with no time, in the table; the lines stay
+abbrev pub readiedOf : Supervisor → List ℕ → Supervisor
+readiedOf s [] = s
+readiedOf s (t ∷ ts) = readiedOf (withTask s t (placed (taskOf (view s) t) Ready Off)) ts
+
+-- all of the list become ready at once, in the struct: each line keeps those without a mark, and all stand at the end of `ready`
+unfoldable pub wokenOf : Supervisor → List ℕ → Supervisor
+wokenOf s l = record {
+  clock = readiedOf s l .clock;
+  created = readiedOf s l .created;
+  tasks = readiedOf s l .tasks;
+  ready = pad (withMark (marked (λ _. 1) l noMarks) 0 (line (s .ready)) ++ l);
+  callers = pad (withMark (marked (λ _. 1) l noMarks) 0 (line (s .callers)));
+  held = pad (withMark (marked (λ _. 1) l noMarks) 0 (line (s .held)));
+  delays = pad (withMark (marked (λ _. 1) l noMarks) 0 (line (s .delays)));
 }
 
 -- a rendezvous of g with its caller c at entry e begins, and ends, in the struct

@@ -3,7 +3,7 @@ ghost use mathlib.Core.Path.{_≡_};
 ghost use Rattle.lists.specs.Line.{line, pad, slotOf};
 ghost use Rattle.rules.specs.State.{retime};
 ghost use Rattle.rules.specs.Whole.{view};
-ghost use Rattle.table.specs.Moved.{movedOf, metOf, partedOf, later};
+ghost use Rattle.table.specs.Moved.{movedOf, readiedOf, wokenOf, metOf, partedOf, later};
 use super::place::is_held;
 use super::place::is_queued;
 use super::place::is_ready;
@@ -74,6 +74,46 @@ pub fn moved(s: Supervisor, t: u8, p: Place, w: Timer) -> Supervisor
     n.held = held_now;
     n.delays = delays_now;
     n.tasks[at] = y;
+    n
+}
+
+// The tasks of the line are ready, with no time; the lines are as they were.
+fn readied(s: Supervisor, l: [u8; 31]) -> Supervisor
+    ensures { λ r. ⌜ r ≡ readiedOf s (line l) ⌝ }
+{
+    let mut n = s;
+    for i in 0..31 {
+        let t = l[i];
+        if t == 0 {
+            return n;
+        }
+        let at = index_of(t);
+        let k = n.tasks[at];
+        let x = shown(n.created, t, k);
+        n.tasks[at] = pick_task(is_number(t), placed_at(x, Place::Ready, Timer::Off), k);
+    }
+    n
+}
+
+// All tasks of the line become ready. Where it has each once, that is a move for one after the other, but with one look at each line.
+pub fn woken(s: Supervisor, l: [u8; 31]) -> Supervisor
+    ensures { λ r. ⌜ r ≡ wokenOf s (line l) ⌝ }
+{
+    let marks = lines::marks_of(l);
+    let ready = s.ready;
+    let callers = s.callers;
+    let held = s.held;
+    let delays = s.delays;
+    let still_ready = lines::picked(ready, marks, 0);
+    let ready_now = lines::joined_all(still_ready, l);
+    let callers_now = lines::picked(callers, marks, 0);
+    let held_now = lines::picked(held, marks, 0);
+    let delays_now = lines::picked(delays, marks, 0);
+    let mut n = readied(s, l);
+    n.ready = ready_now;
+    n.callers = callers_now;
+    n.held = held_now;
+    n.delays = delays_now;
     n
 }
 

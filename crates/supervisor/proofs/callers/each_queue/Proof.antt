@@ -1,42 +1,68 @@
 use native.Mathlib.Omega.{arith}
 use borrow.Author.Needs.{needs}
-use Prim.Native.Nat.{_-_, _≤_}
-use mathlib.Core.Path.{_≡_, refl, sym, _∙_}
+use Prim.Native.Nat.{ℕ, _-_, _≤_}
+use mathlib.Core.Path.{_≡_, refl, sym, ap, _∙_}
 use mathlib.Core.List.{_++_}
-use lib.ListN.{length}
+use lib.Dec.{eqb}
+use lib.ListN.{length, length-take}
 use Rattle.lists.specs.Line.{line, pad, padTo}
-use Rattle.rules.specs.Step.{queuedFrom, queuedOn}
+use Rattle.lists.specs.Marks.{markOf, withMark}
+use Rattle.lists.proofs.LineLaws.{line-picked}
+use Rattle.rules.specs.Step.{queuedOn}
 use Rattle.rules.specs.Whole.{view}
-use Rattle.table.specs.declared.queues.Test.the-variants.{QueuedOn}
 use Rattle.table.proofs.LeafLaws.{mapped-long}
-use Rattle.supervisor.proofs.MoveLaws.{picked-line}
-use Rattle.supervisor.proofs.FinishLaws.{queued-laid, queued-turn, queued-end}
+use Rattle.supervisor.proofs.FinishLaws.{byMarks, queued-laid, queued-turn, queued-end, marks-queued}
 use Rattle.supervisor.proofs.callers.each_queue.Statement.{statement}
 use Rattle.supervisor.proofs.callers.each_queue.Tie as tie
 
 abbrev Inv-loop : tie.InvT-loop
-Inv-loop s t callers r₀ e₀ r e = (1 ≤ e) × (e ≤ 9) × (length callers ≡ 31) × (r ≡ pad (line r)) × (pad (queuedOn (view s) t) ≡ pad (line r ++ queuedFrom (view s) t (9 - e) e))
+Inv-loop t callers marks r₀ e₀ r e =
+    (1 ≤ e) × (e ≤ 9) × (length callers ≡ 31) × (r ≡ pad (line r)) × (pad (byMarks marks (line callers) 8 1) ≡ pad (line r ++ byMarks marks (line callers) (9 - e) e))
 
 abbrev μ-loop : tie.MeasureT-loop
-μ-loop s t callers r₀ e₀ r e = 9 - e
+μ-loop t callers marks r₀ e₀ r e = 9 - e
 
 loop-holds : tie.Need-loop-holds Inv-loop μ-loop
-unfolding pad padTo queuedOn
+unfolding pad padTo
 loop-holds c = (omega arith, omega arith, search (needs, mapped-long), refl, refl)
+
+-- what is picked by the mark e
+picked-here : (c : tie.After-picked Inv-loop μ-loop) → let l = c .before .before .loop in let m = c .before .before .before .entries-called .result in line (c .picked .result) ≡ withMark m (l .e) (line (c .before .before .before .before .before .args .s .callers))
+picked-here c =
+    let l = c .before .before .loop in
+    let m = c .before .before .before .entries-called .result in
+    ap line (c .picked .ensures) ∙ line-picked (λ t. eqb (markOf m t) (l .e)) (c .before .before .before .before .before .args .s .callers) (l .inv .2)
 
 loop-again : tie.Need-loop-again Inv-loop μ-loop
 loop-again c =
-    let l = c .before .before .before .loop in let a = c .before .before .before .before .before .args in
-    let q = picked-line (a .s) (a .s .callers) (QueuedOn (a .t) (l .e)) (c .before .picked .result) (l .inv .2) (c .before .picked .ensures) in
-    (omega arith, omega arith, l .inv .2, queued-laid (view (a .s)) (a .t) (l .e) (l .r) (c .joined-all .result) (c .before .picked .result) (c .joined-all .ensures) q (omega arith), l .inv .4 ∙ queued-turn (view (a .s)) (a .t) (l .e) (l .r) (c .joined-all .result) (c .before .picked .result) (c .joined-all .ensures) q (omega arith))
+    let p = c .before in
+    let l = p .before .before .loop in
+    let m = p .before .before .before .entries-called .result in
+    let a = line (p .before .before .before .before .before .args .s .callers) in
+    let q = p .picked .result in (
+      omega arith,
+      omega arith,
+      l .inv .2,
+      queued-laid m a (l .e) (l .r) (c .behind .result) q (l .inv .3) (c .behind .ensures) (picked-here p) (omega arith),
+      l .inv .4 ∙ queued-turn m a (l .e) (l .r) (c .behind .result) q (l .inv .3) (c .behind .ensures) (picked-here p) (omega arith),
+    )
+
+long-here : (c : tie.Start Inv-loop μ-loop) → length (c .args .s .tasks) ≡ 31
+long-here c = search (needs, mapped-long)
 
 returns : tie.Need-returns Inv-loop μ-loop
+unfolding queuedOn
 returns c =
-    let l = c .before .loop in let a = c .before .before .before .args in
-    sym (l .inv .4 ∙ queued-end (view (a .s)) (a .t) (l .e) (l .r) (omega arith) (l .inv .3))
+    let l = c .before .loop in
+    let m = c .before .before .entries-called .result in
+    let k = c .before .before .before .before in
+    let s = k .args .s in
+    let long = long-here k in
+    let few : length (view s .tasks) ≤ 31 = simp length-take (omega arith) in
+    sym (ap pad (sym (marks-queued (view s) (k .args .t) m few (c .before .before .entries-called .ensures) 8 1 (omega arith) (omega arith))) ∙ l .inv .4 ∙ queued-end m (line (s .callers)) (l .e) (l .r) (omega arith) (l .inv .3))
 
 pub each-queue-spec : {M : Type 1} → statement M
 each-queue-spec =
     tie.close
-    (tie.spec Inv-loop μ-loop loop-holds (λ c κs. search needs) (λ c κs. search needs) (λ c. search needs)
+    (tie.spec Inv-loop μ-loop (λ c κs. search needs) loop-holds (λ c κs. search needs) (λ c κs. search needs) (λ c. search needs)
     (λ c. search needs) loop-again returns)

@@ -11,10 +11,10 @@ use Rattle.rules.specs.declared.Place.the-variants.{Completed}
 use Rattle.rules.specs.declared.Timer.the-variants.{Off}
 use Rattle.rules.proofs.Members.{Runs}
 use Rattle.table.specs.declared.queues.Test.the-variants.{HeldBy}
-use Rattle.supervisor.specs.Taken.{AllThere}
+use Rattle.supervisor.specs.Taken.{EachOnce}
 use Rattle.supervisor.proofs.MoveLaws.{picked-line, long-held}
 use Rattle.supervisor.proofs.AnswerLaws.{by-both, runner, many-answers, room-of}
-use Rattle.supervisor.proofs.FinishLaws.{finish-idle, finish-runs, finish-holds, finish-goes, queued-all, queued-line, woken-completed}
+use Rattle.supervisor.proofs.FinishLaws.{finish-idle, finish-runs, finish-holds, finish-goes, queued-all, queued-each, queued-line, woken-completed}
 use Rattle.supervisor.proofs.RoomLaws.{in-room}
 use Rattle.lists.proofs.LineLaws.{length-pad}
 use Rattle.supervisor.proofs.finish.finish.Statement.{statement}
@@ -52,7 +52,7 @@ wake-all-requires : tie.Need-wake-all-requires
 wake-all-requires c κs =
     let q = c .before in
     let v = view (c .before .before .before .before .before .before .before .before .before .args .s) in
-    (c .before .before .before .before .before .before .before .before .before .pre .0, in-room (q .queued-on .result) _ (ap length (q .queued-on .ensures) ∙ length-pad _) (c .before .before .before .before .before .before .before .before .before .pre .1), subst (AllThere v) (sym (queued-here q)) (queued-all v (c .before .before .before .before .before .before .before .running .result)))
+    (c .before .before .before .before .before .before .before .before .before .pre .0, in-room (q .queued-on .result) _ (ap length (q .queued-on .ensures) ∙ length-pad _) (c .before .before .before .before .before .before .before .before .before .pre .1), subst (EachOnce v) (sym (queued-here q)) (queued-each v (c .before .before .before .before .before .before .before .running .result) (c .before .before .before .before .before .before .before .before .before .pre .0 .sound)))
 
 returns-3 : tie.Need-returns-3
 returns-3 c =

@@ -3,13 +3,12 @@ use borrow.Author.Needs.{needs}
 use mathlib.Core.Path.{_≡_, refl, sym, _∙_, ap, subst}
 use lib.ListN.{length, length-map}
 use Rattle.lists.specs.Line.{line}
-use Rattle.lists.specs.Lists.{first}
 use Rattle.rules.specs.Step.{dueAt, expired}
 use Rattle.rules.specs.Whole.{view}
-use Rattle.supervisor.specs.Taken.{AllThere}
+use Rattle.supervisor.specs.Taken.{EachOnce}
 use Rattle.table.specs.declared.queues.Test.the-variants.{DueAt}
 use Rattle.supervisor.proofs.MoveLaws.{picked-line, long-delays}
-use Rattle.supervisor.proofs.TickLaws.{due-all, due-none, passed-to, passed-still}
+use Rattle.supervisor.proofs.TickLaws.{due-each, passed-to}
 use Rattle.supervisor.proofs.tick.tick_to.Statement.{statement}
 use Rattle.supervisor.proofs.tick.tick_to.Tie as tie
 
@@ -17,32 +16,22 @@ use Rattle.supervisor.proofs.tick.tick_to.Tie as tie
 due-here : (c : tie.After-picked) → line (c .picked .result) ≡ dueAt (view (c .before .before .before .args .s)) (c .before .before .before .args .reading)
 due-here c = let k = c .before .before .before in let s = k .args .s in picked-line s (s .delays) (DueAt (k .args .reading)) (c .picked .result) (long-delays s (k .pre .0)) (c .picked .ensures)
 
-returns : tie.Need-returns
-returns c =
-    let d = c .before .before in
-    let k = c .before .before .before .before .before in
-    let s = k .args .s in
-    passed-still (view s) s (k .args .reading) (k .args .room .now) (k .pre .0 .packs)
-    (due-none (view s) (k .args .reading) (ap first (sym (due-here d)) ∙ sym (c .before .first-of .ensures) ∙ c .if1 .taken))
-
 wake-all-requires : tie.Need-wake-all-requires
 wake-all-requires c κs =
-    let d = c .before .before .before in
-    let k = c .before .before .before .before .before .before in
+    let d = c .before in
+    let k = d .before .before .before in
     let s = k .args .s in let now = k .args .reading in (
       k .pre .0,
       subst (λ (n : ℕ). n * 4 ≤ length (k .args .room .now)) (length-map (dueAt (view s) now) (expired (view s)) ∙ sym (ap length (due-here d))) (k .pre .1),
-      subst (AllThere (view s)) (sym (due-here d)) (due-all (view s) now),
+      subst (EachOnce (view s)) (sym (due-here d)) (due-each (view s) now (k .pre .0 .sound)),
     )
 
-returns-2 : tie.Need-returns-2
-returns-2 c =
-    let d = c .before .before .before .before .before .before .before in
-    let k = c .before .before .before .before .before .before .before .before .before .before in
+returns : tie.Need-returns
+returns c =
+    let d = c .before .before .before .before .before in
+    let k = d .before .before .before in
     let w = c .before .before .before .wake-all in
     passed-to (view (k .args .s)) (w .result .state) _ _ (k .args .reading) (line (d .picked .result)) _ _ (w .ensures) (due-here d) refl
 
 pub tick-to-spec : {M : Type 1} → statement M
-tick-to-spec =
-    tie.close
-    (tie.spec (λ c κs. search needs) (λ c κs. search needs) returns wake-all-requires (λ c. search needs) returns-2)
+tick-to-spec = tie.close (tie.spec (λ c κs. search needs) wake-all-requires (λ c. search needs) returns)

@@ -2,7 +2,7 @@ use native.Mathlib.Omega.{arith}
 use borrow.Author.Needs.{needs}
 use mathlib.Core.Path.{_≡_}
 use lib.ListN.{length}
-use Rattle.table.proofs.LeafLaws.{moved-law, mapped-long}
+use Rattle.table.proofs.LeafLaws.{task-put, moved-law, mapped-long}
 use Rattle.table.proofs.moves.moved.Statement.{statement}
 use Rattle.table.proofs.moves.moved.Tie as tie
 
@@ -24,8 +24,8 @@ returns c =
     let q = h .before .before in
     let r = q .before .before in
     let a = r .before .before .before .before .before .args in
-    moved-law (a .t1) (a .t) (a .p) (a .w) _ _ _ _ _ _ _ _ _ _ _ _ (long-here i) (i .index-of .ensures .0) (x .shown .ensures)
-    (c .before .placed-at .ensures) (c .before .before .is-number .ensures) (c .pick-task .ensures)
+    moved-law (a .t1) (a .t) (a .p) (a .w) _ _ _ _ _ _ _ _
+    (task-put (a .t1) (a .t) (a .p) (a .w) _ _ _ _ _ (long-here i) (i .index-of .ensures .0) (x .shown .ensures) (c .before .placed-at .ensures) (c .before .before .is-number .ensures) (c .pick-task .ensures))
     (r .before .is-ready .ensures) (q .before .is-queued .ensures) (h .before .is-held .ensures)
     (r .rejoined .ensures) (q .rejoined2 .ensures) (h .rejoined3 .ensures) (d .retimed .ensures)
 

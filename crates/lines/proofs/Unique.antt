@@ -1,0 +1,44 @@
+-- Any two answers that the contract of a public function allows are equal.
+-- Assumes nothing.
+use mathlib.Core.Path.{sym, _∙_}
+use Rattle.lists.specs.Once.{Once}
+use Rattle.lines.proofs.len.Reads as len
+use Rattle.lines.proofs.put_at.Reads as put-at
+use Rattle.lines.proofs.joined.Reads as joined
+use Rattle.lines.proofs.without.Reads as without
+use Rattle.lines.proofs.rejoined.Reads as rejoined
+use Rattle.lines.proofs.joined_all.Reads as joined-all
+use Rattle.lines.proofs.first_of.Reads as first-of
+use Rattle.lines.proofs.last_of.Reads as last-of
+use Rattle.lines.proofs.marks_of.Reads as marks-of
+use Rattle.lines.proofs.picked.Reads as picked
+
+pub len-once : Once len.Post
+len-once κs x r r′ y y′ p q = p ∙ sym q
+
+pub put-at-once : Once put-at.Post
+put-at-once κs x r r′ y y′ p q = p ∙ sym q
+
+pub joined-once : Once joined.Post
+joined-once κs x r r′ y y′ p q = p ∙ sym q
+
+pub without-once : Once without.Post
+without-once κs x r r′ y y′ p q = p ∙ sym q
+
+pub rejoined-once : Once rejoined.Post
+rejoined-once κs x r r′ y y′ p q = p ∙ sym q
+
+pub joined-all-once : Once joined-all.Post
+joined-all-once κs x r r′ y y′ p q = p ∙ sym q
+
+pub first-of-once : Once first-of.Post
+first-of-once κs x r r′ y y′ p q = p ∙ sym q
+
+pub last-of-once : Once last-of.Post
+last-of-once κs x r r′ y y′ p q = p ∙ sym q
+
+pub marks-of-once : Once marks-of.Post
+marks-of-once κs x r r′ y y′ p q = p ∙ sym q
+
+pub picked-once : Once picked.Post
+picked-once κs x r r′ y y′ p q = p ∙ sym q

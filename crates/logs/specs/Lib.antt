@@ -1,0 +1,2 @@
+-- Runs of logs.
+pub mod Runs

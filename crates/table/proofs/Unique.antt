@@ -1,0 +1,134 @@
+-- Any two answers that the contract of a public function allows are equal.
+-- Assumes nothing.
+use mathlib.Core.Path.{sym, _∙_}
+use Rattle.lists.specs.Once.{Once}
+use Rattle.table.proofs.dispatch.running.Reads as running
+use Rattle.table.proofs.moves.moved.Reads as moved
+use Rattle.table.proofs.moves.met.Reads as met
+use Rattle.table.proofs.moves.parted.Reads as parted
+use Rattle.table.proofs.moves.woken.Reads as woken
+use Rattle.table.proofs.place.is_ready.Reads as is-ready
+use Rattle.table.proofs.place.is_queued.Reads as is-queued
+use Rattle.table.proofs.place.is_held.Reads as is-held
+use Rattle.table.proofs.place.is_completed.Reads as is-completed
+use Rattle.table.proofs.place.partner_of.Reads as partner-of
+use Rattle.table.proofs.place.entry_of.Reads as entry-of
+use Rattle.table.proofs.place.expiry_of.Reads as expiry-of
+use Rattle.table.proofs.place.has_time.Reads as has-time
+use Rattle.table.proofs.place.is_due.Reads as is-due
+use Rattle.table.proofs.place.ticks_left.Reads as ticks-left
+use Rattle.table.proofs.place.is_between.Reads as is-between
+use Rattle.table.proofs.place.in_range.Reads as in-range
+use Rattle.table.proofs.place.is_open.Reads as is-open
+use Rattle.table.proofs.place.is_too_wide.Reads as is-too-wide
+use Rattle.table.proofs.place.accepts_at.Reads as accepts-at
+use Rattle.table.proofs.queues.picked.Reads as picked
+use Rattle.table.proofs.tasks.blank_task.Reads as blank-task
+use Rattle.table.proofs.tasks.fresh_task.Reads as fresh-task
+use Rattle.table.proofs.tasks.placed_at.Reads as placed-at
+use Rattle.table.proofs.tasks.is_number.Reads as is-number
+use Rattle.table.proofs.tasks.index_of.Reads as index-of
+use Rattle.table.proofs.tasks.pick_task.Reads as pick-task
+use Rattle.table.proofs.tasks.shown.Reads as shown
+use Rattle.table.proofs.tasks.task_of.Reads as task-of
+use Rattle.table.proofs.tasks.with_task.Reads as with-task
+
+-- ── dispatch ──
+
+pub running-once : Once running.Post
+running-once κs x r r′ y y′ p q = p ∙ sym q
+
+-- ── moves ──
+
+pub moved-once : Once moved.Post
+moved-once κs x r r′ y y′ p q = p ∙ sym q
+
+pub met-once : Once met.Post
+met-once κs x r r′ y y′ p q = p ∙ sym q
+
+pub parted-once : Once parted.Post
+parted-once κs x r r′ y y′ p q = p ∙ sym q
+
+pub woken-once : Once woken.Post
+woken-once κs x r r′ y y′ p q = p ∙ sym q
+
+-- ── place ──
+
+pub is-ready-once : Once is-ready.Post
+is-ready-once κs x r r′ y y′ p q = p ∙ sym q
+
+pub is-queued-once : Once is-queued.Post
+is-queued-once κs x r r′ y y′ p q = p ∙ sym q
+
+pub is-held-once : Once is-held.Post
+is-held-once κs x r r′ y y′ p q = p ∙ sym q
+
+pub is-completed-once : Once is-completed.Post
+is-completed-once κs x r r′ y y′ p q = p ∙ sym q
+
+pub partner-of-once : Once partner-of.Post
+partner-of-once κs x r r′ y y′ p q = p ∙ sym q
+
+pub entry-of-once : Once entry-of.Post
+entry-of-once κs x r r′ y y′ p q = p ∙ sym q
+
+pub expiry-of-once : Once expiry-of.Post
+expiry-of-once κs x r r′ y y′ p q = p ∙ sym q
+
+pub has-time-once : Once has-time.Post
+has-time-once κs x r r′ y y′ p q = p ∙ sym q
+
+pub is-due-once : Once is-due.Post
+is-due-once κs x r r′ y y′ p q = p ∙ sym q
+
+pub ticks-left-once : Once ticks-left.Post
+ticks-left-once κs x r r′ y y′ p q = p ∙ sym q
+
+pub is-between-once : Once is-between.Post
+is-between-once κs x r r′ y y′ p q = p ∙ sym q
+
+pub in-range-once : Once in-range.Post
+in-range-once κs x r r′ y y′ p q = p ∙ sym q
+
+pub is-open-once : Once is-open.Post
+is-open-once κs x r r′ y y′ p q = p ∙ sym q
+
+pub is-too-wide-once : Once is-too-wide.Post
+is-too-wide-once κs x r r′ y y′ p q = p ∙ sym q
+
+pub accepts-at-once : Once accepts-at.Post
+accepts-at-once κs x r r′ y y′ p q = p ∙ sym q
+
+-- ── queues ──
+
+pub picked-once : Once picked.Post
+picked-once κs x r r′ y y′ p q = p ∙ sym q
+
+-- ── tasks ──
+
+pub blank-task-once : Once blank-task.Post
+blank-task-once κs x r r′ y y′ p q = p ∙ sym q
+
+pub fresh-task-once : Once fresh-task.Post
+fresh-task-once κs x r r′ y y′ p q = p ∙ sym q
+
+pub placed-at-once : Once placed-at.Post
+placed-at-once κs x r r′ y y′ p q = p ∙ sym q
+
+pub is-number-once : Once is-number.Post
+is-number-once κs x r r′ y y′ p q = p ∙ sym q
+
+pub index-of-once : Once index-of.Post
+index-of-once κs x r r′ y y′ p q = p .0 ∙ sym (q .0)
+
+pub pick-task-once : Once pick-task.Post
+pick-task-once κs x r r′ y y′ p q = p ∙ sym q
+
+pub shown-once : Once shown.Post
+shown-once κs x r r′ y y′ p q = p ∙ sym q
+
+pub task-of-once : Once task-of.Post
+task-of-once κs x r r′ y y′ p q = p ∙ sym q
+
+pub with-task-once : Once with-task.Post
+with-task-once κs x r r′ y y′ p q = p ∙ sym q
