@@ -5,6 +5,7 @@ use crate::work::begun;
 use crate::work::fed;
 use crate::work::passed;
 use crate::work::stopped;
+use crate::work::written;
 use calls::Call;
 use calls::Read;
 use script::put_call;
@@ -19,16 +20,18 @@ fn taken(w: Work, call: Call, next: usize, out: &mut [u8]) -> Work {
     passed(w, next, place, out)
 }
 
-// No record: more bytes are asked for where they may come, and else it is over.
+// No record: more bytes are asked for where they may come, and else it is over. The calls before a bad record are printed before it is told.
 fn refused(w: Work, many: usize, buf: &mut [u8], out: &[u8]) -> Work {
     let v = w.window;
     if !v.last & (many < 10) {
         return fed(w, buf, out);
     }
-    if 0 < many {
-        errors::bad_record(w.number);
+    if many == 0 {
+        return stopped(w);
     }
-    stopped(w)
+    let n = written(w, out);
+    errors::bad_record(n.number);
+    stopped(n)
 }
 
 // One turn, on what stands in the window.

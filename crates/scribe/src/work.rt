@@ -45,17 +45,30 @@ pub fn passed(w: Work, at: usize, place: usize, out: &[u8]) -> Work {
     }
 }
 
-// With more input. What waits is written first, for whoever feeds it line by line.
-pub fn fed(w: Work, buf: &mut [u8], out: &[u8]) -> Work {
+// With all output written.
+pub fn written(w: Work, out: &[u8]) -> Work {
     let o = flushed(out, w.waits);
-    let v = w.window;
-    let window = refilled(v, buf);
+    let window = w.window;
     Work {
         window,
         waits: o.waits,
         number: w.number,
         skips: w.skips,
         goes: o.writes,
+    }
+}
+
+// With more input. What waits is written first, for whoever feeds it line by line.
+pub fn fed(w: Work, buf: &mut [u8], out: &[u8]) -> Work {
+    let n = written(w, out);
+    let v = n.window;
+    let window = refilled(v, buf);
+    Work {
+        window,
+        waits: n.waits,
+        number: n.number,
+        skips: n.skips,
+        goes: n.goes,
     }
 }
 
