@@ -6,7 +6,6 @@ use mathlib.Core.Bool.{Bool, true, false, _&&_}
 use mathlib.Core.List.{List, [], _∷_}
 use native.Mathlib.Omega.{arith}
 use native.Mathlib.Numerals.{add-one}
-use lib.ListN.{getD}
 use lib.Dec.{eqb, ltb, leb}
 use borrow.Author.Tests.{eq-eqb, ne-eqb, leb-true, leb-false, le-leb, lt-leb, lt-ltb, ltb-true}
 use Rattle.lists.specs.Line.{line, blanks, tidy}
@@ -16,10 +15,8 @@ use Rattle.lists.proofs.Tests.{cases, and-first, and-second}
 use Rattle.rules.specs.State.{taskOf}
 use Rattle.rules.specs.Whole.{view}
 use Rattle.rules.specs.declared.Supervisor.{Supervisor}
-use Rattle.soundness.specs.declared.stand.Line.{Line}
-use Rattle.soundness.specs.declared.stand.Line.the-variants.{Delays}
 use Rattle.soundness.specs.Marks.{Marks, Whole, hasMark, withMark, withoutMark, isNone}
-use Rattle.soundness.specs.Check.{named, wanted, emptied, lineHas, belongs, arrayOf, lines, standsIn}
+use Rattle.soundness.specs.Check.{Line, named, wanted, emptied, lineHas, belongs, arrayOf, standsIn}
 use Rattle.soundness.proofs.TaskLaws.{and-none, named-is}
 use Rattle.soundness.proofs.MarkLaws.{none-whole, with-whole, without-whole, has-none, has-with, has-without, none-has, has-all}
 
@@ -154,11 +151,3 @@ pub stands-is : (s : Supervisor) (l : Line) (m : Marks) (t : ℕ) (a : List ℕ)
 stands-is s l m t a r h et em ea er =
     let f : ℕ → Bool = λ u. belongs l (taskOf (view s) u) in
     er ∙ (λ i. emptied ((em ∙ ap (wanted f) et) i) (ea i)) ∙ line-is (s .created) f (arrayOf s l) h
-
--- behind the first three lines
-pub last-line : (i : ℕ) → (i ≡ 0 → ⊥) → (i ≡ 1 → ⊥) → (i ≡ 2 → ⊥) → Delays ≡ getD lines i Delays
-last-line zero a b c = absurd (a refl)
-last-line (suc zero) a b c = absurd (b refl)
-last-line (suc (suc zero)) a b c = absurd (c refl)
-last-line (suc (suc (suc zero))) a b c = refl
-last-line (suc (suc (suc (suc i)))) a b c = refl

@@ -17,9 +17,7 @@ use Rattle.rules.specs.State.{created, isTask, taskOf}
 use Rattle.rules.specs.Sound.{standsRight, sound}
 use Rattle.rules.specs.Whole.{view, unused, soundWhole}
 use Rattle.rules.specs.declared.Supervisor.{Supervisor}
-use Rattle.soundness.specs.declared.stand.Line.{Line}
-use Rattle.soundness.specs.declared.stand.Line.the-variants.{Ready, Callers, Held, Delays}
-use Rattle.soundness.specs.Check.{named, goodIn, leftOf, ascending, belongs, arrayOf, lines, standsIn, lineHas}
+use Rattle.soundness.specs.Check.{Line, Ready, Callers, Held, Delays, named, goodIn, leftOf, ascending, belongs, arrayOf, standsIn, lineHas}
 use Rattle.soundness.proofs.TaskLaws.{and-none}
 
 -- ── order: each at most the next is each at most all behind ──
@@ -84,11 +82,11 @@ stand-is s d =
 
 -- the same fourteen tests and the order, in the code's grouping and in the rules'
 regroup : (u t1 t2 t3 t4 g c1 c2 c3 c4 n1 n2 n3 n4 o : Bool)
-    → (((u && g) && (((t1 && n1) && c1) && (((t2 && n2) && c2) && (((t3 && n3) && c3) && (((t4 && n4) && c4) && true))))) && o)
+    → (((u && g) && (((((t1 && n1) && c1) && ((t2 && n2) && c2)) && ((t3 && n3) && c3)) && ((t4 && n4) && c4))) && o)
     ≡ (((((u && t1) && t2) && t3) && t4) && ((((((g && c1) && c2) && c3) && c4) && (((n1 && n2) && n3) && n4)) && o))
 regroup u t1 t2 t3 t4 g c1 c2 c3 c4 n1 n2 n3 n4 o = go u t1 t2 t3 t4 g c1 c2 c3 c4 n1 n2 n3 n4
   where
-    go : (u t1 t2 t3 t4 g c1 c2 c3 c4 n1 n2 n3 n4 : Bool) → (((u && g) && (((t1 && n1) && c1) && (((t2 && n2) && c2) && (((t3 && n3) && c3) && (((t4 && n4) && c4) && true))))) && o) ≡ (((((u && t1) && t2) && t3) && t4) && ((((((g && c1) && c2) && c3) && c4) && (((n1 && n2) && n3) && n4)) && o))
+    go : (u t1 t2 t3 t4 g c1 c2 c3 c4 n1 n2 n3 n4 : Bool) → (((u && g) && (((((t1 && n1) && c1) && ((t2 && n2) && c2)) && ((t3 && n3) && c3)) && ((t4 && n4) && c4))) && o) ≡ (((((u && t1) && t2) && t3) && t4) && ((((((g && c1) && c2) && c3) && c4) && (((n1 && n2) && n3) && n4)) && o))
     go false t1 t2 t3 t4 g c1 c2 c3 c4 n1 n2 n3 n4 = refl
     go true false t2 t3 t4 g c1 c2 c3 c4 n1 n2 n3 n4 = simp and-none
     go true true false t3 t4 g c1 c2 c3 c4 n1 n2 n3 n4 = simp and-none
@@ -110,7 +108,7 @@ unsound-many s h = rw (lt-leb (s .created) 31 h)
 
 pub sound-is : (s : Supervisor) (u g l o : Bool) → s .created ≤ 31 → length (s .tasks) ≡ 31
     → u ≡ every unused (drop (s .created) (s .tasks)) → g ≡ every (goodIn (view s)) (downFrom (s .created))
-    → l ≡ every (standsIn s) lines → o ≡ ascending (leftOf (view s)) 0 (line (s .delays))
+    → l ≡ (((standsIn s Ready && standsIn s Callers) && standsIn s Held) && standsIn s Delays) → o ≡ ascending (leftOf (view s)) 0 (line (s .delays))
     → (((u && g) && l) && o) ≡ soundWhole s
 unfolding sound lineHas
 sound-is s u g l o h k eu eg el eo =

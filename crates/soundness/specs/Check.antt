@@ -12,8 +12,6 @@ use Rattle.rules.specs.Whole.{view}
 use Rattle.rules.specs.declared.Supervisor.{Supervisor}
 use Rattle.rules.specs.declared.Task.{Task}
 use Rattle.soundness.specs.Marks.{Marks, noMarks, hasMark, withMark, withoutMark, isNone}
-use Rattle.soundness.specs.declared.stand.Line.{Line}
-use Rattle.soundness.specs.declared.stand.Line.the-variants.{Ready, Callers, Held, Delays}
 
 -- x is one of 1..most
 abbrev pub named : ℕ → ℕ → Bool
@@ -36,6 +34,13 @@ ascending k a (x ∷ xs) = leb a (k x) && ascending k (k x) xs
 
 -- ── a line ──
 
+-- the four lines
+pub data Line : Type 0 where
+  Ready : Line
+  Callers : Line
+  Held : Line
+  Delays : Line
+
 -- a task that stands in the line: by its place, or by its time
 abbrev pub belongs : Line → Task → Bool
 belongs Ready x = isReady (x .place)
@@ -49,10 +54,6 @@ arrayOf s Ready = s .ready
 arrayOf s Callers = s .callers
 arrayOf s Held = s .held
 arrayOf s Delays = s .delays
-
--- all four
-abbrev pub lines : List Line
-lines = Ready ∷ Callers ∷ Held ∷ Delays ∷ []
 
 -- the array is task numbers 1..n and blanks behind, and has each of 1..n once if it passes the test, and else not
 unfoldable pub lineHas : ℕ → (ℕ → Bool) → List ℕ → Bool

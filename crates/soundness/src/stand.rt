@@ -1,41 +1,17 @@
 // Each task stands once in the line of its place, and nowhere else.
 ghost use Prim.Native.Nat.{_≤_};
-ghost use lib.ListN.{length, getD};
+ghost use lib.ListN.{length};
 ghost use mathlib.Core.Bool.{_&&_, not};
 ghost use mathlib.Core.Path.{_≡_};
 ghost use lib.Dec.{eqb};
-ghost use Rattle.lists.specs.Lists.{every};
-ghost use Rattle.soundness.specs.Check.{belongs, emptied, full, lines, standsIn};
-ghost use Rattle.soundness.specs.declared.stand.Line.the-variants.{Delays};
+ghost use Rattle.soundness.specs.Check.{Ready, Callers, Held, Delays, emptied, full, standsIn};
 ghost use Rattle.soundness.specs.Marks.{hasMark};
 use crate::marks;
 use rules::Supervisor;
-use rules::Task;
 use table::place::has_time;
 use table::place::is_held;
 use table::place::is_queued;
 use table::place::is_ready;
-
-pub enum Line {
-    Ready,
-    Callers,
-    Held,
-    Delays,
-}
-
-// Whether a task stands in the line: by its place, or by its time.
-fn is_of(l: Line, x: Task) -> bool
-    ensures { λ r. ⌜ r ≡ belongs l x ⌝ }
-{
-    let p = x.place;
-    let w = x.timer;
-    match l {
-        Line::Ready => is_ready(p),
-        Line::Callers => is_queued(p),
-        Line::Held => is_held(p),
-        Line::Delays => has_time(w),
-    }
-}
 
 // How many places of the array are not blank.
 fn filled(a: &[u8; 31]) -> u8
@@ -78,50 +54,28 @@ fn is_met(a: &[u8; 31], word: u32) -> bool
     marks::is_none(rest)
 }
 
-// The line holds each created task that belongs into it, once, and nothing else.
-fn in_line(s: Supervisor, l: Line) -> bool
+// Each line holds each created task that belongs into it, once, and nothing else. One pass over the table says who belongs where.
+pub fn in_lines(s: Supervisor) -> bool
     requires { ⌜ s .created ≤ 31 ⌝ }
-    ensures { λ r. ⌜ r ≡ standsIn s l ⌝ }
+    ensures { λ r. ⌜ r ≡ (((standsIn s Ready && standsIn s Callers) && standsIn s Held) && standsIn s Delays) ⌝ }
 {
-    let mut word: u32 = 0;
+    let mut ready: u32 = 0;
+    let mut callers: u32 = 0;
+    let mut held: u32 = 0;
+    let mut delays: u32 = 0;
     let mut t: u8 = 0;
     while t < s.created {
         let x = s.tasks[t as usize];
+        let p = x.place;
+        let w = x.timer;
         t += 1;
-        word = marks::with(word, t, is_of(l, x));
+        ready = marks::with(ready, t, is_ready(p));
+        callers = marks::with(callers, t, is_queued(p));
+        held = marks::with(held, t, is_held(p));
+        delays = marks::with(delays, t, has_time(w));
     }
-    match l {
-        Line::Ready => is_met(&s.ready, word),
-        Line::Callers => is_met(&s.callers, word),
-        Line::Held => is_met(&s.held, word),
-        Line::Delays => is_met(&s.delays, word),
-    }
-}
-
-// The line with the number i; the last for every number above.
-fn line_at(i: u8) -> Line
-    ensures { λ r. ⌜ r ≡ getD lines i Delays ⌝ }
-{
-    match i {
-        0 => Line::Ready,
-        1 => Line::Callers,
-        2 => Line::Held,
-        _ => Line::Delays,
-    }
-}
-
-// Each of the four lines.
-pub fn in_lines(s: Supervisor) -> bool
-    requires { ⌜ s .created ≤ 31 ⌝ }
-    ensures { λ r. ⌜ r ≡ every (standsIn s) lines ⌝ }
-{
-    let mut i: u8 = 0;
-    while i < 4 {
-        if in_line(s, line_at(i)) {
-            i += 1;
-        } else {
-            return false;
-        }
-    }
-    true
+    is_met(&s.ready, ready)
+        & is_met(&s.callers, callers)
+        & is_met(&s.held, held)
+        & is_met(&s.delays, delays)
 }
