@@ -182,7 +182,7 @@ guess-back (Advance n) f = ap guessBy (hear-number (begun 498) n) ∙ ap Advance
 
 -- ── the numbers of a guess ──
 
-by-test : (P : C.Call → Type 0) (b : Bool) {x y : C.Call} → P x → P y → P (if b then x else y)
+pub by-test : (P : C.Call → Type 0) (b : Bool) {x y : C.Call} → P x → P y → P (if b then x else y)
 by-test P true p q = p
 by-test P false p q = q
 

@@ -5,4 +5,5 @@ pub mod Sets
 pub mod Back
 pub mod Shape
 pub mod Reading
+pub mod Statements
 pub mod Unique

@@ -10,7 +10,7 @@ use lib.Signed.{ltZ}
 use borrow.Author.Tests.{ltb-true, le-leb}
 use mir.Syntax.{w32}
 use mir.Val.{SFits, toZ, ofZ}
-use mir.Facts.{toZ-ofZ, toZ-pos}
+use mir.Facts.{toZ-neg, toZ-pos}
 use Rattle.calls.specs.Duration.{ticks}
 use Rattle.calls.proofs.Signed.{differ}
 use Rattle.text.specs.Text.{decimal}
@@ -20,7 +20,7 @@ use Rattle.script.specs.CallText.{spaced, spacedTime}
 pub below : (x : ℕ) → x < 2147483648 → toZ w32 (4294967295 - x) ≡ negsuc x
 below x h =
     let e : 4294967295 - x ≡ 2 ^ 32 - suc x = omega arith in
-    rw e (toZ-ofZ {w = w32} {z = negsuc x} (record { sfits = omega arith }))
+    rw e (toZ-neg w32 x (omega arith))
 
 pub above : (x : ℕ) → x < 2147483648 → toZ w32 x ≡ pos x
 above x h = let g : x < 2 ^ 31 = omega arith in toZ-pos w32 g
