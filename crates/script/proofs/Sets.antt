@@ -1,4 +1,4 @@
--- The text of an open set that is not empty: one table of all 255, computed once.
+-- The text of an open set that is not empty: one table of all 255 sets, computed once.
 -- Assumes nothing.
 use Prim.Native.Nat.{ℕ, zero, suc, _≤_, _<_}
 use mathlib.Core.Path.{_≡_, refl, sym, ap, subst}
