@@ -9,25 +9,25 @@ use borrow.Author.Tests.{eqb-true, eqb-false}
 use lib.Dec.{eqb}
 use Rattle.calls.specs.declared.Read.{Read}
 use lib.ListN.{length}
-use Rattle.lists.proofs.Tests.{cases}
+use Rattle.lists.proofs.ListLaws.{by-bool}
 use Rattle.calls.specs.Reading.{faulty, readOf, refusalOf, countOf, refusalFor, countFor}
 
 -- the answer's numbers are those that the bytes call for
 pub refusal-is : (s : List ℕ) → refusalOf (readOf s) ≡ refusalFor s
 unfolding readOf refusalFor
-refusal-is s = cases (eqb (length s) 0) (λ e. simp e) (λ e. cases (faulty s) (λ f. simp (e, f)) (λ f. simp (e, f)))
+refusal-is s = by-bool (eqb (length s) 0) (λ e. simp e) (λ e. by-bool (faulty s) (λ f. simp (e, f)) (λ f. simp (e, f)))
 
 pub count-is : (s : List ℕ) → countOf (readOf s) ≡ countFor s
 unfolding readOf refusalFor countFor
-count-is s = cases (eqb (length s) 0) (λ e. simp e) (λ e. cases (faulty s) (λ f. simp (e, f)) (λ f. simp (e, f)))
+count-is s = by-bool (eqb (length s) 0) (λ e. simp e) (λ e. by-bool (faulty s) (λ f. simp (e, f)) (λ f. simp (e, f)))
 
 -- BAD_RECORD exactly when bytes are left and the record has one of the six faults
 pub bad-record-exactly : (s : List ℕ) → (refusalOf (readOf s) ≡ 11) ↔ ((0 < length s) × (faulty s ≡ true))
 unfolding readOf
 bad-record-exactly s =
-    cases (eqb (length s) 0)
+    by-bool (eqb (length s) 0)
     (λ e. ((λ r. absurd (omega (arith, simp e at r))), (λ h. absurd (omega (arith, eqb-true (length s) 0 e, h .0)))))
-    (λ e. cases (faulty s)
+    (λ e. by-bool (faulty s)
     (λ f. ((λ r. (omega (arith, eqb-false (length s) 0 e), f)), (λ h. simp (e, f))))
     (λ f. ((λ r. absurd (omega (arith, simp (e, f) at r))), (λ h. let z : _≡_ {A = ℕ} 0 1 = cc in absurd (omega arith)))))
 
@@ -35,9 +35,9 @@ bad-record-exactly s =
 pub end-of-log-exactly : (s : List ℕ) → (refusalOf (readOf s) ≡ 12) ↔ (length s ≡ 0)
 unfolding readOf
 end-of-log-exactly s =
-    cases (eqb (length s) 0)
+    by-bool (eqb (length s) 0)
     (λ e. ((λ r. eqb-true (length s) 0 e), (λ h. simp e)))
-    (λ e. ((λ r. cases (faulty s) (λ f. absurd (omega (arith, simp (e, f) at r))) (λ f. absurd (omega (arith, simp (e, f) at r)))), (λ h. absurd (eqb-false (length s) 0 e h))))
+    (λ e. ((λ r. by-bool (faulty s) (λ f. absurd (omega (arith, simp (e, f) at r))) (λ f. absurd (omega (arith, simp (e, f) at r)))), (λ h. absurd (eqb-false (length s) 0 e h))))
 
 -- what the contract says of an answer, for the answer that is right
 pub answers : (s : List ℕ) (r : Read) → r ≡ readOf s

@@ -8,7 +8,8 @@ use borrow.Author.Tests.{eqb-true, ne-eqb, lt-leb, leb-true}
 use lib.ListN.{length, take, drop, length-drop}
 use lib.Seq.{take-append-add, getD-drop}
 use lib.Dec.{eqb, leb}
-use Rattle.lists.proofs.Tests.{cases, and-first, and-second}
+use Rattle.lists.proofs.ListLaws.{by-bool}
+use Rattle.lists.proofs.Tests.{and-first, and-second}
 use Rattle.calls.specs.Duration.{bytesOf}
 use Rattle.calls.specs.Record.{byte, fourFrom}
 use Rattle.calls.specs.Range.{Bytes}
@@ -36,7 +37,7 @@ place-exact (suc (suc (suc (suc (suc (suc (suc n))))))) a c e =
     differ (sym e ∙ rw f)
 
 timer-exact : (tag d : ℕ) → isTimer tag d ≡ true → (timerTag (timerFrom tag d) ≡ tag) × (timerDue (timerFrom tag d) ≡ d)
-timer-exact zero d e = cases (eqb d 0) (λ h. (refl, sym (eqb-true d 0 h))) (λ h. differ (sym (rw h at e)))
+timer-exact zero d e = by-bool (eqb d 0) (λ h. (refl, sym (eqb-true d 0 h))) (λ h. differ (sym (rw h at e)))
 timer-exact (suc zero) d e = (refl, refl)
 timer-exact (suc (suc n)) d e =
     let f : eqb (suc (suc n)) 0 ≡ false = ne-eqb (suc (suc n)) 0 (λ z. omega arith) in

@@ -9,7 +9,7 @@ use lib.ListN.{set, take}
 use borrow.Author.Tests.{eq-eqb, ne-eqb, ltb-true, ltb-false}
 use Rattle.lists.specs.Line.{pad}
 use Rattle.lists.specs.Lists.{if_then_else_, rejoin}
-use Rattle.lists.proofs.Tests.{cases}
+use Rattle.lists.proofs.ListLaws.{by-bool}
 use Rattle.lists.proofs.Turns.{fill-front, fill-last, filled, filled-up}
 
 stays : (b : Bool) (t x : ℕ) (ys : List ℕ) → (x ≡ t → ⊥) → rejoin b t (x ∷ ys) ≡ x ∷ rejoin b t ys
@@ -31,5 +31,5 @@ module _ (b : Bool) (t : ℕ) (r : List ℕ) (j : ℕ) (laid : r ≡ pad (take j
   rejoin-end xs n q e = e ∙ go b ∙ ap (λ (l : List ℕ). pad (take j r ++ rejoin b t l)) (sym q)
     where
       go : (b : Bool) → (if b && ltb j 31 then set r j t else r) ≡ pad (take j r ++ rejoin b t [])
-      go true = cases (ltb j 31) (λ h. rw h (fill-last r j t (ltb-true j 31 h) laid)) (λ h. rw h (sym (filled-up r j (t ∷ []) (ltb-false j 31 h) laid)))
+      go true = by-bool (ltb j 31) (λ h. rw h (fill-last r j t (ltb-true j 31 h) laid)) (λ h. rw h (sym (filled-up r j (t ∷ []) (ltb-false j 31 h) laid)))
       go false = sym (filled r j laid)

@@ -3,21 +3,21 @@
 use Prim.Native.Nat.{ℕ, zero, suc, _-_, _≤_, _<_, suc-le-suc, zero-le}
 use native.Mathlib.Nat.{le-of-suc-le-suc, not-suc-le-zero, le-refl, suc-inj, suc-ne-zero}
 use native.Mathlib.Omega.{arith}
-use mathlib.Core.Path.{_≡_, refl, sym, ap, _∙_, subst}
-use mathlib.Core.Logic.{_⊎_, inl, inr}
-use mathlib.Core.Bool.{Bool, true, false, not, _&&_, _||_, true≢false, false≢true}
+use mathlib.Core.Path.{_≡_, refl, sym, ap, _∙_}
+use mathlib.Core.Bool.{Bool, true, false, not}
 use mathlib.Core.List.{List, [], _∷_, _++_, nil≢cons, tail-eq-of-cons-eq}
-use lib.Dec.{eqb, eqb·suc-zero}
-use lib.ListN.{length, take, drop, getD, length-append}
-use borrow.Author.Tests.{eqb-true, eqb-false, eq-eqb, ne-eqb, not-true}
+use lib.Dec.{eqb}
+use lib.ListN.{length, take, getD}
+use borrow.Author.Tests.{eqb-true}
 use Rattle.lists.specs.Lists.{if_then_else_, filter, remove, insert, first, last}
 use Rattle.lists.specs.Line.{line, padTo, pad, insertAt, slotOf, blanks, tidy}
-use Rattle.lists.proofs.Tests.{cases, and-first, and-second}
+use Rattle.lists.proofs.ListLaws.{by-bool}
+use Rattle.lists.proofs.Tests.{and-first, and-second}
 
 -- a filtered list is no longer
 pub length-filter : (p : ℕ → Bool) (xs : List ℕ) → length (filter p xs) ≤ length xs
 length-filter p [] = le-refl 0
-length-filter p (x ∷ xs) = let ih = length-filter p xs in cases (p x) (λ e. simp e (omega arith)) (λ e. simp e (omega arith))
+length-filter p (x ∷ xs) = let ih = length-filter p xs in by-bool (p x) (λ e. simp e (omega arith)) (λ e. simp e (omega arith))
 
 -- a place beyond the end is the end
 pub insertAt-end : (i t : ℕ) (xs : List ℕ) → length xs ≤ i → insertAt i t xs ≡ xs ++ (t ∷ [])
@@ -132,7 +132,7 @@ line-filter p [] h = refl
 line-filter p (x ∷ xs) h =
     let d = line-cons x xs h in
     let ih = line-filter p xs (d .1) in
-    cases (p x) (λ e. simp e (line-of-cons x (filter p xs) (d .0) ih)) (λ e. simp e ih)
+    by-bool (p x) (λ e. simp e (line-of-cons x (filter p xs) (d .0) ih)) (λ e. simp e ih)
 
 -- those of a line that pass a test, laid out and read back
 pub line-picked : (p : ℕ → Bool) (a : List ℕ) → length a ≡ 31 → line (pad (filter p (line a))) ≡ filter p (line a)

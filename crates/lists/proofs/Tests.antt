@@ -1,13 +1,8 @@
--- Tests taken apart: by cases on a test or on the way that control came, both parts of an `and`.
+-- The way that control came, and both parts of an `and` (ListLaws has the laws of single tests).
 -- Assumes nothing.
-use mathlib.Core.Path.{_≡_, refl}
+use mathlib.Core.Path.{_≡_, refl, sym, _∙_}
 use mathlib.Core.Logic.{_⊎_, inl, inr}
 use mathlib.Core.Bool.{Bool, true, false, _&&_, false≢true}
-
--- by cases on a test, with what it came to
-pub cases : {G : Type 0} (b : Bool) → (b ≡ true → G) → (b ≡ false → G) → G
-cases true f g = f refl
-cases false f g = g refl
 
 -- by cases on the way that control came: the sum first, so that antt knows each way's facts
 pub ways : {A B G : Type 0} → A ⊎ B → (A → G) → (B → G) → G
@@ -23,3 +18,8 @@ and-first false b h = h
 pub and-second : (a b : Bool) → (a && b) ≡ true → b ≡ true
 and-second true b h = h
 and-second false b h = absurd (false≢true h)
+
+-- the second part of an `and` that is false is true: the first is false
+pub and-false : (a b : Bool) → (a && b) ≡ false → b ≡ true → a ≡ false
+and-false true b e h = sym h ∙ e
+and-false false b e h = refl

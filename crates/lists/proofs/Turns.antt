@@ -8,8 +8,8 @@ use mathlib.Core.Path.{_≡_, refl, sym, ap, _∙_, subst}
 use mathlib.Core.Bool.{Bool, true, false}
 use mathlib.Core.List.{List, [], _∷_, _++_, append-nil}
 use lib.ListN.{length, replicate, take, drop, getD, set, drop-of-length-le}
-use lib.Seq.{take-suc, drop-cons, take-suc-set, take-all, length-take-le, append-snoc}
-use Rattle.lists.specs.Lists.{if_then_else_, filter}
+use lib.Seq.{drop-cons, take-suc-set, take-all, length-take-le, append-snoc}
+use Rattle.lists.specs.Lists.{filter}
 use Rattle.lists.specs.Line.{line, pad, padTo, insertAt, slotOf}
 use Rattle.lists.proofs.LineLaws.{take-pad, length-padTo, padTo-full}
 

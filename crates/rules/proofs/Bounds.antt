@@ -1,19 +1,14 @@
 -- A queue that a caller would join has at most 30 callers: the caller is itself one of at most 31 tasks, and ready.
 -- Assumes nothing.
-use Prim.Native.Nat.{ℕ, zero, suc, _+_, _*_, _-_, _≤_, _<_}
-use mathlib.Core.Path.{_≡_, refl, sym, _∙_, ap}
-use mathlib.Core.Bool.{Bool, true, false}
-use mathlib.Core.List.{List, [], _∷_, _++_, map}
+use Prim.Native.Nat.{ℕ, _≤_, _<_}
+use mathlib.Core.Path.{_≡_}
+use mathlib.Core.List.{_∷_}
 use native.Mathlib.Omega.{arith}
-use lib.ListN.{length, drop, length-drop, length-map}
-use lib.Dec.{eqb, ltb}
+use lib.ListN.{length}
+use lib.Dec.{ltb}
 use borrow.Author.Tests.{eq-eqb, ne-eqb, ltb-true, ltb-false}
-use Rattle.lists.specs.Lists.{bit, count}
-use Rattle.rules.specs.State.{State, placeOf, queue}
-use Rattle.rules.specs.Step.{bytes, roomAfter}
-use Rattle.rules.specs.declared.Item.{Item}
-use Rattle.rules.specs.declared.Place.{Place}
-use Rattle.rules.specs.declared.Place.the-variants.{Ready, Queued}
+use Rattle.lists.specs.Lists.{count}
+use Rattle.rules.specs.State.{State, queue}
 use Rattle.lists.proofs.ListLaws.{by-eq, by-bool}
 use Rattle.rules.proofs.Invariant.{Sound}
 use Rattle.rules.proofs.Members.{Runs, of-queue, queued-there}

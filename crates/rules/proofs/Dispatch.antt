@@ -2,32 +2,29 @@
 -- Assumes nothing.
 use Prim.Native.Nat.{ℕ, zero, suc, _≤_, _<_}
 use mathlib.Core.Path.{_≡_, refl, sym, _∙_, ap, subst}
-use mathlib.Core.Logic.{_⊎_, inl, inr}
-use mathlib.Core.Bool.{Bool, true, false, not, _&&_}
+use mathlib.Core.Logic.{inl, inr}
+use mathlib.Core.Bool.{true, not}
 use mathlib.Core.List.{List, [], _∷_}
 use native.Mathlib.Omega.{arith}
 use lib.ListN.{length}
-use lib.Dec.{T, eqb, ltb, leb}
-use borrow.Author.Tests.{eqb-true, eq-eqb, le-ltb, not-false}
-use Rattle.lists.specs.Lists.{bit, count, filter, downFrom}
-use Rattle.rules.specs.State.{State, taskOf, placeOf, priorityOf, created, isReady, isQueued, partnerOf, entryOf, level, atLevel, headUpTo, running, queue, waitsOn}
-use Rattle.rules.specs.Sound.{sound}
-use Rattle.rules.specs.Step.{Outcome, refused, took, SHORT-ROOM, BAD-STATE, Refusal, roomAfter, takeCall}
-use Rattle.rules.specs.Whole.{Whole, view, pack, packed, soundWhole, decline, done, stepWhole}
+use lib.Dec.{ltb}
+use borrow.Author.Tests.{eqb-true, eq-eqb, le-ltb}
+use Rattle.lists.specs.Lists.{count, downFrom}
+use Rattle.rules.specs.State.{State, placeOf, priorityOf, created, isReady, level, atLevel, headUpTo, running, queue, waitsOn}
+use Rattle.rules.specs.Step.{Outcome, refused, took, SHORT-ROOM, BAD-STATE, Refusal, takeCall}
+use Rattle.rules.specs.Whole.{Typed, Whole, view, soundWhole, decline, done, stepWhole}
 use Rattle.rules.specs.Questions.{countWhole}
-use Rattle.rules.specs.EachStep.{Untouched, Heads, Dispatched, waitingOn, EachStep}
-use Rattle.rules.specs.declared.Item.{Item}
+use Rattle.rules.specs.EachStep.{Untouched, Dispatched, waitingOn, EachStep}
 use Rattle.rules.specs.declared.Supervisor.{Supervisor}
-use Rattle.rules.specs.declared.Place.{Place}
 use Rattle.rules.specs.declared.Place.the-variants.{Ready}
 use Rattle.calls.specs.declared.Call as C
-use Rattle.lists.proofs.ListLaws.{by-eq, by-bool, by-test, and-r, true-T, is-true, count-filter-yes, count-filter-no, same-length, down-once}
+use Rattle.lists.proofs.ListLaws.{by-eq, by-bool, by-test, count-filter-yes, count-filter-no, same-length, down-once}
 use Rattle.rules.proofs.Invariant.{Sound}
-use Rattle.rules.proofs.Members.{in-filter, there, ready-is, bit-true, not-blank, runs, queued-is, queued-there, and-first}
-use Rattle.rules.proofs.SoundTest.{sound-props}
+use Rattle.rules.proofs.Members.{in-filter, there, ready-is, bit-true, not-blank, runs, queued-is, queued-there}
 use Rattle.rules.proofs.SoundSaid.{nobody}
 use Rattle.rules.proofs.StepSound.{Kept, call-sound}
-use Rattle.rules.proofs.WholeLaws.{view-pack}
+use Rattle.rules.proofs.WholeLaws.{view-pack, sound-view}
+use Rattle.rules.proofs.EveryStruct.{step-typed}
 use Rattle.rules.proofs.Bounds.{queue-has-room}
 
 -- ── a refused step ──
@@ -84,10 +81,7 @@ dispatched s h = up-to 15 above
 
 -- ── a sound struct ──
 
-sound-view : (s : Supervisor) → s .clock < 4294967296 → soundWhole s ≡ true → Sound (view s)
-sound-view s k e = sound-props (view s) k (is-true (sound (view s)) (and-r (packed s) (sound (view s)) (true-T e)))
-
-dispatched-after : (s : Supervisor) → s .clock < 4294967296 → soundWhole s ≡ true → (c : C.Call) (room : ℕ) → 124 ≤ room → Dispatched (view (stepWhole s c room .state)) (stepWhole s c room .next)
+dispatched-after : (s : Supervisor) → Typed s → soundWhole s ≡ true → (c : C.Call) (room : ℕ) → 124 ≤ room → Dispatched (view (stepWhole s c room .state)) (stepWhole s c room .next)
 unfolding stepWhole
 dispatched-after s k e c room j = rw (le-ltb room 124 j, e) (go (takeCall (view s) c) (call-sound (view s) c (sound-view s k e)))
   where
@@ -95,7 +89,7 @@ dispatched-after s k e c room j = rw (le-ltb room 124 j, e) (go (takeCall (view 
     go (refused r) h = dispatched (view s) (sound-view s k e)
     go (took st a l) h = subst (λ (x : State). Dispatched x (running st)) (sym (view-pack st h)) (dispatched st h)
 
-has-room : (s : Supervisor) → s .clock < 4294967296 → soundWhole s ≡ true → 0 < running (view s) → (g e : ℕ) → length (queue (view s) g e) ≤ 30
+has-room : (s : Supervisor) → Typed s → soundWhole s ≡ true → 0 < running (view s) → (g e : ℕ) → length (queue (view s) g e) ≤ 30
 has-room s k e r g n = go (running (view s)) refl r
   where
     go : (t : ℕ) → running (view s) ≡ t → 0 < t → length (queue (view s) g n) ≤ 30
@@ -115,9 +109,9 @@ queue-counts s t e h = same-length (length (queue s t e)) (queue s t e) (waiting
         count-filter-yes (waitsOn s t e) u (s .callers) y ∙ h .callers u ∙ rw (q .1) (sym (count-filter-yes (waitsOn s t e) u (downFrom (created s)) y ∙ down-once u (created s) (i .0) (i .1))))
         (λ y. count-filter-no (waitsOn s t e) u (s .callers) y ∙ sym (count-filter-no (waitsOn s t e) u (downFrom (created s)) y))
 
-counted : (s : Supervisor) → s .clock < 4294967296 → soundWhole s ≡ true → (t e : ℕ) → countWhole s t e .count ≡ length (waitingOn (view s) t e)
+counted : (s : Supervisor) → Typed s → soundWhole s ≡ true → (t e : ℕ) → countWhole s t e .count ≡ length (waitingOn (view s) t e)
 unfolding countWhole
 counted s k e t n = rw e (queue-counts (view s) t n (sound-view s k e))
 
 pub each-step : EachStep
-each-step = record { refused = untouched; dispatched = dispatched-after; queue-has-room = has-room; counted = counted }
+each-step = record { refused = untouched; typed = step-typed; dispatched = dispatched-after; queue-has-room = has-room; counted = counted }

@@ -1,26 +1,24 @@
 -- A step ends at most one wait of a task, of one that was waiting, and at most 31 in all; a wait ends once.
 -- Assumes nothing.
-use Prim.Native.Nat.{ℕ, zero, suc, _+_, _≤_, _<_}
-use mathlib.Core.Path.{_≡_, refl, sym, _∙_, ap}
+use Prim.Native.Nat.{ℕ, _≤_, _<_}
+use mathlib.Core.Path.{_≡_, refl, ap}
 use mathlib.Core.Logic.{_⊎_, inl, inr}
 use mathlib.Core.Bool.{Bool, true, false}
 use mathlib.Core.List.{List, [], _∷_, map}
 use native.Mathlib.Omega.{arith}
 use lib.ListN.{length, length-map}
-use lib.Dec.{eqb, ltb}
-use borrow.Author.Tests.{eq-eqb, ne-eqb}
-use Rattle.lists.specs.Lists.{bit, count, every}
-use Rattle.rules.specs.State.{State, taskOf, placeOf}
-use Rattle.rules.specs.Runs.{Ask, Given, Entry, isWaiting, begun, reasons, ended}
+use lib.Dec.{eqb}
+use borrow.Author.Tests.{eq-eqb}
+use Rattle.lists.specs.Lists.{count, every}
+use Rattle.rules.specs.State.{State, placeOf}
+use Rattle.rules.specs.Runs.{Ask, Given, isWaiting, begun, reasons, ended}
 use Rattle.rules.specs.OverRuns.{EndsOnce, WereWaiting, FewEnds}
 use Rattle.rules.specs.declared.Item.{Item}
-use Rattle.rules.specs.declared.Place.{Place}
-use Rattle.rules.specs.declared.Place.the-variants.{Blank}
-use Rattle.lists.proofs.ListLaws.{by-eq, by-bool, at-most}
+use Rattle.lists.proofs.ListLaws.{by-bool, at-most}
 use Rattle.rules.proofs.Invariant.{Sound}
 use Rattle.rules.proofs.Members.{there}
-use Rattle.rules.proofs.StateRuns.{entry, logOf, reach}
-use Rattle.rules.proofs.Fate.{Fate, untouched, awake, began, began-held, taken, ran-out, accepted, served, given-up}
+use Rattle.rules.proofs.StateRuns.{entry, logOf}
+use Rattle.rules.proofs.Fate.{untouched, awake, began, began-held, taken, ran-out, accepted, served, given-up}
 use Rattle.rules.proofs.OverRuns.{StepFate, not-taken, was-taken, step-fate, step-sound, timed-waits-place, counted, no}
 
 -- a wait of u ended: one, u was waiting before, and is not afterwards

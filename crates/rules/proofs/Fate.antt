@@ -1,19 +1,18 @@
 -- What a call does to each task: one of nine things. All that is said of runs follows from this.
 -- Assumes nothing.
-use Prim.Native.Nat.{ℕ, zero, suc, _+_, _-_, _%_, _≤_, _<_, _^_}
-use mathlib.Core.Path.{_≡_, refl, sym, _∙_, ap, subst}
-use mathlib.Core.Bool.{Bool, true, false, not, _&&_, _||_}
+use Prim.Native.Nat.{ℕ, zero, suc, _+_, _≤_, _<_, _^_}
+use mathlib.Core.Path.{_≡_, refl, sym, _∙_, ap}
+use mathlib.Core.Bool.{Bool, true, false, not, _&&_}
 use mathlib.Core.List.{List, [], _∷_, _++_, map}
 use native.Mathlib.Omega.{arith}
-use lib.IntN.{ℤ, pos, negsuc}
-use lib.ListN.{length, getD, List·getD-append, length-append}
-use lib.Seq.{getD-append-seam}
-use lib.Dec.{T, eqb, ltb, leb, eqb→eq, ltb→lt, leb→le}
-use borrow.Author.Tests.{eqb-true, eqb-false, eq-eqb, ne-eqb, ltb-true, ltb-false, leb-true, leb-false, not-true, not-false, lt-ltb}
-use Rattle.lists.specs.Lists.{if_then_else_, bit, count, filter, first, last, remove, insert}
-use Rattle.rules.specs.State.{State, blank, nth, setNth, taskOf, placeOf, timerOf, created, isTask, isReady, isQueued, isHeld, isCompleted, partnerOf, entryOf, accepts, opens, hasTime, ticksLeft, left, after, round, fresh, move, wake, meet, part, meeting, wakeAll, add, setClock, queue, heldBy, running, waiting, offer, waitsOn}
+use lib.IntN.{ℤ}
+use lib.ListN.{length}
+use lib.Dec.{eqb, ltb, leb}
+use borrow.Author.Tests.{eq-eqb, ne-eqb, ltb-true, ltb-false, leb-true, leb-false}
+use Rattle.lists.specs.Lists.{count, first, last}
+use Rattle.rules.specs.State.{State, nth, taskOf, placeOf, timerOf, created, isTask, isQueued, isCompleted, entryOf, accepts, left, after, fresh, move, wake, meet, meeting, wakeAll, queue, heldBy, running, waiting, offer, waitsOn}
 use Rattle.rules.specs.Sound.{inRange}
-use Rattle.rules.specs.Step.{Outcome, refused, took, item, create, delayFor, enqueue, timedCall, callBusy, call, openFrom, openEntry, selectDelay, selectNone, selectAt, select, endLast, end, queuedFrom, queuedOn, finish, dueAt, isDue, tick, ofRunning, takeCall, ticks}
+use Rattle.rules.specs.Step.{Outcome, refused, took, item, create, delayFor, enqueue, timedCall, callBusy, call, openEntry, selectDelay, selectNone, selectAt, select, endLast, end, queuedFrom, queuedOn, finish, takeCall, ticks}
 use Rattle.rules.specs.declared.Item.{Item}
 use Rattle.rules.specs.declared.Task.{Task}
 use Rattle.rules.specs.declared.Timer.{Timer}
@@ -30,15 +29,16 @@ use Rattle.calls.specs.declared.SelectMode.the-variants.{Plain, Else}
 use Rattle.calls.specs.declared.SelectMode.the-variants as S
 use Rattle.calls.specs.declared.Call as C
 use Rattle.calls.specs.declared.Call.the-variants.{Create, Delay, Call, Select, End, Finish, Tick, Advance}
-use Rattle.lists.proofs.ListLaws.{by-eq, by-bool, by-test, and-l, and-r, both, is-true, true-T, count-append, count-filter-yes, count-filter-no, count-filter-le, Ordered, ordered-cong}
-use Rattle.rules.proofs.Invariant.{Lined, Calls, Fits, InTime, Good, GoodAt, Sound}
-use Rattle.rules.proofs.Members.{in-filter, first-member, some-length, and-true, and-false, in-queue, of-queue, queued-good, queued-there, of-held, in-held, held-there, last-in, there, timed-there, bit-true, nth-beyond, Runs, runs}
-use Rattle.rules.proofs.MoveLaws.{Alike, alike, alike-trans, place-same, place-other, meet-same, meet-other, part-same, part-other, moved, task-same, task-other, length-move}
-use Rattle.rules.specs.Step.{failed, expired, expiry, WAITS, ELAPSED, SERVED, CALL-EXPIRED, TASKING-ERROR, ACCEPTED, DELAY-TAKEN, DONE}
+use Rattle.lists.proofs.ListLaws.{by-eq, by-bool, by-test, count-append, count-filter-le}
+use Rattle.rules.proofs.Invariant.{Sound}
+use Rattle.rules.proofs.Members.{bit-le, of-queue, queued-there, of-held, held-there, last-in, nth-beyond, Runs}
+use Rattle.rules.proofs.MoveLaws.{Alike, alike, alike-trans, place-same, place-other, meet-same, meet-other, part-same, part-other, task-same, task-other, length-move}
+use Rattle.rules.specs.Step.{failed, expiry, WAITS, SERVED, TASKING-ERROR, ACCEPTED, DONE}
 use Rattle.rules.specs.Runs.{isWaiting, reasons, duration, ticksOf}
 use Rattle.rules.specs.Step.{tickTo, endsAt, advanced, advanceEnds, readings}
-use Rattle.rules.proofs.Passes.{reasons-none, reasons-one, bit-le, in-time, Passes, stays, comes, tick-passes, advance-passes, later, later-is, advance-clock}
-use Rattle.rules.proofs.StepSound.{by-runner, wakeAll-clock, between, wakeAll-out, wakeAll-in, wakeAll-length, of-queuedFrom, one-open, nth-old, nth-new, nth-further, by-number, due-is}
+use Rattle.rules.proofs.Passes.{reasons-none, reasons-one, in-time, Passes, stays, comes, tick-passes, advance-passes, later, later-is, advance-clock}
+use Rattle.rules.proofs.StepSound.{by-runner, wakeAll-clock, between, wakeAll-out, wakeAll-in, wakeAll-length, of-queuedFrom, caller-taken}
+use Rattle.rules.proofs.AddLaws.{nth-old, nth-new, nth-further}
 
 -- where a wait that begins with a call stands, and its time
 abbrev pub placeFor : State → C.Call → Place
@@ -151,14 +151,13 @@ none-fate s u t o (S.Delay d) r = go (ticks d) refl
 none-fate s u t o Else r = untouched (alike refl) refl refl
 
 select-fate : (s : State) (u t o : ℕ) (m : SelectMode) → Runs s t → FateOf s (Select o m) u (select s t o m)
-unfolding openEntry
 select-fate s u t o m r = by-test (FateOf s (Select o m) u) (leb (2 ^ (taskOf s t .entries)) o) (λ _. tt) (λ _. go (openEntry s t o) refl)
   where
     go : (n : ℕ) → openEntry s t o ≡ n → FateOf s (Select o m) u (selectAt s t o m n)
     go zero z = none-fate s u t o m r
     go (suc e) z =
         let c = first (queue s t (suc e)) in
-        let q = of-queue s c t (suc e) (first-member (queue s t (suc e)) (ltb-true 0 _ (and-true (opens o (suc e)) (ltb 0 (length (queue s t (suc e)))) (one-open s t o 8 1 e z)))) in
+        let q = caller-taken s t o e z in
         let i = queued-there s c (q .0) (q .1) in
         by-eq u c
         (λ y. taken refl (q .0) (meeting s t (suc e)) (ap (placeOf s) y ∙ q .1) (ap (placeOf (meet s t c (suc e))) y ∙ meet-same s t c (r .low) (r .high) (i .0) (i .1) (suc e)) refl refl)

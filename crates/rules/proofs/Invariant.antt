@@ -1,16 +1,12 @@
 -- Soundness as propositions, and that it is what the test says.
 -- Assumes nothing.
-use Prim.Native.Nat.{ℕ, zero, suc, _+_, _≤_, _<_, _^_}
-use mathlib.Core.Path.{_≡_, refl, sym, _∙_, ap, subst}
-use mathlib.Core.Logic.{_⊎_, inl, inr}
-use mathlib.Core.Bool.{Bool, true, false, not, _&&_, _||_}
-use mathlib.Core.List.{List, [], _∷_, _++_}
-use native.Mathlib.Omega.{arith}
+use Prim.Native.Nat.{ℕ, _≤_, _<_, _^_}
+use mathlib.Core.Path.{_≡_}
+use mathlib.Core.Bool.{Bool, true, false}
+use mathlib.Core.List.{List}
 use lib.ListN.{length}
-use lib.Dec.{T, eqb, ltb, leb}
-use Rattle.lists.specs.Lists.{bit, count, every, inOrder, downFrom}
-use Rattle.rules.specs.State.{State, taskOf, placeOf, timerOf, created, isTask, isReady, isQueued, isHeld, isCompleted, partnerOf, entryOf, accepts, hasTime, ticksLeft, move, nth}
-use Rattle.rules.specs.Sound.{inRange, calls, fits, timeInRange, goodTask, standsRight, sound}
+use Rattle.lists.specs.Lists.{bit, count}
+use Rattle.rules.specs.State.{State, isReady, isQueued, isHeld, isCompleted, partnerOf, accepts, hasTime, ticksLeft, nth}
 use Rattle.rules.specs.declared.Task.{Task}
 use Rattle.rules.specs.declared.Timer.{Timer}
 use Rattle.rules.specs.declared.Timer.the-variants.{Off, Due}

@@ -1,20 +1,19 @@
 -- ADVANCE from due moment to due moment.
 -- Assumes nothing.
-use Prim.Native.Nat.{ℕ, zero, suc, _+_, _-_, _%_, _≤_, _<_}
+use Prim.Native.Nat.{ℕ, zero, suc, _+_, _-_, _≤_, _<_}
 use mathlib.Core.Path.{_≡_, refl, _∙_, ap}
-use mathlib.Core.Bool.{_&&_}
 use mathlib.Core.List.{List, [], _∷_, _++_, append-nil}
 use native.Mathlib.Omega.{arith}
 use lib.ListN.{length}
 use lib.Dec.{ltb, leb}
 use borrow.Author.Tests.{ltb-true, leb-true, lt-ltb}
-use Rattle.lists.specs.Lists.{if_then_else_, bit}
+use Rattle.lists.specs.Lists.{bit}
 use Rattle.rules.specs.State.{State, after, wake, wakeAll, setClock}
 use Rattle.rules.specs.Step.{dueAt, tickTo, endsAt, advanced, advanceEnds, readings}
 use Rattle.rules.specs.Advance.{till, comesIn, jumped, jumpEnds, jumps}
 use Rattle.lists.proofs.ListLaws.{by-bool}
+use Rattle.lists.proofs.Tests.{and-first, and-second}
 use Rattle.rules.proofs.Invariant.{Sound}
-use Rattle.rules.proofs.Members.{and-first, and-true}
 use Rattle.rules.proofs.StepSound.{advance-kept}
 use Rattle.rules.proofs.Quiet.{cut-state, cut-ends, cut-readings, Quiet, quiet, quiet-before, quiet-none, quiet-till, at-due}
 
@@ -58,7 +57,7 @@ crosses zero n s h k = quiet n s (h .clock) (quiet-none s n h (go (s .delays) k)
     go (x ∷ xs) k = absurd (omega arith)
 crosses (suc f) n s h k =
     by-bool (comesIn s n)
-    (λ b. rw b (jump (crosses f r s1) (ltb-true 0 (till s) (and-first (ltb 0 (till s)) (leb (till s) n) b)) (leb-true (till s) n (and-true (ltb 0 (till s)) (leb (till s) n) b))))
+    (λ b. rw b (jump (crosses f r s1) (ltb-true 0 (till s) (and-first (ltb 0 (till s)) (leb (till s) n) b)) (leb-true (till s) n (and-second (ltb 0 (till s)) (leb (till s) n) b))))
     (λ b. rw b (quiet n s (h .clock) (quiet-till s n h b)))
   where
     m : ℕ

@@ -1,6 +1,7 @@
 pub mod Invariant
 pub mod MoveLaws
 pub mod Members
+pub mod AddLaws
 pub mod StepSound
 pub mod SoundTest
 pub mod Passes
@@ -10,6 +11,7 @@ pub mod OverRuns
 pub mod Ends
 pub mod TimedWait
 pub mod WholeLaws
+pub mod EveryStruct
 pub mod SoundSaid
 pub mod Bounds
 pub mod Dispatch
@@ -17,5 +19,6 @@ pub mod WholeRuns
 pub mod Uses
 pub mod Quiet
 pub mod Jumps
+pub mod AdvanceFits
 pub mod AsTicks
 pub mod Advances

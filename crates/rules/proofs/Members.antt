@@ -1,24 +1,23 @@
 -- Who stands in a line or a queue, and what is known of the running task.
 -- Assumes nothing.
-use Prim.Native.Nat.{ℕ, zero, suc, _+_, _≤_, _<_, _^_}
-use mathlib.Core.Path.{_≡_, refl, sym, _∙_, ap, subst}
-use mathlib.Core.Bool.{Bool, true, false, not, _&&_, _||_}
-use mathlib.Core.List.{List, [], _∷_, _++_}
+use Prim.Native.Nat.{ℕ, zero, suc, _≤_, _<_}
+use mathlib.Core.Path.{_≡_, refl, ap}
+use mathlib.Core.Bool.{Bool, true, false, _&&_}
+use mathlib.Core.List.{List, [], _∷_}
 use native.Mathlib.Omega.{arith}
-use lib.ListN.{length, getD, List·getD-eq-default}
-use lib.Dec.{T, eqb, ltb, leb, eqb→eq}
-use borrow.Author.Tests.{eqb-true, eqb-false, eq-eqb, ne-eqb}
-use Rattle.lists.specs.Lists.{if_then_else_, bit, count, filter, first, last, every, inOrder, downFrom, remove, insert, rejoin}
-use Rattle.rules.specs.State.{State, blank, nth, setNth, taskOf, placeOf, timerOf, created, isTask, isReady, isQueued, isHeld, isCompleted, partnerOf, entryOf, accepts, hasTime, ticksLeft, left, retime, move, queue, heldBy, level, headUpTo, running, waitsOn, holds, atLevel}
+use lib.ListN.{length, List·getD-eq-default}
+use lib.Dec.{eqb, leb}
+use borrow.Author.Tests.{eqb-true, eq-eqb}
+use Rattle.lists.specs.Lists.{bit, count, filter, first, last}
+use Rattle.rules.specs.State.{State, blank, nth, taskOf, placeOf, timerOf, isReady, isQueued, isHeld, partnerOf, entryOf, hasTime, queue, heldBy, level, headUpTo, running, waitsOn, holds, atLevel}
 use Rattle.rules.specs.declared.Task.{Task}
-use Rattle.rules.specs.declared.Timer.{Timer}
-use Rattle.rules.specs.declared.Timer.the-variants.{Off, Due}
 use Rattle.rules.specs.declared.Waiting.{Waiting}
 use Rattle.rules.specs.declared.Meeting.{Meeting}
 use Rattle.rules.specs.declared.Place.{Place}
 use Rattle.rules.specs.declared.Place.the-variants.{Blank, Ready, Delayed, Queued, Held, Accepting, Completed}
-use Rattle.lists.proofs.ListLaws.{clash, by-eq, by-test, and-l, and-r, both, is-true, count-append, count-filter-yes, count-filter-no, Ordered}
-use Rattle.rules.proofs.Invariant.{Lined, Timed, Calls, Fits, Good, GoodAt, Sound}
+use Rattle.lists.proofs.Tests.{and-first, and-second}
+use Rattle.lists.proofs.ListLaws.{clash, count-filter-yes, count-filter-no}
+use Rattle.rules.proofs.Invariant.{Calls, Sound}
 
 -- ── members of a filtered list, the first and the last ──
 
@@ -52,6 +51,10 @@ ready-is (Queued q) e = cc
 ready-is (Held m) e = cc
 ready-is (Accepting o) e = cc
 ready-is Completed e = cc
+
+pub bit-le : (b : Bool) → bit b ≤ 1
+bit-le true = omega arith
+bit-le false = omega arith
 
 pub bit-true : (b : Bool) → 0 < bit b → b ≡ true
 bit-true true h = refl
@@ -98,24 +101,12 @@ pub some-length : (u : ℕ) (l : List ℕ) → 0 < count u l → 0 < length l
 some-length u [] h = h
 some-length u (x ∷ xs) h = omega arith
 
-pub and-true : (a b : Bool) → (a && b) ≡ true → b ≡ true
-and-true true b e = e
-and-true false b e = cc
-
-pub and-first : (a b : Bool) → (a && b) ≡ true → a ≡ true
-and-first true b e = refl
-and-first false b e = e
-
-pub and-false : (a b : Bool) → (a && b) ≡ false → b ≡ true → a ≡ false
-and-false true b e h = sym h ∙ e
-and-false false b e h = refl
-
 -- the place of a caller that waits on entry e of task t
 abbrev pub WaitsOn : Place → ℕ → ℕ → Type 0
 WaitsOn p t e = (q : Waiting) × (p ≡ Queued q) × (q .target ≡ t) × (q .entry ≡ e)
 
 pub queued-is : (p : Place) (t e : ℕ) → (isQueued p && eqb (partnerOf p) t && eqb (entryOf p) e) ≡ true → WaitsOn p t e
-queued-is (Queued q) t e h = (q, refl, eqb-true (q .target) t (and-first (eqb (q .target) t) (eqb (q .entry) e) h), eqb-true (q .entry) e (and-true (eqb (q .target) t) (eqb (q .entry) e) h))
+queued-is (Queued q) t e h = (q, refl, eqb-true (q .target) t (and-first (eqb (q .target) t) (eqb (q .entry) e) h), eqb-true (q .entry) e (and-second (eqb (q .target) t) (eqb (q .entry) e) h))
 queued-is Blank t e h = clash h refl
 queued-is Ready t e h = clash h refl
 queued-is Delayed t e h = clash h refl

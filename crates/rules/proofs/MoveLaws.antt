@@ -1,17 +1,16 @@
 -- A move keeps soundness: proved once, and every step is made of moves.
 -- Assumes nothing.
-use Prim.Native.Nat.{ℕ, zero, suc, _+_, _≤_, _<_, _^_}
-use mathlib.Core.Path.{_≡_, refl, sym, _∙_, ap, subst}
-use mathlib.Core.Bool.{Bool, true, false, not, _&&_, _||_}
-use mathlib.Core.List.{List, [], _∷_, _++_}
+use Prim.Native.Nat.{ℕ, zero, suc, _≤_, _<_, _^_}
+use mathlib.Core.Path.{_≡_, refl, sym, _∙_, ap}
+use mathlib.Core.Bool.{Bool, true, false, not}
+use mathlib.Core.List.{List, [], _∷_}
 use native.Mathlib.Omega.{arith}
-use lib.ListN.{length, getD, set, length-set}
+use lib.ListN.{length, length-set}
 use lib.Seq.{getD-set-same, getD-set-other}
-use lib.Dec.{T, eqb, ltb, leb}
-use borrow.Author.Tests.{eqb-true, eqb-false, eq-eqb, ne-eqb}
-use Rattle.lists.specs.Lists.{bit, count, every, inOrder, downFrom, remove, insert, rejoin}
-use Rattle.rules.specs.State.{State, blank, nth, setNth, taskOf, placeOf, timerOf, created, isTask, isReady, isQueued, isHeld, isCompleted, partnerOf, entryOf, accepts, hasTime, ticksLeft, left, retime, placed, move, meet, part, meeting, wake, opens}
-use Rattle.rules.specs.Sound.{inRange, calls, fits, timeInRange}
+use lib.Dec.{eqb, ltb}
+use borrow.Author.Tests.{eq-eqb, ne-eqb}
+use Rattle.lists.specs.Lists.{bit, count, remove, rejoin}
+use Rattle.rules.specs.State.{State, blank, nth, setNth, taskOf, placeOf, isReady, isQueued, isHeld, isCompleted, partnerOf, accepts, hasTime, ticksLeft, left, retime, placed, move, meet, part, meeting, wake, opens}
 use Rattle.rules.specs.declared.Task.{Task}
 use Rattle.rules.specs.declared.Timer.{Timer}
 use Rattle.rules.specs.declared.Timer.the-variants.{Off, Due}
@@ -20,8 +19,8 @@ use Rattle.rules.specs.declared.Meeting.{Meeting}
 use Rattle.rules.specs.declared.Offer.{Offer}
 use Rattle.rules.specs.declared.Place.{Place}
 use Rattle.rules.specs.declared.Place.the-variants.{Blank, Ready, Delayed, Queued, Held, Accepting, Completed}
-use Rattle.lists.proofs.ListLaws.{by-eq, by-test, and-l, and-r, both, count-append, count-remove-same, count-remove-other, count-insert, Ordered, ordered-filter, ordered-cong, ordered-insert}
-use Rattle.rules.proofs.Invariant.{Lined, Timed, Calls, Fits, InTime, InRange, Good, GoodAt, Sound}
+use Rattle.lists.proofs.ListLaws.{by-eq, count-append, count-remove-same, count-remove-other, count-insert, Ordered, ordered-filter, ordered-cong, ordered-insert}
+use Rattle.rules.proofs.Invariant.{Lined, Timed, Calls, Fits, InTime, InRange, GoodAt, Sound}
 
 -- ── the tasks after one is set ──
 

@@ -1,42 +1,38 @@
 -- The theorem over runs.
 -- Assumes nothing.
-use Prim.Native.Nat.{ℕ, zero, suc, _+_, _-_, _%_, _≤_, _<_, _^_}
-use mathlib.Core.Path.{_≡_, refl, sym, _∙_, ap, subst}
-use mathlib.Core.Logic.{_↔_, _⊎_, inl, inr}
-use mathlib.Core.Bool.{Bool, true, false, not, _&&_, _||_}
-use mathlib.Core.List.{List, [], _∷_, _++_, map}
+use Prim.Native.Nat.{ℕ, zero, suc, _+_, _≤_, _<_}
+use mathlib.Core.Path.{_≡_, refl, _∙_, ap}
+use mathlib.Core.Logic.{_⊎_, inl, inr}
+use mathlib.Core.Bool.{Bool, true, false, not, _&&_}
+use mathlib.Core.List.{List, [], _∷_}
 use native.Mathlib.Omega.{arith}
-use lib.IntN.{ℤ, pos, negsuc}
 use lib.ListN.{length}
-use lib.Dec.{T, eqb, ltb, leb}
-use borrow.Author.Tests.{eqb-true, eqb-false, eq-eqb, ne-eqb, ltb-true, ltb-false, leb-true, leb-false}
-use Rattle.lists.specs.Lists.{if_then_else_, bit, count, every, last}
-use Rattle.rules.specs.State.{State, empty, nth, taskOf, placeOf, timerOf, blank, isReady, isQueued, isHeld, heldBy, running, after, left, ticksLeft, hasTime, partnerOf}
+use lib.Dec.{eqb, ltb}
+use borrow.Author.Tests.{eq-eqb}
+use Rattle.lists.specs.Lists.{bit, every}
+use Rattle.rules.specs.State.{State, empty, nth, taskOf, placeOf, timerOf, blank, isReady, isQueued, isHeld, running, hasTime, partnerOf}
 use Rattle.rules.specs.Sound.{sound}
-use Rattle.rules.specs.Step.{Refusal, SHORT-ROOM, BAD-STATE, BAD-FIELD, NO-TASK, NO-TARGET, NO-ENTRY, NOT-SERVING, STILL-SERVING, FULL, number, Outcome, refused, took, item, takeCall, expiry, WAITS, SERVED}
+use Rattle.rules.specs.Step.{Refusal, SHORT-ROOM, BAD-STATE, BAD-FIELD, NO-TASK, NO-TARGET, NO-ENTRY, NOT-SERVING, STILL-SERVING, FULL, number, Outcome, refused, took, takeCall, expiry, WAITS}
 use Rattle.rules.specs.declared.Item.{Item}
-use Rattle.rules.specs.Runs.{Ask, Given, Entry, duration, isWaiting, begins, begun, reasons, ended}
-use Rattle.rules.specs.OverRuns.{WaitsCounted, EndsOnce, WereWaiting, isReason, SixReasons, FewEnds, Stays, Released, HeldTillEnd}
+use Rattle.rules.specs.Runs.{Ask, Given, duration, isWaiting, begins, begun, reasons, ended}
+use Rattle.rules.specs.OverRuns.{WaitsCounted, isReason, SixReasons, Stays, Released}
 use Rattle.rules.proofs.StateRuns.{refuse, stepped, step, entry, logOf, reach}
 use Rattle.rules.specs.declared.Task.{Task}
 use Rattle.rules.specs.declared.Timer.{Timer}
-use Rattle.rules.specs.declared.Timer.the-variants.{Off, Due}
 use Rattle.rules.specs.declared.Meeting.{Meeting}
 use Rattle.rules.specs.declared.Place.{Place}
 use Rattle.rules.specs.declared.Place.the-variants.{Blank, Ready, Delayed, Queued, Held, Accepting, Completed}
-use Rattle.calls.specs.declared.CallMode.{CallMode}
 use Rattle.calls.specs.declared.CallMode.the-variants.{Simple, Timed, Conditional}
-use Rattle.calls.specs.declared.SelectMode.{SelectMode}
 use Rattle.calls.specs.declared.SelectMode.the-variants.{Plain, Else}
 use Rattle.calls.specs.declared.SelectMode.the-variants as S
 use Rattle.calls.specs.declared.Call as C
 use Rattle.calls.specs.declared.Call.the-variants.{Create, Delay, Call, Select, End, Finish, Tick, Advance}
-use Rattle.lists.proofs.ListLaws.{by-eq, by-bool, by-test}
-use Rattle.rules.proofs.Invariant.{Calls, Fits, InTime, Good, Sound}
-use Rattle.rules.proofs.Members.{timed-there, and-first, and-true}
-use Rattle.rules.proofs.SoundTest.{sound-test}
-use Rattle.rules.proofs.StepSound.{Kept, call-sound, ticks-small}
-use Rattle.rules.proofs.Fate.{Fate, FateOf, fate, untouched, awake, began, began-held, taken, ran-out, accepted, served, given-up, placeFor, timerIn, starts}
+use Rattle.lists.proofs.ListLaws.{by-bool, by-test}
+use Rattle.lists.proofs.Tests.{and-first, and-second}
+use Rattle.rules.proofs.Invariant.{Fits, Sound}
+use Rattle.rules.proofs.Members.{timed-there}
+use Rattle.rules.proofs.StepSound.{call-sound, ticks-small}
+use Rattle.rules.proofs.Fate.{Fate, fate, untouched, awake, began, began-held, taken, ran-out, accepted, served, given-up, starts}
 
 -- ── a step of a sound state: refused, with nothing changed, or the call taken ──
 
@@ -180,7 +176,7 @@ all-reasons : (l : List Item) → ((u : ℕ) → every isReason (reasons u l) �
 all-reasons [] h = refl
 all-reasons (i ∷ is) h =
     rw (and-first (isReason (i .result)) (every isReason (reasons (i .task) is)) (rw (eq-eqb (i .task) (i .task) refl) at (h (i .task))))
-    (all-reasons is (λ u. by-bool (eqb (i .task) u) (λ e. and-true (isReason (i .result)) (every isReason (reasons u is)) (rw e at (h u))) (λ e. rw e at (h u))))
+    (all-reasons is (λ u. by-bool (eqb (i .task) u) (λ e. and-second (isReason (i .result)) (every isReason (reasons u is)) (rw e at (h u))) (λ e. rw e at (h u))))
 
 step-reasons : (s : State) (a : Ask) → Sound s → (u : ℕ) → every isReason (reasons u (entry s a .out .ended)) ≡ true
 step-reasons s a h u = go (entry s a .out) (step-fate s a u h)

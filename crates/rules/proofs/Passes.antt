@@ -2,13 +2,12 @@
 -- Assumes nothing.
 use Prim.Native.Nat.{ℕ, zero, suc, _+_, _≤_, _<_}
 use mathlib.Core.Path.{_≡_, refl, sym, _∙_, ap}
-use mathlib.Core.Bool.{Bool, true, false}
+use mathlib.Core.Bool.{true, false}
 use mathlib.Core.List.{List, [], _∷_, _++_, map}
 use native.Mathlib.Omega.{arith}
-use lib.ListN.{length}
 use lib.Dec.{eqb, ltb}
 use borrow.Author.Tests.{eqb-false, eq-eqb, ne-eqb, ltb-true, ltb-false}
-use Rattle.lists.specs.Lists.{bit, count}
+use Rattle.lists.specs.Lists.{count}
 use Rattle.rules.specs.State.{State, taskOf, placeOf, timerOf, hasTime, left, after}
 use Rattle.rules.specs.Step.{dueAt, isDue, expired, expiry, tickTo, endsAt, advanced, advanceEnds}
 use Rattle.rules.specs.Runs.{reasons}
@@ -18,7 +17,7 @@ use Rattle.rules.specs.declared.Timer.the-variants.{Off, Due}
 use Rattle.rules.specs.declared.Place.the-variants.{Ready}
 use Rattle.lists.proofs.ListLaws.{by-eq, by-bool, count-filter-yes, count-filter-le}
 use Rattle.rules.proofs.Invariant.{InTime, Sound}
-use Rattle.rules.proofs.Members.{in-filter, timed-there}
+use Rattle.rules.proofs.Members.{bit-le, in-filter, timed-there}
 use Rattle.rules.proofs.StepSound.{tick-kept, due-is, wakeAll-in, wakeAll-out}
 
 -- ── lists of items ──
@@ -38,10 +37,6 @@ module _ (f : ℕ → Item) (own : (x : ℕ) → f x .task ≡ x) (u : ℕ) wher
 pub reasons-append : (u : ℕ) (l m : List Item) → reasons u (l ++ m) ≡ reasons u l ++ reasons u m
 reasons-append u [] m = refl
 reasons-append u (i ∷ is) m = let ih = reasons-append u is m in by-bool (eqb (i .task) u) (λ e. rw (e, ih)) (λ e. rw (e, ih))
-
-pub bit-le : (b : Bool) → bit b ≤ 1
-bit-le true = omega arith
-bit-le false = omega arith
 
 -- ── the clock ──
 

@@ -1,14 +1,14 @@
 -- ADVANCE cut in two; a stretch in which nobody is due; the next due moment.
 -- Assumes nothing.
-use Prim.Native.Nat.{ℕ, zero, suc, _+_, _-_, _%_, _≤_, _<_}
+use Prim.Native.Nat.{ℕ, zero, suc, _+_, _≤_, _<_}
 use mathlib.Core.Path.{_≡_, refl, sym, _∙_, ap}
-use mathlib.Core.Bool.{Bool, true, false, not, _&&_}
+use mathlib.Core.Bool.{Bool, true, false, not}
 use mathlib.Core.List.{List, [], _∷_, _++_, append-assoc}
 use native.Mathlib.Omega.{arith}
 use lib.ListN.{length}
 use lib.Dec.{eqb, ltb, leb}
 use borrow.Author.Tests.{eq-eqb, ne-eqb, leb-false, lt-ltb}
-use Rattle.lists.specs.Lists.{if_then_else_, filter}
+use Rattle.lists.specs.Lists.{filter}
 use Rattle.rules.specs.State.{State, timerOf, ticksLeft, left, after, wake, wakeAll, setClock}
 use Rattle.rules.specs.Step.{dueAt, isDue, tickTo, endsAt, advanced, advanceEnds, readings}
 use Rattle.rules.specs.Advance.{till, comesIn}
@@ -17,7 +17,7 @@ use Rattle.rules.specs.declared.Timer.the-variants.{Off, Due}
 use Rattle.lists.proofs.ListLaws.{by-eq, by-bool}
 use Rattle.lists.proofs.LineLaws.{length-filter}
 use Rattle.rules.proofs.Invariant.{Sound}
-use Rattle.rules.proofs.Passes.{left-later, in-time, comes}
+use Rattle.rules.proofs.Passes.{left-later, in-time}
 
 -- ── cutting ──
 
@@ -80,9 +80,6 @@ head-time s t ts h e = go (timerOf s t) refl
 
 pub till-is : (s : State) (t : ℕ) (ts : List ℕ) (d : ℕ) → s .delays ≡ t ∷ ts → timerOf s t ≡ Due d → till s ≡ left (s .clock) d
 till-is s t ts d e q = rw (e, q)
-
-pub till-none : (s : State) → s .delays ≡ [] → till s ≡ 0
-till-none s e = rw e
 
 -- nobody has fewer ticks left
 pub head-first : (s : State) (t : ℕ) (ts : List ℕ) → Sound s → s .delays ≡ t ∷ ts → (u d : ℕ) → timerOf s u ≡ Due d → ticksLeft (s .clock) (timerOf s t) ≤ left (s .clock) d

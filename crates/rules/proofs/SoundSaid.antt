@@ -1,37 +1,34 @@
 -- The facts of specs/SoundFacts.antt hold exactly where the tests of soundness pass.
 -- Assumes nothing.
-use Prim.Native.Nat.{ℕ, zero, suc, _+_, _≤_, _<_, _^_}
+use Prim.Native.Nat.{ℕ, zero, suc, _≤_, _<_}
 use mathlib.Core.Path.{_≡_, refl, sym, _∙_, ap}
-use mathlib.Core.Logic.{_↔_}
-use mathlib.Core.Bool.{Bool, true, false, _&&_}
+use mathlib.Core.Bool.{true, false, _&&_}
 use mathlib.Core.List.{List, [], _∷_}
 use native.Mathlib.Omega.{arith}
-use lib.ListN.{length, getD, drop}
-use lib.Dec.{T, eqb, ltb, leb}
-use borrow.Author.Tests.{eqb-true, eq-eqb, ltb-true, ltb-false, leb-true, le-leb}
-use Rattle.lists.specs.Lists.{bit, count, every, filter}
-use Rattle.lists.specs.Line.{line, tidy, blanks}
-use Rattle.rules.specs.State.{State, blank, taskOf, placeOf, timerOf, priorityOf, created, isReady, isQueued, isHeld, isCompleted, partnerOf, hasTime, opens, accepts, queue, heldBy, level, left, ticksLeft, waitsOn, holds, atLevel}
-use Rattle.rules.specs.Sound.{sound}
-use Rattle.rules.specs.Whole.{view, isBlank, unused, packed, soundWhole}
-use Rattle.rules.specs.SoundFacts.{Created, HasEntry, mayBeTimed, DueLater, noLater, SoundFacts, BlankBehind, SoundStruct, SoundnessSaid}
+use lib.ListN.{getD, drop}
+use lib.Dec.{T, eqb}
+use borrow.Author.Tests.{eqb-true, eq-eqb, le-leb}
+use Rattle.lists.specs.Lists.{bit, count, every}
+use Rattle.lists.specs.Line.{tidy, blanks}
+use Rattle.rules.specs.State.{State, blank, taskOf, placeOf, timerOf, priorityOf, created, isReady, isCompleted, partnerOf, hasTime, accepts, queue, heldBy, level, ticksLeft, waitsOn, holds, atLevel}
+use Rattle.rules.specs.Whole.{view, isBlank, unused, soundWhole}
+use Rattle.rules.specs.SoundFacts.{Created, mayBeTimed, SoundFacts, BlankBehind, SoundStruct, SoundnessSaid}
 use Rattle.rules.specs.declared.Task.{Task}
 use Rattle.rules.specs.declared.Timer.{Timer}
 use Rattle.rules.specs.declared.Timer.the-variants.{Off, Due}
 use Rattle.rules.specs.declared.Waiting.{Waiting}
 use Rattle.rules.specs.declared.Meeting.{Meeting}
-use Rattle.rules.specs.declared.Offer.{Offer}
 use Rattle.rules.specs.declared.Place.{Place}
 use Rattle.rules.specs.declared.Place.the-variants.{Blank, Ready, Delayed, Queued, Held, Accepting, Completed}
 use Rattle.rules.specs.declared.Supervisor.{Supervisor}
 use Rattle.lists.proofs.ListLaws.{clash, by-bool, and-l, and-r, both, is-true, true-T, count-filter-yes, count-filter-no, ordered-of, in-order}
-use Rattle.rules.proofs.Invariant.{Calls, Fits, InTime, Good, Sound}
+use Rattle.rules.proofs.Invariant.{Calls, Fits, InTime, Sound}
 use Rattle.rules.proofs.Members.{of-queue, of-held, queued-good, timed-there, there}
 use Rattle.rules.proofs.Passes.{in-time}
 use Rattle.rules.proofs.SoundTest.{sound-test, sound-props}
 use Rattle.rules.proofs.Fate.{accepts-is}
 use Rattle.rules.proofs.OverRuns.{no}
-use Rattle.rules.proofs.WholeLaws.{blank-is}
+use Rattle.rules.proofs.WholeLaws.{blank-is, parts}
 
 -- ── members ──
 
@@ -215,53 +212,29 @@ unused-of (suc n) (x ∷ xs) h = unused-of n xs (λ i k. h (suc i) (omega arith)
 
 -- ── both ways ──
 
-module _ (s : Supervisor) where
-  abbrev f0 : Bool
-  f0 = leb (s .created) 31
+struct-of : (s : Supervisor) → s .clock < 4294967296 → soundWhole s ≡ true → SoundStruct s
+struct-of s k e =
+    let p = parts s e in
+    record {
+      few = p .few;
+      tasks = unused-at (s .created) (s .tasks) (p .blank-behind);
+      ready = tidy-at (s .ready) (p .ready);
+      callers = tidy-at (s .callers) (p .callers);
+      held = tidy-at (s .held) (p .held);
+      delays = tidy-at (s .delays) (p .delays);
+      state = facts-of (view s) (sound-props (view s) k (p .state));
+    }
 
-  abbrev f1 : Bool
-  f1 = every unused (drop (s .created) (s .tasks))
-
-  abbrev x1 : Bool
-  x1 = tidy (s .ready)
-
-  abbrev x2 : Bool
-  x2 = tidy (s .callers)
-
-  abbrev x3 : Bool
-  x3 = tidy (s .held)
-
-  abbrev x4 : Bool
-  x4 = tidy (s .delays)
-
-  struct-of : s .clock < 4294967296 → soundWhole s ≡ true → SoundStruct s
-  struct-of k e =
-      let t = true-T e in
-      let p = and-l (packed s) (sound (view s)) t in
-      let p3 = and-l (f0 && f1 && x1 && x2 && x3) x4 p in
-      let p2 = and-l (f0 && f1 && x1 && x2) x3 p3 in
-      let p1 = and-l (f0 && f1 && x1) x2 p2 in
-      let p0 = and-l (f0 && f1) x1 p1 in
-      record {
-        few = leb-true (s .created) 31 (is-true f0 (and-l f0 f1 p0));
-        tasks = unused-at (s .created) (s .tasks) (and-r f0 f1 p0);
-        ready = tidy-at (s .ready) (and-r (f0 && f1) x1 p1);
-        callers = tidy-at (s .callers) (and-r (f0 && f1 && x1) x2 p2);
-        held = tidy-at (s .held) (and-r (f0 && f1 && x1 && x2) x3 p3);
-        delays = tidy-at (s .delays) (and-r (f0 && f1 && x1 && x2 && x3) x4 p);
-        state = facts-of (view s) (sound-props (view s) k (is-true (sound (view s)) (and-r (packed s) (sound (view s)) t)));
-      }
-
-  of-struct : s .clock < 4294967296 → SoundStruct s → soundWhole s ≡ true
-  of-struct k f =
-      rw (
-        le-leb (s .created) 31 (f .few),
-        is-true f1 (unused-of (s .created) (s .tasks) (f .tasks)),
-        is-true x1 (tidy-of (s .ready) (f .ready)),
-        is-true x2 (tidy-of (s .callers) (f .callers)),
-        is-true x3 (tidy-of (s .held) (f .held)),
-        is-true x4 (tidy-of (s .delays) (f .delays)),
-      ) (sound-test (view s) (sound-of (view s) (f .state) k))
+of-struct : (s : Supervisor) → s .clock < 4294967296 → SoundStruct s → soundWhole s ≡ true
+of-struct s k f =
+    rw (
+      le-leb (s .created) 31 (f .few),
+      is-true (every unused (drop (s .created) (s .tasks))) (unused-of (s .created) (s .tasks) (f .tasks)),
+      is-true (tidy (s .ready)) (tidy-of (s .ready) (f .ready)),
+      is-true (tidy (s .callers)) (tidy-of (s .callers) (f .callers)),
+      is-true (tidy (s .held)) (tidy-of (s .held) (f .held)),
+      is-true (tidy (s .delays)) (tidy-of (s .delays) (f .delays)),
+    ) (sound-test (view s) (sound-of (view s) (f .state) k))
 
 pub soundness-said : SoundnessSaid
 soundness-said = record {

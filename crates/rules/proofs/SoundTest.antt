@@ -1,24 +1,23 @@
 -- The test `sound` passes exactly where the propositions hold.
 -- Assumes nothing.
 use Prim.Native.Nat.{ℕ, zero, suc, _+_, _≤_, _<_, _^_}
-use mathlib.Core.Path.{_≡_, refl, sym, _∙_, ap, subst}
+use mathlib.Core.Path.{_≡_, refl, subst}
 use mathlib.Core.Bool.{Bool, true, false, not, _&&_, _||_}
-use mathlib.Core.List.{List, [], _∷_, _++_}
+use mathlib.Core.List.{List, _++_}
 use native.Mathlib.Omega.{arith}
-use lib.ListN.{length, getD}
 use lib.Dec.{T, eqb, ltb, leb, eqb→eq, ltb→lt, leb→le, lt→ltb, le→leb}
-use borrow.Author.Tests.{eqb-true, eqb-false, eq-eqb, ne-eqb, ltb-true, ltb-false, leb-true, leb-false, le-ltb, not-true, lt-ltb}
+use borrow.Author.Tests.{eq-eqb, ne-eqb, ltb-true, ltb-false, leb-false, lt-ltb}
 use Rattle.lists.specs.Lists.{bit, count, every, inOrder, downFrom}
-use Rattle.rules.specs.State.{State, blank, nth, taskOf, placeOf, timerOf, created, isTask, isReady, isQueued, isHeld, isCompleted, partnerOf, entryOf, accepts, hasTime, ticksLeft}
+use Rattle.rules.specs.State.{State, blank, taskOf, placeOf, timerOf, created, isTask, isReady, isQueued, isHeld, isCompleted, partnerOf, hasTime, ticksLeft}
 use Rattle.rules.specs.Sound.{inRange, calls, fits, timeInRange, goodTask, standsRight, sound}
 use Rattle.rules.specs.declared.Task.{Task}
 use Rattle.rules.specs.declared.Timer.{Timer}
 use Rattle.rules.specs.declared.Timer.the-variants.{Off, Due}
 use Rattle.rules.specs.declared.Place.{Place}
 use Rattle.rules.specs.declared.Place.the-variants.{Blank, Ready, Delayed, Queued, Held, Accepting, Completed}
-use Rattle.lists.proofs.ListLaws.{clash, by-eq, by-bool, and-l, and-r, both, not-T, is-true, true-T, every-at, every-of, count-append, Ordered, in-order, ordered-of}
-use Rattle.rules.proofs.Invariant.{Calls, Fits, InTime, Good, GoodAt, Sound}
-use Rattle.rules.proofs.Members.{bit-true, nth-beyond}
+use Rattle.lists.proofs.ListLaws.{clash, by-eq, by-bool, and-l, and-r, both, not-T, is-true, true-T, every-at, every-of, count-append, in-order, ordered-of}
+use Rattle.rules.proofs.Invariant.{Calls, Fits, InTime, Good, Sound}
+use Rattle.rules.proofs.Members.{nth-beyond}
 
 -- ── from the propositions to the test ──
 

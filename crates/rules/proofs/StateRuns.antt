@@ -2,7 +2,7 @@
 -- the struct's step in WholeRuns.
 -- Assumes nothing.
 use Prim.Native.Nat.{ℕ}
-use mathlib.Core.Bool.{Bool, true, false, not}
+use mathlib.Core.Bool.{not}
 use mathlib.Core.List.{List, [], _∷_}
 use lib.Dec.{ltb}
 use Rattle.lists.specs.Lists.{if_then_else_}
@@ -10,7 +10,6 @@ use Rattle.rules.specs.State.{State, running}
 use Rattle.rules.specs.Sound.{sound}
 use Rattle.rules.specs.Step.{none, Refusal, SHORT-ROOM, BAD-STATE, number, Outcome, refused, took, takeCall}
 use Rattle.rules.specs.Runs.{Ask, Given, Entry}
-use Rattle.rules.specs.declared.Item.{Item}
 use Rattle.calls.specs.declared.Call as C
 
 abbrev pub refuse : State → Refusal → ℕ → Given

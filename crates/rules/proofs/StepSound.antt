@@ -1,27 +1,25 @@
 -- Every call keeps soundness.
 -- Assumes nothing.
-use Prim.Native.Nat.{ℕ, zero, suc, _+_, _-_, _%_, _≤_, _<_, _^_}
-use mathlib.Core.Path.{_≡_, refl, sym, _∙_, ap, subst}
-use mathlib.Core.Bool.{Bool, true, false, not, _&&_, _||_}
-use mathlib.Core.List.{List, [], _∷_, _++_, map}
+use Prim.Native.Nat.{ℕ, zero, suc, _+_, _≤_, _<_, _^_}
+use mathlib.Core.Path.{_≡_, refl, sym, _∙_, ap}
+use mathlib.Core.Bool.{Bool, true, false, not, _&&_}
+use mathlib.Core.List.{List, [], _∷_}
 use native.Mathlib.Omega.{arith}
 use lib.IntN.{ℤ, pos, negsuc}
-use lib.ListN.{length, getD, List·getD-append, length-append}
-use lib.Seq.{getD-append-seam}
-use lib.Dec.{T, eqb, ltb, leb, eqb→eq, ltb→lt, leb→le}
-use borrow.Author.Tests.{eqb-true, eqb-false, eq-eqb, ne-eqb, ltb-true, ltb-false, leb-true, leb-false, not-true, not-false, lt-ltb}
-use Rattle.lists.specs.Lists.{if_then_else_, bit, count, filter, first, last, remove, insert}
-use Rattle.rules.specs.State.{State, blank, nth, setNth, taskOf, placeOf, timerOf, created, isTask, isReady, isQueued, isHeld, isCompleted, partnerOf, entryOf, accepts, opens, hasTime, ticksLeft, left, after, round, fresh, move, wake, meet, part, wakeAll, add, setClock, queue, heldBy, running, waiting, offer}
+use lib.ListN.{length}
+use lib.Dec.{eqb, ltb, leb, ltb→lt, leb→le}
+use borrow.Author.Tests.{eqb-true, eqb-false, eq-eqb, ne-eqb, ltb-true, ltb-false, leb-true, leb-false, not-false, lt-ltb}
+use Rattle.lists.specs.Lists.{count, first, last}
+use Rattle.rules.specs.State.{State, taskOf, placeOf, timerOf, created, isTask, isCompleted, accepts, opens, hasTime, ticksLeft, left, after, wake, wakeAll, setClock, queue, heldBy, running, waiting, offer}
 use Rattle.rules.specs.Sound.{inRange}
-use Rattle.rules.specs.Step.{NO-TASK, Outcome, refused, took, item, create, delayFor, enqueue, timedCall, callBusy, call, openFrom, openEntry, selectDelay, selectNone, selectAt, select, endLast, end, queuedFrom, queuedOn, finish, dueAt, isDue, tick, tickTo, advanced, ofRunning, takeCall, ticks}
-use Rattle.rules.specs.declared.Item.{Item}
+use Rattle.rules.specs.Step.{NO-TASK, Outcome, refused, took, create, delayFor, enqueue, timedCall, callBusy, call, openFrom, openEntry, selectDelay, selectNone, selectAt, select, endLast, end, queuedFrom, queuedOn, finish, dueAt, isDue, tick, tickTo, advanced, ofRunning, takeCall, ticks}
 use Rattle.rules.specs.declared.Task.{Task}
 use Rattle.rules.specs.declared.Timer.{Timer}
 use Rattle.rules.specs.declared.Timer.the-variants.{Off, Due}
 use Rattle.rules.specs.declared.Meeting.{Meeting}
 use Rattle.rules.specs.declared.Waiting.{Waiting}
 use Rattle.rules.specs.declared.Place.{Place}
-use Rattle.rules.specs.declared.Place.the-variants.{Blank, Ready, Delayed, Queued, Held, Accepting, Completed}
+use Rattle.rules.specs.declared.Place.the-variants.{Ready, Queued, Held}
 use Rattle.calls.specs.declared.CallMode.{CallMode}
 use Rattle.calls.specs.declared.CallMode.the-variants.{Simple, Timed, Conditional}
 use Rattle.calls.specs.declared.SelectMode.{SelectMode}
@@ -29,10 +27,12 @@ use Rattle.calls.specs.declared.SelectMode.the-variants.{Plain, Else}
 use Rattle.calls.specs.declared.SelectMode.the-variants as S
 use Rattle.calls.specs.declared.Call as C
 use Rattle.calls.specs.declared.Call.the-variants.{Create, Delay, Call, Select, End, Finish, Tick, Advance}
-use Rattle.lists.proofs.ListLaws.{by-eq, by-bool, by-test, and-l, and-r, both, is-true, true-T, count-append, count-filter-yes, count-filter-no, Ordered, ordered-cong}
-use Rattle.rules.proofs.Invariant.{Lined, Calls, Fits, InTime, Good, GoodAt, Sound}
-use Rattle.rules.proofs.Members.{in-filter, first-member, some-length, and-true, and-false, in-queue, of-queue, queued-good, queued-there, of-held, in-held, held-there, last-in, there, timed-there, bit-true, nth-beyond, Runs, runs}
-use Rattle.rules.proofs.MoveLaws.{wake-sound, delay-sound, queue-sound, meet-sound, part-sound, accept-sound, complete-sound, place-same, place-other, moved, task-same, task-other, length-move}
+use Rattle.lists.proofs.ListLaws.{by-eq, by-test, and-l, and-r, true-T, count-append, count-filter-yes, ordered-cong}
+use Rattle.lists.proofs.Tests.{and-second, and-false}
+use Rattle.rules.proofs.Invariant.{Calls, InTime, Sound}
+use Rattle.rules.proofs.Members.{WaitsOn, in-filter, first-member, some-length, in-queue, of-queue, queued-good, queued-there, of-held, in-held, held-there, last-in, timed-there, bit-true, Runs, runs}
+use Rattle.rules.proofs.AddLaws.{add-sound}
+use Rattle.rules.proofs.MoveLaws.{wake-sound, delay-sound, queue-sound, meet-sound, part-sound, accept-sound, complete-sound, moved, task-same, task-other, length-move}
 
 abbrev pub Kept : Outcome → Type 0
 Kept (refused r) = Unit {0}
@@ -98,7 +98,7 @@ none-open s t o (suc k) e h p j a b = go (opens o e && ltb 0 (length (queue s t 
     go true q i f = absurd (omega arith)
     go false q i f = by-eq j e (λ z. rw z q) (λ n. f i (omega arith) (omega arith))
 
-pub one-open : (s : State) (t o k e n : ℕ) → openFrom s t o k e ≡ suc n → (opens o (suc n) && ltb 0 (length (queue s t (suc n)))) ≡ true
+one-open : (s : State) (t o k e n : ℕ) → openFrom s t o k e ≡ suc n → (opens o (suc n) && ltb 0 (length (queue s t (suc n)))) ≡ true
 one-open s t o zero e n h = absurd (omega arith)
 one-open s t o (suc k) e n h = go (opens o e && ltb 0 (length (queue s t e))) refl h (one-open s t o k (suc e) n)
   where
@@ -106,6 +106,13 @@ one-open s t o (suc k) e n h = go (opens o e && ltb 0 (length (queue s t e))) re
         → (openFrom s t o k (suc e) ≡ suc n → (opens o (suc n) && ltb 0 (length (queue s t (suc n)))) ≡ true) → (opens o (suc n) && ltb 0 (length (queue s t (suc n)))) ≡ true
     go true q i f = rw i at q
     go false q i f = f i
+
+-- the caller whom a SELECT takes waits on the entry that is taken
+pub caller-taken : (s : State) (t o e : ℕ) → openEntry s t o ≡ suc e → WaitsOn (placeOf s (first (queue s t (suc e)))) t (suc e)
+unfolding openEntry
+caller-taken s t o e z =
+    let l = queue s t (suc e) in
+    of-queue s (first l) t (suc e) (first-member l (ltb-true 0 (length l) (and-second (opens o (suc e)) (ltb 0 (length l)) (one-open s t o 8 1 e z))))
 
 selectNone-kept : (s : State) (t o : ℕ) (m : SelectMode) → Sound s → Runs s t → o < 2 ^ (taskOf s t .entries) → ((u : ℕ) (q : Waiting) → placeOf s u ≡ Queued q → q .target ≡ t → opens o (q .entry) ≡ false)
     → Kept (selectNone s t o m)
@@ -133,7 +140,7 @@ select-kept s t o m h r = by-test Kept (leb (2 ^ (taskOf s t .entries)) o) (λ _
     go zero z b = selectNone-kept s t o m h r b (shut z)
     go (suc e) z b =
         let c = first (queue s t (suc e)) in
-        let q = of-queue s c t (suc e) (first-member (queue s t (suc e)) (ltb-true 0 _ (and-true (opens o (suc e)) (ltb 0 (length (queue s t (suc e)))) (one-open s t o 8 1 e z)))) in
+        let q = caller-taken s t o e z in
         let i = queued-there s c (q .0) (q .1) in
         meet-sound s t c (r .low) (r .high) (i .0) (i .1) (suc e) h (rw (q .2, q .3) at (queued-good s c (q .0) h (q .1)))
 
@@ -315,84 +322,6 @@ advance-kept zero s h = h
 advance-kept (suc n) s h = advance-kept n (tickTo s (after (s .clock) 1)) (tick-kept s h)
 
 -- ── CREATE ──
-
-module _ (ts : List Task) (x : Task) where
-  pub nth-old : (u : ℕ) → u ≤ length ts → nth (ts ++ (x ∷ [])) u ≡ nth ts u
-  nth-old zero h = refl
-  nth-old (suc u) h = List·getD-append ts (x ∷ []) blank u (omega arith)
-
-  pub nth-new : nth (ts ++ (x ∷ [])) (suc (length ts)) ≡ x
-  nth-new = getD-append-seam ts x [] blank
-
-  pub nth-further : (u : ℕ) → suc (length ts) < u → nth (ts ++ (x ∷ [])) u ≡ blank
-  nth-further u h = nth-beyond (ts ++ (x ∷ [])) u (omega (arith, length-append ts (x ∷ [])))
-
-  -- old, new or never given
-  pub by-number {κ} : (P : Task → Type κ) (u : ℕ) → (u ≤ length ts → P (nth ts u)) → (u ≡ suc (length ts) → P x) → (suc (length ts) < u → P blank) → P (nth (ts ++ (x ∷ [])) u)
-  by-number P u a b c = go (leb u (length ts)) refl
-    where
-      go : (v : Bool) → leb u (length ts) ≡ v → P (nth (ts ++ (x ∷ [])) u)
-      go true e = let k = leb-true u (length ts) e in rw (nth-old u k) (a k)
-      go false e =
-          by-eq u (suc (length ts))
-          (λ z. rw (z, nth-new) (b z))
-          (λ n. let k : suc (length ts) < u = omega (arith, leb-false u (length ts) e, n) in rw (nth-further u k) (c k))
-
--- a line without the numbers that were never given, and one that the new task does not join
-module _ (ts : List Task) (x : Task) (q : Task → Bool) (l : List ℕ) (h : (u : ℕ) → count u l ≡ bit (q (nth ts u))) (none : q blank ≡ false) where
-  pub none-yet : (u : ℕ) → length ts < u → count u l ≡ 0
-  none-yet u k = h u ∙ rw (nth-beyond ts u k, none)
-
-  pub add-out : q x ≡ false → (u : ℕ) → count u l ≡ bit (q (nth (ts ++ (x ∷ [])) u))
-  add-out e u =
-      by-number ts x (λ (y : Task). count u l ≡ bit (q y)) u (λ _. h u)
-      (λ z. rw e (none-yet u (omega arith))) (λ k. rw none (none-yet u (omega arith)))
-
-  pub add-in : q x ≡ true → (u : ℕ) → count u (l ++ (suc (length ts) ∷ [])) ≡ bit (q (nth (ts ++ (x ∷ [])) u))
-  add-in e u =
-      by-number ts x (λ (y : Task). count u (l ++ (suc (length ts) ∷ [])) ≡ bit (q y)) u
-      (λ k. count-append u l (suc (length ts) ∷ []) ∙ rw (ne-eqb (suc (length ts)) u (λ z. omega arith)) (omega (arith, h u)))
-      (λ z. count-append u l (suc (length ts) ∷ []) ∙ rw (e, eq-eqb (suc (length ts)) u (sym z)) (omega (arith, none-yet u (omega arith))))
-      (λ k. count-append u l (suc (length ts) ∷ []) ∙ rw (none, ne-eqb (suc (length ts)) u (λ z. omega arith)) (omega (arith, none-yet u (omega arith))))
-
--- the called task of a good one was created
-pub partner-there : (now : ℕ) (ts : List Task) (u : ℕ) → GoodAt now ts u → partnerOf (nth ts u .place) ≤ length ts
-partner-there now ts u g = go (nth ts u .place) (g .place)
-  where
-    is : (t e : ℕ) → Calls (nth ts t) e → t ≤ length ts
-    is t e c = by-bool (leb t (length ts)) (λ b. leb-true t (length ts) b) (λ b. absurd (omega (arith, c .low, rw (nth-beyond ts t (leb-false t (length ts) b)) at (c .high))))
-
-    go : (p : Place) → Fits (nth ts u) (nth ts (partnerOf p)) p (nth ts u .timer) → partnerOf p ≤ length ts
-    go Blank f = omega arith
-    go Ready f = omega arith
-    go Delayed f = omega arith
-    go (Queued q) f = is (q .target) (q .entry) (f .0)
-    go (Held m) f = is (m .holder) (m .entry) (f .0)
-    go (Accepting o) f = omega arith
-    go Completed f = omega arith
-
-pub add-sound : (s : State) (p n : ℕ) → Sound s → length (s .tasks) < 31 → 0 < p → p ≤ 15 → n ≤ 8 → Sound (add s p n)
-add-sound s p n h f a b c = record {
-  clock = h .clock;
-  few = omega (arith, f, length-append (s .tasks) (x ∷ []));
-  good = λ u i j. by-bool (leb u (length (s .tasks)))
-      (λ e. let k = leb-true u (length (s .tasks)) e in let g = h .good u i k in
-      rw (nth-old (s .tasks) x u k, nth-old (s .tasks) x (partnerOf (placeOf s u)) (partner-there (s .clock) (s .tasks) u g)) g)
-      (λ e. let k : u ≡ suc (length (s .tasks)) = omega (arith, leb-false u (length (s .tasks)) e, j, length-append (s .tasks) (x ∷ [])) in
-      rw (k, nth-new (s .tasks) x) (record { numbers = record { low = a; high = b; few = c }; place = refl; time = tt }));
-  ready = add-in (s .tasks) x (λ y. isReady (y .place)) (s .ready) (h .ready) refl refl;
-  callers = add-out (s .tasks) x (λ y. isQueued (y .place)) (s .callers) (h .callers) refl refl;
-  held = add-out (s .tasks) x (λ y. isHeld (y .place)) (s .held) (h .held) refl refl;
-  delays = add-out (s .tasks) x (λ y. hasTime (y .timer)) (s .delays) (h .delays) refl refl;
-  order = ordered-cong (λ u. ticksLeft (s .clock) (timerOf s u)) (λ u. ticksLeft (s .clock) (nth (s .tasks ++ (x ∷ [])) u .timer)) (s .delays)
-      (λ y z i j k. omega (arith, k, same y i, same z j)) (h .order);
-}
-  where
-    x : Task
-    x = fresh p n
-
-    same : (u : ℕ) → 0 < count u (s .delays) → ticksLeft (s .clock) (nth (s .tasks ++ (x ∷ [])) u .timer) ≡ ticksLeft (s .clock) (timerOf s u)
-    same u k = rw (nth-old (s .tasks) x u (timed-there s u (bit-true (hasTime (timerOf s u)) (omega (arith, h .delays u, k))) .1))
 
 pub create-kept : (s : State) (p n : ℕ) → Sound s → Kept (create s p n)
 create-kept s p n h =

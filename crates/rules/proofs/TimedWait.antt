@@ -1,48 +1,38 @@
 -- A timed wait ends at its tick: the last part of the theorem over runs.
 -- Assumes nothing.
-use Prim.Native.Nat.{ℕ, zero, suc, _+_, _-_, _%_, _≤_, _<_, _^_}
-use mathlib.Core.Path.{_≡_, refl, sym, _∙_, ap, subst}
+use Prim.Native.Nat.{ℕ, zero, suc, _+_, _≤_, _<_}
+use mathlib.Core.Path.{_≡_, refl, sym, _∙_, ap}
 use mathlib.Core.Logic.{_↔_, _⊎_, inl, inr}
-use mathlib.Core.Bool.{Bool, true, false, not, _&&_, _||_}
-use mathlib.Core.List.{List, [], _∷_, _++_, map}
+use mathlib.Core.Bool.{Bool, true, false, _&&_, _||_}
+use mathlib.Core.List.{List, [], _∷_}
 use native.Mathlib.Omega.{arith}
-use lib.IntN.{ℤ, pos, negsuc}
 use lib.ListN.{length}
-use lib.Dec.{T, eqb, ltb, leb}
-use borrow.Author.Tests.{eqb-true, eqb-false, eq-eqb, ne-eqb, ltb-true, ltb-false, leb-true, leb-false}
-use Rattle.lists.specs.Lists.{if_then_else_, bit, count, every, last}
-use Rattle.rules.specs.State.{State, empty, nth, taskOf, placeOf, timerOf, blank, isReady, isQueued, isHeld, heldBy, running, after, left, ticksLeft, hasTime, partnerOf, waiting, offer}
-use Rattle.rules.specs.Sound.{sound}
-use Rattle.rules.specs.Step.{number, took, takeCall, ticks, expiry, WAITS, ELAPSED, SERVED, CALL-EXPIRED, TASKING-ERROR, ACCEPTED, DELAY-TAKEN}
+use lib.Dec.{eqb}
+use borrow.Author.Tests.{eqb-true, eqb-false, eq-eqb}
+use Rattle.rules.specs.State.{State, placeOf, timerOf, isHeld, after, left, hasTime, partnerOf, waiting, offer}
+use Rattle.rules.specs.Step.{number, took, takeCall, ticks, expiry, WAITS, SERVED, TASKING-ERROR, ACCEPTED}
 use Rattle.rules.specs.declared.Item.{Item}
-use Rattle.rules.specs.Runs.{Ask, Given, Entry, duration, isWaiting, begins, reasons, ended, ticksOf, ticksIn, tickCount, has, engages, engaged, isFinish, completes, completed, target, timeReason}
+use Rattle.rules.specs.Runs.{Ask, Given, Entry, duration, isWaiting, reasons, ended, ticksOf, ticksIn, tickCount, has, engages, engaged, isFinish, completes, completed, target, timeReason}
 use Rattle.rules.specs.OverRuns.{Stays, Released, EndsByTime, TimeReached, TimedWaits}
 use Rattle.rules.proofs.StateRuns.{entry, logOf, reach}
-use Rattle.rules.specs.declared.Task.{Task}
-use Rattle.rules.specs.declared.Timer.{Timer}
-use Rattle.rules.specs.declared.Timer.the-variants.{Off, Due}
+use Rattle.rules.specs.declared.Timer.the-variants.{Due}
 use Rattle.rules.specs.declared.Meeting.{Meeting}
 use Rattle.rules.specs.declared.Waiting.{Waiting}
 use Rattle.rules.specs.declared.Offer.{Offer}
 use Rattle.rules.specs.declared.Place.{Place}
-use Rattle.rules.specs.declared.Place.the-variants.{Blank, Ready, Delayed, Queued, Held, Accepting, Completed}
-use Rattle.calls.specs.declared.CallMode.{CallMode}
-use Rattle.calls.specs.declared.CallMode.the-variants.{Simple, Timed, Conditional}
-use Rattle.calls.specs.declared.SelectMode.{SelectMode}
-use Rattle.calls.specs.declared.SelectMode.the-variants.{Plain, Else}
-use Rattle.calls.specs.declared.SelectMode.the-variants as S
+use Rattle.rules.specs.declared.Place.the-variants.{Delayed, Queued, Held, Accepting}
 use Rattle.calls.specs.declared.Call as C
 use Rattle.calls.specs.declared.Call.the-variants.{Create, Delay, Call, Select, End, Finish, Tick, Advance}
-use Rattle.lists.proofs.ListLaws.{clash, by-eq, by-bool, by-test}
-use Rattle.rules.proofs.Invariant.{Calls, Fits, InTime, Good, Sound}
-use Rattle.rules.proofs.Members.{timed-there, and-first, and-true}
-use Rattle.rules.proofs.SoundTest.{sound-test}
-use Rattle.rules.proofs.StepSound.{Kept, call-sound}
-use Rattle.rules.proofs.Fate.{Fate, FateOf, fate, untouched, awake, began, began-held, taken, ran-out, accepted, served, given-up, placeFor, timerIn, starts}
-use Rattle.rules.specs.State.{isCompleted, accepts}
+use Rattle.lists.proofs.ListLaws.{clash, by-bool}
+use Rattle.lists.proofs.Tests.{and-first, and-second}
+use Rattle.rules.proofs.Invariant.{InTime, Sound}
+use Rattle.rules.proofs.Members.{timed-there}
+use Rattle.rules.proofs.StepSound.{call-sound}
+use Rattle.rules.proofs.Fate.{untouched, awake, began, began-held, taken, ran-out, accepted, served, given-up, placeFor, timerIn}
+use Rattle.rules.specs.State.{isCompleted}
 use Rattle.rules.proofs.StepSound.{left-after}
 use Rattle.rules.proofs.Passes.{left-later, later-is}
-use Rattle.rules.proofs.Fate.{clockAfter, ClockOf, clock-of, lasts, Finished, finished}
+use Rattle.rules.proofs.Fate.{clockAfter, clock-of, lasts, finished}
 use Rattle.rules.proofs.OverRuns.{StepFate, not-taken, was-taken, step-fate, step-sound, reach-sound, held-step, number-pos, no, duration-small}
 
 -- ── a timed wait that goes on ──
@@ -112,7 +102,7 @@ not-completed s s′ c b l p h e n =
     by-bool (isFinish c && eqb (b .task) (partnerOf p))
     (λ t.
     let f = finish-is c (and-first (isFinish c) (eqb (b .task) (partnerOf p)) t) in
-    let g = eqb-true (b .task) (partnerOf p) (and-true (isFinish c) (eqb (b .task) (partnerOf p)) t) in
+    let g = eqb-true (b .task) (partnerOf p) (and-second (isFinish c) (eqb (b .task) (partnerOf p)) t) in
     let e2 : takeCall s Finish ≡ took s′ b l = sym (ap (takeCall s) f) ∙ e in
     let v : isCompleted (placeOf s′ (b .task)) ≡ true = rw e2 at (finished s h) in
     no (let v2 : isCompleted (placeOf s′ (partnerOf p)) ≡ true = rw g at v in cc))

@@ -1,13 +1,13 @@
 -- The items are read back from the room in which they were written, so the log from the uses of `step`.
 -- Assumes nothing.
-use Prim.Native.Nat.{ℕ, zero, suc}
-use mathlib.Core.Path.{_≡_, refl, sym, _∙_, ap}
+use Prim.Native.Nat.{ℕ}
+use mathlib.Core.Path.{_≡_, refl, _∙_, ap}
 use mathlib.Core.List.{List, [], _∷_, map}
 use lib.ListN.{length, drop}
-use Rattle.rules.specs.Step.{item, roomAfter}
+use Rattle.rules.specs.Step.{roomAfter}
 use Rattle.rules.specs.Whole.{Whole, view, stepWhole, steppedOf}
-use Rattle.rules.specs.Runs.{Ask, Entry, entryWhole, logWhole, viewed}
-use Rattle.rules.specs.Uses.{Use, Keeps, Chain, asked, itemsIn, readEntry, readLog, ReadBack}
+use Rattle.rules.specs.Runs.{Entry, entryWhole, logWhole}
+use Rattle.rules.specs.Uses.{Use, Keeps, asked, itemsIn, readEntry, readLog, ReadBack}
 use Rattle.rules.specs.declared.Item.{Item}
 use Rattle.rules.specs.declared.Stepped.{Stepped}
 use Rattle.rules.specs.declared.Supervisor.{Supervisor}

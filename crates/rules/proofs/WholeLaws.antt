@@ -1,43 +1,38 @@
 -- The struct of the code and the state of the rules: a step of the one is a step of the other.
 -- Assumes nothing.
 use Prim.Native.Nat.{ℕ, zero, suc, _+_, _-_, _≤_, _<_}
-use mathlib.Core.Path.{_≡_, refl, sym, _∙_, ap, subst}
-use mathlib.Core.Bool.{Bool, true, false, not, _&&_, _||_}
-use mathlib.Core.List.{List, [], _∷_, _++_, map}
+use mathlib.Core.Path.{_≡_, refl, sym, _∙_, ap}
+use mathlib.Core.Bool.{Bool, true, false, _&&_}
+use mathlib.Core.List.{List, [], _∷_, _++_}
 use native.Mathlib.Omega.{arith}
 use lib.ListN.{length, take, drop, replicate, length-drop, take-append-drop}
 use Rattle.lists.specs.Line.{line, pad, tidy}
 use Rattle.lists.proofs.LineLaws.{line-pad, tidy-pad, pad-tidy}
 use lib.Seq.{take-append-seam, drop-append-seam, length-take-le}
 use lib.Dec.{T, eqb, ltb, leb}
-use borrow.Author.Tests.{eqb-true, eqb-false, eq-eqb, ne-eqb, leb-true, leb-false, le-leb}
-use Rattle.lists.specs.Lists.{if_then_else_, bit, count, filter, remove, every}
-use Rattle.rules.specs.State.{State, blank, nth, created, isReady, isQueued, isHeld, hasTime, running}
+use borrow.Author.Tests.{eqb-true, leb-true, leb-false, le-leb}
+use Rattle.lists.specs.Lists.{bit, count, every}
+use Rattle.rules.specs.State.{State, blank, nth, created, isReady, isQueued, isHeld, hasTime}
 use Rattle.rules.specs.Sound.{sound}
-use Rattle.rules.specs.Step.{Outcome, refused, took, Refusal, SHORT-ROOM, BAD-STATE, takeCall}
-use Rattle.rules.specs.Whole.{view, pack, isBlank, isOff, unused, packed, soundWhole, Whole, decline, done, stepWhole}
+use Rattle.rules.specs.Step.{Outcome, refused, took, takeCall}
+use Rattle.rules.specs.Whole.{Typed, view, pack, isBlank, isOff, unused, packed, soundWhole, Whole, done, stepWhole}
 use Rattle.rules.specs.declared.Supervisor.{Supervisor}
 use Rattle.calls.specs.declared.Call as C
 use Rattle.rules.specs.declared.Task.{Task}
-use Rattle.lists.proofs.ListLaws.{by-eq, by-bool, by-test, true-T, is-true, and-l, and-r}
+use Rattle.lists.proofs.ListLaws.{by-bool, true-T, is-true, and-l, and-r}
 pub use Rattle.lists.proofs.ListLaws.{at-most}
 use Rattle.rules.proofs.Invariant.{Sound}
-use Rattle.rules.proofs.Members.{nth-beyond}
+use Rattle.rules.proofs.Members.{bit-le, nth-beyond}
 use Rattle.rules.specs.declared.Place.{Place}
 use Rattle.rules.specs.declared.Place.the-variants.{Blank, Ready, Delayed, Queued, Held, Accepting, Completed}
 use Rattle.rules.specs.declared.Timer.{Timer}
 use Rattle.rules.specs.declared.Timer.the-variants.{Off, Due}
-use Rattle.rules.proofs.SoundTest.{sound-test}
-use Rattle.rules.specs.State.{empty}
+use Rattle.rules.proofs.SoundTest.{sound-test, sound-props}
 use Rattle.rules.specs.Runs.{Ask, Given, Entry, viewed, entryWhole, logWhole, reachWhole}
 use Rattle.rules.proofs.StateRuns.{stepped, step, entry, logOf, reach}
-use Rattle.rules.proofs.OverRuns.{step-sound, empty-sound, reach-sound}
+use Rattle.rules.proofs.OverRuns.{step-sound}
 
 -- ── a line has no more places than there are tasks ──
-
-bit-le : (b : Bool) → bit b ≤ 1
-bit-le true = omega arith
-bit-le false = omega arith
 
 -- a line of the tasks that pass a test, each once, is no longer than there are tasks, and has no 0
 pub lined-short : (ts : List Task) (q : Task → Bool) (l : List ℕ) → q blank ≡ false → ((u : ℕ) → count u l ≡ bit (q (nth ts u))) → length l ≤ length ts
@@ -91,7 +86,7 @@ packed-pack s h =
     behind : (l : List ℕ) → count 0 l ≡ 0 → tidy (pad l) ≡ true
     behind l z = pad-tidy l (no-zero l z)
 
--- ── a packed struct is the pack of what it stands for ──
+-- ── a sound struct is the pack of what it stands for, and that is sound ──
 
 pub blank-is : (x : Task) → unused x ≡ true → x ≡ blank
 blank-is x e =
@@ -130,27 +125,51 @@ tasks-packed n ts a l h =
     let m : length (drop n ts) ≡ 31 - n = length-drop n ts ∙ ap (λ (x : ℕ). x - n) l in
     sym (take-append-drop n ts) ∙ ap (λ (r : List Task). take n ts ++ r) (all-blank (drop n ts) h ∙ ap (λ (x : ℕ). replicate x blank) (m ∙ ap (λ (x : ℕ). 31 - x) (sym k)))
 
-pub whole-packed : (s : Supervisor) → length (s .tasks) ≡ 31 → length (s .ready) ≡ 31 → length (s .callers) ≡ 31 → length (s .held) ≡ 31 → length (s .delays) ≡ 31
-    → packed s ≡ true → s ≡ pack (view s)
-whole-packed s l r c h d p =
-    let f : Bool = leb (s .created) 31 in
-    let e : Bool = every unused (drop (s .created) (s .tasks)) in
-    let x1 : Bool = tidy (s .ready) in let x2 : Bool = tidy (s .callers) in let x3 : Bool = tidy (s .held) in let x4 : Bool = tidy (s .delays) in
-    let t = true-T p in
-    let t3 = and-l (f && e && x1 && x2 && x3) x4 t in
+-- the parts of the test of a struct that is sound
+pub record Parts (s : Supervisor) : Type 0 where
+  pub few : s .created ≤ 31
+  pub blank-behind : T (every unused (drop (s .created) (s .tasks)))
+  pub ready : T (tidy (s .ready))
+  pub callers : T (tidy (s .callers))
+  pub held : T (tidy (s .held))
+  pub delays : T (tidy (s .delays))
+  pub state : sound (view s) ≡ true
+
+pub parts : (s : Supervisor) → soundWhole s ≡ true → Parts s
+parts s p =
+    let f = leb (s .created) 31 in
+    let e = every unused (drop (s .created) (s .tasks)) in
+    let x1 = tidy (s .ready) in let x2 = tidy (s .callers) in let x3 = tidy (s .held) in let x4 = tidy (s .delays) in
+    let t4 = and-l (packed s) (sound (view s)) (true-T p) in
+    let t3 = and-l (f && e && x1 && x2 && x3) x4 t4 in
     let t2 = and-l (f && e && x1 && x2) x3 t3 in
     let t1 = and-l (f && e && x1) x2 t2 in
     let t0 = and-l (f && e) x1 t1 in
-    let n = leb-true (s .created) 31 (is-true f (and-l f e t0)) in
+    record {
+      few = leb-true (s .created) 31 (is-true f (and-l f e t0));
+      blank-behind = and-r f e t0;
+      ready = and-r (f && e) x1 t1;
+      callers = and-r (f && e && x1) x2 t2;
+      held = and-r (f && e && x1 && x2) x3 t3;
+      delays = and-r (f && e && x1 && x2 && x3) x4 t4;
+      state = is-true (sound (view s)) (and-r (packed s) (sound (view s)) (true-T p));
+    }
+
+pub whole-packed : (s : Supervisor) → Typed s → soundWhole s ≡ true → s ≡ pack (view s)
+whole-packed s t e =
+    let p = parts s e in
     λ i. record {
       clock = s .clock;
-      created = sym (length-take-le (s .created) (s .tasks) (omega arith)) i;
-      tasks = tasks-packed (s .created) (s .tasks) n l (and-r f e t0) i;
-      ready = tidy-pad (s .ready) r (is-true x1 (and-r (f && e) x1 t1)) i;
-      callers = tidy-pad (s .callers) c (is-true x2 (and-r (f && e && x1) x2 t2)) i;
-      held = tidy-pad (s .held) h (is-true x3 (and-r (f && e && x1 && x2) x3 t3)) i;
-      delays = tidy-pad (s .delays) d (is-true x4 (and-r (f && e && x1 && x2 && x3) x4 t)) i;
+      created = sym (length-take-le (s .created) (s .tasks) (omega (arith, p .few, t .tasks))) i;
+      tasks = tasks-packed (s .created) (s .tasks) (p .few) (t .tasks) (p .blank-behind) i;
+      ready = tidy-pad (s .ready) (t .ready) (is-true (tidy (s .ready)) (p .ready)) i;
+      callers = tidy-pad (s .callers) (t .callers) (is-true (tidy (s .callers)) (p .callers)) i;
+      held = tidy-pad (s .held) (t .held) (is-true (tidy (s .held)) (p .held)) i;
+      delays = tidy-pad (s .delays) (t .delays) (is-true (tidy (s .delays)) (p .delays)) i;
     }
+
+pub sound-view : (s : Supervisor) → Typed s → soundWhole s ≡ true → Sound (view s)
+sound-view s t e = sound-props (view s) (t .clock) (parts s e .state)
 
 -- the step of the rules, with its state in the code's struct
 abbrev pub wholeOf : Given → Whole

@@ -2,7 +2,7 @@
 -- Assumes nothing.
 use Prim.Native.Nat.{ℕ, zero, suc, _+_, _-_, _≤_, _<_}
 use mathlib.Core.Path.{_≡_}
-use mathlib.Core.Bool.{Bool, true, false, _&&_}
+use mathlib.Core.Bool.{Bool, true, _&&_}
 use mathlib.Core.List.{List, [], _∷_, _++_}
 use lib.ListN.{length}
 use lib.Dec.{ltb, leb}
@@ -10,8 +10,8 @@ use Rattle.lists.specs.Lists.{if_then_else_, count, first}
 use Rattle.rules.specs.State.{State, timerOf, ticksLeft, after, setClock}
 use Rattle.rules.specs.Sound.{sound}
 use Rattle.rules.specs.Step.{tickTo, endsAt, advanced, advanceEnds, readings}
-use Rattle.rules.specs.Whole.{Whole, stepWhole}
-use Rattle.rules.specs.Runs.{Ask, Entry, start, logWhole, reachWhole, reasons, tickCount}
+use Rattle.rules.specs.Whole.{Typed, Whole, stepWhole}
+use Rattle.rules.specs.Runs.{Ask, Entry, logWhole, reachWhole, reasons, tickCount}
 use Rattle.rules.specs.declared.Item.{Item}
 use Rattle.rules.specs.declared.Supervisor.{Supervisor}
 use Rattle.calls.specs.declared.Call as C
@@ -78,12 +78,13 @@ expand (a ∷ rest) = spread (a .call) (a .room) ++ expand rest
 -- ── what holds of it ──
 
 -- state and list are those of n TICKs with their lists joined; the entry field counts the clock readings at which a wait ended,
--- all different
+-- all different, never above 31
 pub record AsTicks (s : Supervisor) (n room : ℕ) : Type 0 where
   pub state : stepWhole s (Advance n) room .state ≡ reachWhole s (tickAsks n room)
   pub ends : stepWhole s (Advance n) room .ended ≡ joined (logWhole s (tickAsks n room))
   pub readings : stepWhole s (Advance n) room .answer .entry ≡ length (moments (logWhole s (tickAsks n room)))
   pub different : n < 4294967296 → (r : ℕ) → count r (moments (logWhole s (tickAsks n room))) ≤ 1
+  pub few : stepWhole s (Advance n) room .answer .entry ≤ 31
 
 -- the same over a run: nothing but the steps' number tells them apart
 pub record Expanded (s : Supervisor) (run : List Ask) : Type 0 where
@@ -96,7 +97,7 @@ pub record Cut (x y z : Whole) : Type 0 where
   pub state : z .state ≡ y .state
   pub ends : z .ended ≡ x .ended ++ y .ended
   pub count : z .answer .entry ≡ x .answer .entry + y .answer .entry
-  pub refusal : z .refusal ≡ y .refusal
+  pub refusals : (z .refusal ≡ x .refusal) × (z .refusal ≡ y .refusal)
   pub next : z .next ≡ y .next
 
 -- ADVANCE 0 changes nothing
@@ -117,14 +118,13 @@ pub record Fits (s : State) (n : ℕ) : Type 0 where
   pub items : length (advanceEnds n s) ≤ 31
   pub count : readings n s ≤ length (advanceEnds n s)
 
--- of every run from an empty supervisor with its clock at k, of every further step with ADVANCE, and with any room
+-- of every struct of the type, sound or not, and of any room: where the one step is refused, so are the others
 pub record Advances : Type 0 where
-  pub as-ticks : (k : ℕ) → k < 4294967296 → (run : List Ask) (n room : ℕ) → AsTicks (reachWhole (start k) run) n room
-  pub expanded : (k : ℕ) → k < 4294967296 → (run : List Ask) → Expanded (start k) run
-  pub cut : (k : ℕ) → k < 4294967296 → (run : List Ask) (a b room : ℕ)
-      → let s = reachWhole (start k) run in
-      Cut (stepWhole s (Advance a) room) (stepWhole (stepWhole s (Advance a) room .state) (Advance b) room) (stepWhole s (Advance (a + b)) room)
-  pub nothing : (k : ℕ) → k < 4294967296 → (run : List Ask) (room : ℕ) → let s = reachWhole (start k) run in Nothing s (stepWhole s (Advance 0) room)
+  pub as-ticks : (s : Supervisor) → Typed s → (n room : ℕ) → AsTicks s n room
+  pub expanded : (s : Supervisor) → Typed s → (run : List Ask) → Expanded s run
+  pub cut : (s : Supervisor) → Typed s → (a b room : ℕ)
+      → let x = stepWhole s (Advance a) room in Cut x (stepWhole (x .state) (Advance b) room) (stepWhole s (Advance (a + b)) room)
+  pub nothing : (s : Supervisor) → Typed s → (room : ℕ) → Nothing s (stepWhole s (Advance 0) room)
   -- of every sound state
   pub crossed : (s : State) (n : ℕ) → s .clock < 4294967296 → sound s ≡ true → Crossed s n
   pub fits : (s : State) (n : ℕ) → s .clock < 4294967296 → sound s ≡ true → Fits s n

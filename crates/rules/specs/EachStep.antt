@@ -9,7 +9,7 @@ use lib.ListN.{length}
 use Rattle.lists.specs.Lists.{filter, downFrom}
 use Rattle.rules.specs.State.{State, created, level, queue, waitsOn, running}
 use Rattle.rules.specs.Step.{none, roomAfter}
-use Rattle.rules.specs.Whole.{Whole, view, soundWhole, stepWhole}
+use Rattle.rules.specs.Whole.{Typed, Whole, view, soundWhole, stepWhole}
 use Rattle.rules.specs.Questions.{countWhole}
 use Rattle.rules.specs.declared.Supervisor.{Supervisor}
 use Rattle.calls.specs.declared.Call as C
@@ -40,10 +40,12 @@ waitingOn s t e = filter (waitsOn s t e) (downFrom (created s))
 pub record EachStep : Type 0 where
   -- a refused step changes nothing, in whatever state
   pub refused : (s : Supervisor) (c : C.Call) (room : ℕ) → 0 < stepWhole s c room .refusal → Untouched s (stepWhole s c room)
+  -- a step gives a struct of the type again
+  pub typed : (s : Supervisor) → Typed s → (c : C.Call) (room : ℕ) → Typed (stepWhole s c room .state)
   -- the dispatched task heads the highest ready level of the state afterwards, refused calls included
-  pub dispatched : (s : Supervisor) → s .clock < 4294967296 → soundWhole s ≡ true → (c : C.Call) (room : ℕ) → 124 ≤ room
+  pub dispatched : (s : Supervisor) → Typed s → soundWhole s ≡ true → (c : C.Call) (room : ℕ) → 124 ≤ room
       → Dispatched (view (stepWhole s c room .state)) (stepWhole s c room .next)
   -- a queue that the running task would join has at most 30 callers
-  pub queue-has-room : (s : Supervisor) → s .clock < 4294967296 → soundWhole s ≡ true → 0 < running (view s) → (g e : ℕ) → length (queue (view s) g e) ≤ 30
+  pub queue-has-room : (s : Supervisor) → Typed s → soundWhole s ≡ true → 0 < running (view s) → (g e : ℕ) → length (queue (view s) g e) ≤ 30
   -- COUNT is the number of tasks that wait on that entry
-  pub counted : (s : Supervisor) → s .clock < 4294967296 → soundWhole s ≡ true → (t e : ℕ) → countWhole s t e .count ≡ length (waitingOn (view s) t e)
+  pub counted : (s : Supervisor) → Typed s → soundWhole s ≡ true → (t e : ℕ) → countWhole s t e .count ≡ length (waitingOn (view s) t e)

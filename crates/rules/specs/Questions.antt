@@ -1,7 +1,7 @@
 -- The questions, asked of the struct: a refusal (0 if none) and the answer.
 -- Assumes nothing.
 use Prim.Native.Nat.{ℕ}
-use mathlib.Core.Bool.{Bool, true, false, not, _&&_}
+use mathlib.Core.Bool.{false, not, _&&_}
 use lib.ListN.{length}
 use Rattle.lists.specs.Lists.{if_then_else_}
 use Rattle.rules.specs.State.{queue, isTask, placeOf, isCompleted}

@@ -1,12 +1,11 @@
 -- When a state is sound (document 01, "State, and when it is sound").
 -- Assumes nothing.
-use Prim.Native.Nat.{ℕ, zero, suc, _+_, _^_}
+use Prim.Native.Nat.{ℕ, _+_, _^_}
 use mathlib.Core.Bool.{Bool, true, false, not, _&&_, _||_}
-use mathlib.Core.List.{List, [], _∷_, _++_}
-use lib.ListN.{length}
+use mathlib.Core.List.{_++_}
 use lib.Dec.{eqb, ltb, leb}
 use Rattle.lists.specs.Lists.{bit, count, every, inOrder, downFrom}
-use Rattle.rules.specs.State.{State, taskOf, placeOf, timerOf, created, isTask, isReady, isQueued, isHeld, isCompleted, partnerOf, entryOf, accepts, hasTime, ticksLeft}
+use Rattle.rules.specs.State.{State, taskOf, placeOf, timerOf, created, isTask, isReady, isQueued, isHeld, isCompleted, partnerOf, accepts, hasTime, ticksLeft}
 use Rattle.rules.specs.declared.Task.{Task}
 use Rattle.rules.specs.declared.Timer.{Timer}
 use Rattle.rules.specs.declared.Timer.the-variants.{Off, Due}

@@ -1,7 +1,7 @@
 -- When a state is sound, fact by fact, in the words of document 01 ("State, and when it is sound"): for the reader.
 -- The tests of Sound.antt and Whole.antt pass exactly where these facts hold: `SoundnessSaid`, at the end.
 -- Assumes nothing.
-use Prim.Native.Nat.{ℕ, zero, suc, _≤_, _<_, _^_}
+use Prim.Native.Nat.{ℕ, _≤_, _<_, _^_}
 use mathlib.Core.Path.{_≡_}
 use mathlib.Core.Logic.{_↔_}
 use mathlib.Core.Bool.{Bool, true, false, _&&_}

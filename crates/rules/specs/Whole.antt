@@ -1,13 +1,14 @@
 -- The struct of the code: the lines of a state in arrays of 31, blank behind.
 -- Assumes nothing.
-use Prim.Native.Nat.{ℕ, _-_}
+use Prim.Native.Nat.{ℕ, _-_, _<_}
+use mathlib.Core.Path.{_≡_}
 use mathlib.Core.Bool.{Bool, true, false, not, _&&_}
-use mathlib.Core.List.{List, [], _∷_, _++_}
+use mathlib.Core.List.{List, [], _++_}
 use lib.ListN.{length, take, drop, replicate}
 use Rattle.lists.specs.Line.{line, pad, tidy}
 use lib.Dec.{eqb, ltb, leb}
 use Rattle.lists.specs.Lists.{if_then_else_, every}
-use Rattle.rules.specs.State.{State, blank, created, empty}
+use Rattle.rules.specs.State.{State, blank, created}
 use Rattle.rules.specs.Sound.{sound}
 use Rattle.rules.specs.Step.{Outcome, refused, took, Refusal, SHORT-ROOM, BAD-STATE, number, none, takeCall}
 use Rattle.rules.specs.declared.Item.{Item}
@@ -21,6 +22,15 @@ use Rattle.rules.specs.declared.Place.the-variants.{Blank, Ready, Delaye
 use Rattle.rules.specs.declared.Supervisor.{Supervisor}
 use Rattle.rules.specs.declared.Answer.{Answer}
 use Rattle.rules.specs.declared.Stepped.{Stepped}
+
+-- what the type of the struct says of a value: a clock of 32 bits, arrays of 31; nothing else is ever asked of a struct
+pub record Typed (s : Supervisor) : Type 0 where
+  pub clock : s .clock < 4294967296
+  pub tasks : length (s .tasks) ≡ 31
+  pub ready : length (s .ready) ≡ 31
+  pub callers : length (s .callers) ≡ 31
+  pub held : length (s .held) ≡ 31
+  pub delays : length (s .delays) ≡ 31
 
 -- the state that a struct stands for
 abbrev pub view : Supervisor → State

@@ -11,6 +11,7 @@ use borrow.Author.Tests.{ne-eqb, le-ltb}
 use mir.Syntax.{w32}
 use mir.Val.{SFits}
 use Rattle.lists.specs.Lists.{if_then_else_}
+use Rattle.lists.proofs.ListLaws.{by-test}
 use Rattle.calls.specs.Record.{callTime, selectTime}
 use Rattle.calls.specs.declared.CallMode.{CallMode}
 use Rattle.calls.specs.declared.CallMode.the-variants.{Simple, Timed, Conditional}
@@ -182,9 +183,8 @@ guess-back (Advance n) f = ap guessBy (hear-number (begun 498) n) ∙ ap Advance
 
 -- ── the numbers of a guess ──
 
-pub by-test : (P : C.Call → Type 0) (b : Bool) {x y : C.Call} → P x → P y → P (if b then x else y)
-by-test P true p q = p
-by-test P false p q = q
+pub either : (P : C.Call → Type 0) (b : Bool) {x y : C.Call} → P x → P y → P (if b then x else y)
+either P b p q = by-test P b (λ e. p) (λ e. q)
 
 time-fits : (minus : Bool) (n : ℕ) → SFits w32 (timeOf minus n)
 time-fits true n = record { sfits = omega arith }
@@ -197,17 +197,17 @@ guess-fits words =
     let l = s .letters in
     let t = time-fits (s .minus) (s .last .number) in
     let z : SFits w32 (pos 0) = record { sfits = omega arith } in
-    by-test Fits (eqb l 436) (omega arith, omega arith)
-    (by-test Fits (eqb l 367) t
-    (by-test Fits (eqb l 284) (omega arith, (omega arith, z))
-    (by-test Fits (eqb l 815) (omega arith, (omega arith, t))
-    (by-test Fits (eqb l 1456) (omega arith, (omega arith, z))
-    (by-test Fits (eqb l 215) tt
-    (by-test Fits (eqb l 449) tt
-    (by-test Fits (eqb l 299) tt
-    (by-test Fits (eqb l 448) (omega arith, z)
-    (by-test Fits (eqb l 880) (omega arith, z)
-    (by-test Fits (eqb l 975) (omega arith, t)
-    (by-test Fits (eqb l 1407) (omega arith, t)
-    (by-test Fits (eqb l 873) (omega arith, z)
-    (by-test Fits (eqb l 1305) (omega arith, z) (omega arith))))))))))))))
+    either Fits (eqb l 436) (omega arith, omega arith)
+    (either Fits (eqb l 367) t
+    (either Fits (eqb l 284) (omega arith, (omega arith, z))
+    (either Fits (eqb l 815) (omega arith, (omega arith, t))
+    (either Fits (eqb l 1456) (omega arith, (omega arith, z))
+    (either Fits (eqb l 215) tt
+    (either Fits (eqb l 449) tt
+    (either Fits (eqb l 299) tt
+    (either Fits (eqb l 448) (omega arith, z)
+    (either Fits (eqb l 880) (omega arith, z)
+    (either Fits (eqb l 975) (omega arith, t)
+    (either Fits (eqb l 1407) (omega arith, t)
+    (either Fits (eqb l 873) (omega arith, z)
+    (either Fits (eqb l 1305) (omega arith, z) (omega arith))))))))))))))

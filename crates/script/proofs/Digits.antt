@@ -7,9 +7,10 @@ use native.Mathlib.Omega.{arith}
 use native.Mathlib.Nat.{pow-suc, pow-zero}
 use lib.Dec.{ltb}
 use lib.ListN.{length, length-append}
-use borrow.Author.Tests.{lt-ltb, le-ltb, le-leb, ltb-true, ltb-false}
-use Rattle.lists.proofs.Tests.{cases}
+use borrow.Author.Tests.{le-leb, ltb-true, ltb-false}
+use Rattle.lists.proofs.ListLaws.{by-bool}
 use Rattle.text.specs.Text.{spelled, decimal}
+use Rattle.text.proofs.Decimals.{small, large}
 use Rattle.script.specs.Guess.{fresh, grownOf}
 use Rattle.script.specs.declared.guess.Word.{Word}
 
@@ -33,15 +34,9 @@ plain-append (x ∷ a) b p q = (p .0, plain-append a b (p .1) q)
 digit : (d : ℕ) → d < 10 → AllPlain ((48 + d) ∷ [])
 digit d h = (record { low = omega arith; high = omega arith; no-minus = λ e. omega arith }, tt)
 
-small : (k n : ℕ) → n < 10 → spelled (suc k) n ≡ (48 + n) ∷ []
-small k n h = rw (lt-ltb n 10 h) refl
-
-large : (k n : ℕ) → 10 ≤ n → spelled (suc k) n ≡ spelled k (n / 10) ++ ((48 + n % 10) ∷ [])
-large k n h = rw (le-ltb n 10 h) refl
-
 spelled-plain : (k n : ℕ) → AllPlain (spelled k n)
 spelled-plain zero n = tt
-spelled-plain (suc k) n = cases (ltb n 10)
+spelled-plain (suc k) n = by-bool (ltb n 10)
     (λ e. let h = ltb-true n 10 e in subst AllPlain (sym (small k n h)) (digit n h))
     (λ e. let h = ltb-false n 10 e in
     subst AllPlain (sym (large k n h)) (plain-append (spelled k (n / 10)) ((48 + n % 10) ∷ []) (spelled-plain k (n / 10)) (digit (n % 10) (omega arith))))
@@ -54,7 +49,7 @@ decimal-plain n = spelled-plain (suc n) n
 
 pub decimal-some : (n : ℕ) → 0 < length (decimal n)
 unfolding decimal
-decimal-some n = cases (ltb n 10)
+decimal-some n = by-bool (ltb n 10)
     (λ e. subst (λ (l : List ℕ). 0 < length l) (sym (small n n (ltb-true n 10 e))) (omega arith))
     (λ e. subst (λ (l : List ℕ). 0 < length l) (sym (large n n (ltb-false n 10 e)))
     (let g = length-append (spelled n (n / 10)) ((48 + n % 10) ∷ []) in omega (arith, g)))
@@ -69,7 +64,7 @@ one-more l d (suc m) n ih g h =
 
 spelled-short : (k n m : ℕ) → n < 10 ^ m → length (spelled k n) ≤ suc m
 spelled-short zero n m h = omega arith
-spelled-short (suc k) n m h = cases (ltb n 10)
+spelled-short (suc k) n m h = by-bool (ltb n 10)
     (λ e. subst (λ (l : List ℕ). length l ≤ suc m) (sym (small k n (ltb-true n 10 e))) (omega arith))
     (λ e. let g = ltb-false n 10 e in
     subst (λ (l : List ℕ). length l ≤ suc m) (sym (large k n g))
@@ -97,7 +92,7 @@ grow-digit w d h =
 
 spelled-back : (k n : ℕ) → n < k → n < 4294967296 → growAll fresh (spelled k n) .number ≡ n
 spelled-back zero n h b = absurd (omega arith)
-spelled-back (suc k) n h b = cases (ltb n 10)
+spelled-back (suc k) n h b = by-bool (ltb n 10)
     (λ e. let low = ltb-true n 10 e in
     ap (λ (l : List ℕ). growAll fresh l .number) (small k n low) ∙ grow-digit fresh n low ∙ (omega arith))
     (λ e. let high = ltb-false n 10 e in

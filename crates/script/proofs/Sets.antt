@@ -9,7 +9,8 @@ use lib.Dec.{eqb, leb, ltb}
 use lib.ListN.{length}
 use borrow.Author.Tests.{eqb-true, eqb-false, leb-true, leb-false, ltb-true, not-true}
 use Rattle.lists.specs.Lists.{first, every, downFrom}
-use Rattle.lists.proofs.Tests.{cases, and-first, and-second}
+use Rattle.lists.proofs.ListLaws.{by-bool}
+use Rattle.lists.proofs.Tests.{and-first, and-second}
 use Rattle.script.specs.CallText.{entries}
 use Rattle.script.specs.Guess.{fresh}
 use Rattle.script.proofs.Digits.{AllPlain, growAll}
@@ -30,11 +31,11 @@ neat k =
     && (leb (length (entries 8 49 32 k)) 16 && eqb (growAll fresh (tail (entries 8 49 32 k)) .set) k)
 
 but : (k n : ℕ) → k ≤ suc n → (k ≡ suc n → ⊥) → k ≤ n
-but k n h z = cases (leb k n) (λ e. leb-true k n e) (λ e. let g = leb-false k n e in absurd (z (omega arith)))
+but k n h z = by-bool (leb k n) (λ e. leb-true k n e) (λ e. let g = leb-false k n e in absurd (z (omega arith)))
 
 each : (p : ℕ → Bool) (n : ℕ) → every p (downFrom n) ≡ true → (k : ℕ) → 0 < k → k ≤ n → p k ≡ true
 each p zero e k h g = absurd (omega arith)
-each p (suc n) e k h g = cases (eqb k (suc n))
+each p (suc n) e k h g = by-bool (eqb k (suc n))
     (λ q. subst (λ (x : ℕ). p x ≡ true) (sym (eqb-true k (suc n) q)) (and-first (p (suc n)) (every p (downFrom n)) e))
     (λ q. let z = eqb-false k (suc n) q in each p n (and-second (p (suc n)) (every p (downFrom n)) e) k h (but k n g z))
 

@@ -28,7 +28,7 @@ use Rattle.script.specs.Says.{Fits, Says, recordOf}
 use Rattle.script.specs.Guess.{guessOf}
 use Rattle.script.specs.declared.Line.{Line}
 use Rattle.script.specs.declared.Line.the-variants as L
-use Rattle.script.proofs.Back.{by-test, guess-back}
+use Rattle.script.proofs.Back.{either, guess-back}
 use Rattle.script.proofs.Shape.{words-back}
 
 -- a call's text is read as that call
@@ -79,13 +79,13 @@ select-mode-fits false false d f = no-time
 call-in-fits : (s : List ℕ) → Bytes s → (tag : ℕ) → Fits (callIn tag s)
 call-in-fits s all tag =
     let time : (i : ℕ) → SFits w32 (signed (fourFrom s i)) = λ i. signed-fits (fourFrom s i) (four-small s all i) in
-    by-test Fits (eqb tag 1) (all 3, all 4)
-    (by-test Fits (eqb tag 2) (time 3)
-    (by-test Fits (eqb tag 3) (all 3, (all 4, call-mode-fits (eqb (byte s 5) 0) (eqb (byte s 5) 1) (signed (fourFrom s 6)) (time 6)))
-    (by-test Fits (eqb tag 4) (all 3, select-mode-fits (eqb (byte s 4) 0) (eqb (byte s 4) 1) (signed (fourFrom s 5)) (time 5))
-    (by-test Fits (eqb tag 5) tt
-    (by-test Fits (eqb tag 6) tt
-    (by-test Fits (eqb tag 7) tt (four-small s all 3)))))))
+    either Fits (eqb tag 1) (all 3, all 4)
+    (either Fits (eqb tag 2) (time 3)
+    (either Fits (eqb tag 3) (all 3, (all 4, call-mode-fits (eqb (byte s 5) 0) (eqb (byte s 5) 1) (signed (fourFrom s 6)) (time 6)))
+    (either Fits (eqb tag 4) (all 3, select-mode-fits (eqb (byte s 4) 0) (eqb (byte s 4) 1) (signed (fourFrom s 5)) (time 5))
+    (either Fits (eqb tag 5) tt
+    (either Fits (eqb tag 6) tt
+    (either Fits (eqb tag 7) tt (four-small s all 3)))))))
 
 -- the text printed for a record reads back as that record: whatever its line is read as has the record's bytes
 pub record-back : (s : List ℕ) (c : C.Call) (n : ℕ) (r : Line) → Bytes s → readOf s ≡ Record c n → Says (wordsOf (textOf c)) r → recordOf r ≡ take n s

@@ -13,7 +13,7 @@ use Rattle.calls.specs.declared.Read.{Read}
 use Rattle.calls.specs.declared.Read.the-variants.{Record, BadRecord, EndOfLog}
 use Rattle.calls.proofs.Read.{the-type}
 use Rattle.calls.specs.Reading.{readOf, refusalOf}
-use Rattle.lists.proofs.Tests.{cases}
+use Rattle.lists.proofs.ListLaws.{by-bool}
 use Rattle.rules.specs.Step.{roomAfter}
 use Rattle.rules.specs.Whole.{Whole, stepWhole, steppedOf}
 use Rattle.rules.specs.declared.Stepped.{Stepped}
@@ -59,9 +59,9 @@ took-is s c k room after r step e f g =
 
 -- a record that was refused leaves the room as it was
 pub leaves-room : (s : Session) (n many : ℕ) (last : Bool) (room : List ℕ) → room ≡ leaves s n many last room .room
-leaves-room s n many last room = cases (not last && ltb many 10)
+leaves-room s n many last room = by-bool (not last && ltb many 10)
     (λ e. ap (λ (t : Turn). t .room) (asks-more s n many last room e))
-    (λ e. cases (eqb n 12)
+    (λ e. by-bool (eqb n 12)
     (λ f. ap (λ (t : Turn). t .room) (ends s n many last room e f))
     (λ f. ap (λ (t : Turn). t .room) (says-bad s n many last room e f)))
 

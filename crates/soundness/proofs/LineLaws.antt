@@ -10,8 +10,8 @@ use lib.Dec.{eqb, ltb, leb}
 use borrow.Author.Tests.{eq-eqb, ne-eqb, leb-true, leb-false, le-leb, lt-leb, lt-ltb, ltb-true}
 use Rattle.lists.specs.Line.{line, blanks, tidy}
 use Rattle.lists.specs.Lists.{if_then_else_, bit, count, every, downFrom}
-use Rattle.lists.proofs.ListLaws.{by-eq, clash}
-use Rattle.lists.proofs.Tests.{cases, and-first, and-second}
+use Rattle.lists.proofs.ListLaws.{by-bool, by-eq, clash}
+use Rattle.lists.proofs.Tests.{and-first, and-second}
 use Rattle.rules.specs.State.{taskOf}
 use Rattle.rules.specs.Whole.{view}
 use Rattle.rules.specs.declared.Supervisor.{Supervisor}
@@ -39,7 +39,7 @@ every-at f (suc n) t e a b =
     (λ q. every-at f n t (and-second (f (suc n)) (every f (downFrom n)) e) a (omega arith))
 
 pub every-miss : (f : ℕ → Bool) (n t : ℕ) → 0 < t → t ≤ n → f t ≡ false → every f (downFrom n) ≡ false
-every-miss f n t a b e = cases (every f (downFrom n)) (λ q. clash (every-at f n t q a b) e) (λ q. q)
+every-miss f n t a b e = by-bool (every f (downFrom n)) (λ q. clash (every-at f n t q a b) e) (λ q. q)
 
 eqb-suc : (k : ℕ) → eqb k 0 ≡ eqb (1 + k) 1
 eqb-suc k = by-eq k 0 (λ e. rw e) (λ e. rw (ne-eqb k 0 e, ne-eqb (1 + k) 1 (λ z. e (omega arith))))
@@ -57,7 +57,7 @@ named-none (suc t) = rw (lt-leb (suc t) 0 (omega arith), lt-ltb 0 (suc t) (omega
 -- below the last, a number is one of 1..suc n exactly where it is one of 1..n
 named-down : (n t : ℕ) → (t ≡ suc n → ⊥) → named n t ≡ named (suc n) t
 named-down n t q =
-    cases (leb t n)
+    by-bool (leb t n)
     (λ e. rw (e, le-leb t (suc n) (omega (arith, leb-true t n e))))
     (λ e. let k = leb-false t n e in rw (e, lt-leb t (suc n) (by-eq t (suc n) (λ z. absurd (q z)) (λ z. omega arith))))
 
@@ -82,13 +82,13 @@ counts n m l = every (λ t. eqb (count t l) (bit (hasMark m t))) (downFrom n)
 -- none is to be met exactly where none stands in the empty list
 none-left : (n : ℕ) (m : Marks) → Whole m → Within n m → isNone m ≡ counts n m []
 none-left n m w h =
-    cases (isNone m)
+    by-bool (isNone m)
     (λ e. e ∙ sym (every-all (λ t. eqb (count t []) (bit (hasMark m t))) n (λ t. rw (none-has m t e))))
-    (λ e. e ∙ sym (cases (counts n m []) (λ q. clash (has-all m w (λ t. missing t q)) e) (λ q. q)))
+    (λ e. e ∙ sym (by-bool (counts n m []) (λ q. clash (has-all m w (λ t. missing t q)) e) (λ q. q)))
   where
     missing : (t : ℕ) → counts n m [] ≡ true → hasMark m t ≡ false
     missing t q =
-        cases (hasMark m t)
+        by-bool (hasMark m t)
         (λ y. let k = h t y in
         clash (every-at (λ t. eqb (count t []) (bit (hasMark m t))) n t q (ltb-true 0 t (and-first (ltb 0 t) (leb t n) k)) (leb-true t n (and-second (ltb 0 t) (leb t n) k))) (rw y))
         (λ y. y)
@@ -113,22 +113,22 @@ unmet n m x l k e =
 pub emptied-is : (n : ℕ) (m : Marks) (a : List ℕ) → n ≤ 31 → Whole m → Within n m
     → emptied m a ≡ ((tidy a && every (named n) (line a)) && counts n m (line a))
 emptied-is n m [] l w h = none-left n m w h
-emptied-is n m (zero ∷ xs) l w h = cases (blanks xs) (λ e. rw e (none-left n m w h)) (λ e. rw e)
+emptied-is n m (zero ∷ xs) l w h = by-bool (blanks xs) (λ e. rw e (none-left n m w h)) (λ e. rw e)
 emptied-is n m (suc x ∷ xs) l w h =
     let ih = emptied-is n (withoutMark m (suc x)) xs l in
     rw (ne-eqb (suc x) 0 (λ z. omega arith))
-    (cases (hasMark m (suc x))
+    (by-bool (hasMark m (suc x))
     (λ e. let k = h (suc x) e in let low : suc x < 32 = omega (arith, leb-true (suc x) n (and-second (ltb 0 (suc x)) (leb (suc x) n) k)) in
     rw (e, k) (ih (without-whole m (suc x) w) (onward low e) ∙ ap (λ (b : Bool). (tidy xs && every (named n) (line xs)) && b) (met n m (suc x) (line xs) w low e)))
     (λ e. rw e
-    (cases (named n (suc x))
+    (by-bool (named n (suc x))
     (λ k. rw (unmet n m (suc x) (line xs) k e) (sym (and-none (tidy xs && (named n (suc x) && every (named n) (line xs))))))
     (λ k. rw (k, and-none (tidy xs))))))
   where
     onward : suc x < 32 → hasMark m (suc x) ≡ true → Within n (withoutMark m (suc x))
     onward low e t y =
         let z : (if eqb t (suc x) then false else hasMark m t) ≡ true = sym (has-without m (suc x) t w low e) ∙ y in
-        cases (eqb t (suc x)) (λ q. clash y (has-without m (suc x) t w low e ∙ rw q)) (λ q. h t (rw q at z))
+        by-bool (eqb t (suc x)) (λ q. clash y (has-without m (suc x) t w low e ∙ rw q)) (λ q. h t (rw q at z))
 
 -- what the walk over a line answers, begun with those that pass the test
 pub line-is : (n : ℕ) (f : ℕ → Bool) (a : List ℕ) → n ≤ 31 → emptied (wanted f n) a ≡ lineHas n f a

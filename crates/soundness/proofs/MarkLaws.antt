@@ -12,8 +12,8 @@ use native.Mathlib.Numerals.{one-add}
 use lib.Dec.{eqb, ltb, eqb·suc-suc}
 use borrow.Author.Tests.{lt-ltb, ltb-true, eqb-true, eqb-false, eq-eqb, ne-eqb}
 use Rattle.lists.specs.Lists.{if_then_else_, bit}
-use Rattle.lists.proofs.ListLaws.{by-eq}
-use Rattle.lists.proofs.Tests.{cases, and-second}
+use Rattle.lists.proofs.ListLaws.{by-bool, by-eq}
+use Rattle.lists.proofs.Tests.{and-second}
 use Rattle.soundness.proofs.TaskLaws.{and-none}
 use Rattle.soundness.specs.Marks.{Marks, Whole, noMarks, hasMark, withMark, withoutMark, isNone}
 
@@ -73,11 +73,11 @@ power-low false x h = rw (zero-mul (2 ^ x)) (omega arith)
 
 pub with-whole : (m : Marks) (x : ℕ) (b : Bool) → Whole m → Whole (withMark m x b)
 unfolding withMark
-with-whole m x b h = cases (ltb x 32) (λ e. rw e (or-lt 32 m (bit b * 2 ^ x) h (power-low b x (ltb-true x 32 e)))) (λ e. rw e h)
+with-whole m x b h = by-bool (ltb x 32) (λ e. rw e (or-lt 32 m (bit b * 2 ^ x) h (power-low b x (ltb-true x 32 e)))) (λ e. rw e h)
 
 pub without-whole : (m : Marks) (x : ℕ) → Whole m → Whole (withoutMark m x)
 unfolding withoutMark
-without-whole m x h = cases (ltb x 32) (λ e. rw e (xor-lt 32 m (2 ^ x) h (pow-lt {i = x} {j = 32} (ltb-true x 32 e)))) (λ e. rw e h)
+without-whole m x h = by-bool (ltb x 32) (λ e. rw e (xor-lt 32 m (2 ^ x) h (pow-lt {i = x} {j = 32} (ltb-true x 32 e)))) (λ e. rw e h)
 
 pub has-none : (t : ℕ) → hasMark noMarks t ≡ false
 unfolding hasMark
@@ -87,18 +87,18 @@ pub has-with : (m : Marks) (x : ℕ) (b : Bool) (t : ℕ) → Whole m → x < 32
 unfolding hasMark withMark
 has-with m x true t h l z =
     rw (lt-ltb x 32 l, one-mul (2 ^ x), or-bit m (2 ^ x) t, pow-bit x t)
-    (cases (eqb t x)
+    (by-bool (eqb t x)
     (λ e. let q = eqb-true t x e in let le : m / 2 ^ t % 2 ≤ 1 = omega arith in rw (e, lt-ltb t 32 (omega arith), max-eq-right le))
     (λ e. rw (e, max-zero (m / 2 ^ t % 2))))
 has-with m x false t h l z =
     rw (lt-ltb x 32 l, zero-mul (2 ^ x), or-zero-r m)
-    (cases (eqb t x) (λ e. rw (e, eqb-true t x e) z) (λ e. rw e))
+    (by-bool (eqb t x) (λ e. rw (e, eqb-true t x e) z) (λ e. rw e))
 
 pub has-without : (m : Marks) (x t : ℕ) → Whole m → x < 32 → hasMark m x ≡ true → hasMark (withoutMark m x) t ≡ (if eqb t x then false else hasMark m t)
 unfolding hasMark withoutMark
 has-without m x t h l z =
     rw (lt-ltb x 32 l, xor-bit m (2 ^ x) t, pow-bit x t)
-    (cases (eqb t x)
+    (by-bool (eqb t x)
     (λ e. let one : m / 2 ^ t % 2 ≡ 1 = rw (eqb-true t x e) (eqb-true (m / 2 ^ x % 2) 1 (and-second (ltb x 32) (eqb (m / 2 ^ x % 2) 1) z)) in rw (e, one) (and-none (ltb t 32)))
     (λ e. rw (e, differ-none (m / 2 ^ t % 2))))
 

@@ -9,7 +9,7 @@ use lib.Dec.{ltb, leb}
 use lib.ListN.{getD, take}
 use lib.Seq.{getD-take}
 use borrow.Author.Tests.{lt-ltb, le-ltb, le-leb, leb-true, leb-false}
-use Rattle.lists.proofs.Tests.{cases}
+use Rattle.lists.proofs.ListLaws.{by-bool}
 use Rattle.rules.specs.State.{blank, nth, taskOf, partnerOf, left}
 use Rattle.rules.specs.Sound.{timeInRange, goodTask}
 use Rattle.rules.specs.Whole.{view}
@@ -27,7 +27,7 @@ and-none true = refl
 and-none false = refl
 
 pub not-leb : (a b : ℕ) → not (leb a b) ≡ ltb b a
-not-leb a b = cases (leb a b) (λ e. rw (e, le-ltb b a (leb-true a b e))) (λ e. rw (e, lt-ltb b a (leb-false a b e)))
+not-leb a b = by-bool (leb a b) (λ e. rw (e, le-ltb b a (leb-true a b e))) (λ e. rw (e, lt-ltb b a (leb-false a b e)))
 
 pub in-time-due : (now d l : ℕ) → l ≡ left now d → d < 4294967296 → (ltb 0 l && leb l 2147483647) ≡ timeInRange now (Due d)
 in-time-due now d l e h = rw e (sym (and-last (ltb 0 (left now d) && leb (left now d) 2147483647) (ltb d 4294967296) (lt-ltb d 4294967296 h)))

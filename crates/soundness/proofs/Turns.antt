@@ -13,7 +13,8 @@ use borrow.Author.Tests.{le-leb, lt-leb, not-true}
 use mir.Val.{boolByte}
 use Rattle.lists.specs.Line.{blanks}
 use Rattle.lists.specs.Lists.{bit, every, downFrom}
-use Rattle.lists.proofs.Tests.{cases, and-first, and-second}
+use Rattle.lists.proofs.ListLaws.{by-bool}
+use Rattle.lists.proofs.Tests.{and-first, and-second}
 use Rattle.soundness.specs.Marks.{Marks, hasMark, withoutMark, isNone}
 use Rattle.soundness.specs.Check.{ascending, full, emptied}
 
@@ -55,7 +56,7 @@ byte-bit false = refl
 
 pub full-short : (l : List ℕ) → full l ≤ length l
 full-short [] = omega arith
-full-short (x ∷ l) = cases (eqb x 0) (λ e. rw e (omega (arith, full-short l))) (λ e. rw e (omega (arith, full-short l)))
+full-short (x ∷ l) = by-bool (eqb x 0) (λ e. rw e (omega (arith, full-short l))) (λ e. rw e (omega (arith, full-short l)))
 
 pub full-turn : (l : List ℕ) (i : ℕ) → i < length l → full (drop i l) ≡ boolByte (not (eqb (getD l i 0) 0)) + full (drop (i + 1) l)
 full-turn l i h = rw (drop-cons l i 0 h, add-one i, byte-bit (not (eqb (getD l i 0) 0)))
@@ -66,7 +67,7 @@ full-done l i h = rw (drop-of-length-le l h)
 full-none : (l : List ℕ) → full l ≡ 0 → blanks l ≡ true
 full-none [] h = refl
 full-none (x ∷ l) h =
-    cases (eqb x 0)
+    by-bool (eqb x 0)
     (λ e. let k : full l ≡ 0 = omega (arith, rw e at h) in rw (e, full-none l k))
     (λ e. absurd (omega (arith, rw e at h)))
 
@@ -74,7 +75,7 @@ full-some : (l : List ℕ) → 0 < full l → blanks l ≡ false
 full-some [] h = absurd (omega arith)
 full-some (x ∷ l) h =
     let ih = full-some l in
-    cases (eqb x 0)
+    by-bool (eqb x 0)
     (λ e. rw e (ih (omega (arith, rw e at h))))
     (λ e. rw e)
 
@@ -91,7 +92,7 @@ module _ (m : Marks) (l : List ℕ) (i : ℕ) where
   walk-stop h some e =
       let x = getD l i 0 in
       rw (drop-cons l i 0 h)
-      (cases (eqb x 0)
+      (by-bool (eqb x 0)
       (λ z. let more : 0 < full (drop (suc i) l) = omega (arith, rw (drop-cons l i 0 h, z) at some) in rw (z, full-some (drop (suc i) l) more))
       (λ z. let stop : hasMark m x ≡ false = rw z at e in rw (z, stop)))
 
@@ -101,6 +102,6 @@ module _ (m : Marks) (l : List ℕ) (i : ℕ) where
       go : (l : List ℕ) → full l ≡ 0 → emptied m l ≡ isNone m
       go [] h = refl
       go (x ∷ l) h =
-          cases (eqb x 0)
+          by-bool (eqb x 0)
           (λ e. let k : full l ≡ 0 = omega (arith, rw e at h) in rw (e, full-none l k))
           (λ e. absurd (omega (arith, rw e at h)))

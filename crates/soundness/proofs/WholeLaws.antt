@@ -11,8 +11,7 @@ use lib.Seq.{length-take-le}
 use borrow.Author.Tests.{le-leb, lt-leb, leb-true}
 use Rattle.lists.specs.Line.{line, tidy}
 use Rattle.lists.specs.Lists.{bit, count, every, inOrder, downFrom}
-use Rattle.lists.proofs.ListLaws.{clash}
-use Rattle.lists.proofs.Tests.{cases}
+use Rattle.lists.proofs.ListLaws.{by-bool, clash}
 use Rattle.rules.specs.State.{created, isTask, taskOf}
 use Rattle.rules.specs.Sound.{standsRight, sound}
 use Rattle.rules.specs.Whole.{view, unused, soundWhole}
@@ -29,20 +28,20 @@ module _ (k : ℕ → ℕ) where
   lower : (a c : ℕ) (l : List ℕ) → a ≤ c → above c l ≡ true → above a l ≡ true
   lower a c [] h e = refl
   lower a c (x ∷ xs) h e =
-      cases (leb c (k x))
+      by-bool (leb c (k x))
       (λ y. rw (le-leb a (k x) (omega (arith, leb-true c (k x) y))) (lower a c xs h (rw y at e)))
       (λ y. clash e (rw y))
 
   order-is : (a : ℕ) (l : List ℕ) → ascending k a l ≡ (above a l && inOrder (λ x y. leb (k x) (k y)) l)
   order-is a [] = refl
-  order-is a (x ∷ xs) = cases (leb a (k x)) (λ e. rw e (order-is (k x) xs ∙ step e)) (λ e. rw e)
+  order-is a (x ∷ xs) = by-bool (leb a (k x)) (λ e. rw e (order-is (k x) xs ∙ step e)) (λ e. rw e)
     where
       i : Bool
       i = inOrder (λ x y. leb (k x) (k y)) xs
 
       step : leb a (k x) ≡ true → (above (k x) xs && i) ≡ (above a xs && (above (k x) xs && i))
       step e =
-          cases (above (k x) xs)
+          by-bool (above (k x) xs)
           (λ y. rw (y, lower a (k x) xs (leb-true a (k x) e) y))
           (λ y. rw y (sym (and-none (above a xs))))
 
@@ -57,13 +56,13 @@ module _ (k : ℕ → ℕ) where
 
 every-append : (f : ℕ → Bool) (a b : List ℕ) → every f (a ++ b) ≡ (every f a && every f b)
 every-append f [] b = refl
-every-append f (x ∷ xs) b = let ih = every-append f xs b in cases (f x) (λ e. rw (e, ih)) (λ e. rw e)
+every-append f (x ∷ xs) b = let ih = every-append f xs b in by-bool (f x) (λ e. rw (e, ih)) (λ e. rw e)
 
 every-both : (f g : ℕ → Bool) (l : List ℕ) → every (λ t. f t && g t) l ≡ (every f l && every g l)
 every-both f g [] = refl
 every-both f g (x ∷ xs) =
     let ih = every-both f g xs in
-    cases (f x) (λ e. cases (g x) (λ y. rw (e, y, ih)) (λ y. rw (e, y) (sym (and-none (every f xs))))) (λ e. rw e)
+    by-bool (f x) (λ e. by-bool (g x) (λ y. rw (e, y, ih)) (λ y. rw (e, y) (sym (and-none (every f xs))))) (λ e. rw e)
 
 -- task t stands in the line as often as it should
 abbrev right : Supervisor → Line → ℕ → Bool

@@ -1,81 +1,118 @@
 -- ADVANCE through the contract of `step`, proved.
 -- Assumes nothing.
-use Prim.Native.Nat.{ℕ, _+_}
-use mathlib.Core.Path.{_≡_, refl, sym, _∙_, ap, subst}
-use mathlib.Core.List.{List, [], _++_}
+use Prim.Native.Nat.{ℕ, _+_, _≤_}
+use mathlib.Core.Path.{_≡_, sym, _∙_, ap, subst}
+use mathlib.Core.Bool.{Bool, not}
+use mathlib.Core.List.{List, [], _∷_, _++_}
 use lib.ListN.{length}
-use Rattle.rules.specs.Step.{roomAfter}
-use Rattle.rules.specs.Whole.{Whole, stepWhole, steppedOf}
-use Rattle.rules.specs.Runs.{start, reachWhole}
-use Rattle.rules.specs.Advance.{AsTicks, Cut, Nothing}
-use Rattle.rules.specs.Uses.{Use, Keeps, itemsIn}
-use Rattle.rules.specs.declared.Item.{Item}
+use Rattle.lists.specs.Lists.{if_then_else_}
+use Rattle.rules.specs.State.{empty}
+use Rattle.rules.specs.Step.{takeCall, roomAfter, SHORT-ROOM, BAD-STATE}
+use Rattle.rules.specs.Whole.{Typed, view, soundWhole, Whole, decline, done, stepWhole, steppedOf}
+use Rattle.rules.specs.Runs.{start}
+use Rattle.rules.specs.Uses.{Use, Keeps, Chain, itemsIn}
 use Rattle.rules.specs.declared.Stepped.{Stepped}
 use Rattle.rules.specs.declared.Supervisor.{Supervisor}
 use Rattle.calls.specs.declared.Call as C
 use Rattle.calls.specs.declared.Call.the-variants.{Advance}
 use Rattle.rules.proofs.Advances.{advances}
+use Rattle.rules.proofs.Dispatch.{each-step}
+use Rattle.rules.proofs.EveryStruct.{typed-pack}
+use Rattle.rules.proofs.OverRuns.{empty-sound}
 use Rattle.rules.proofs.Uses.{items-back}
-use Rattle.statements.specs.Statement3.{Run, stateOf}
-use Rattle.statements.specs.Cutting.{endedIn, Advancing, TicksAlike, CutAlike, Cutting}
-use Rattle.statements.proofs.Statement3.{asks, at-end}
+use Rattle.statements.specs.Statement3.{reached}
+use Rattle.statements.specs.Cutting.{endedIn, RoomsAlike, TicksAlike, CutAlike, Unchanged, Cutting}
 
--- what a use with ADVANCE n gave is what the rules give
-module _ (s : Supervisor) (n room : ℕ) (u : Use) (k : Keeps s u) (a : Advancing n room u) where
-  abbrev whole : Whole
-  whole = stepWhole s (Advance n) room
+-- a step looks at its room's length only to see whether it is enough
+same-room : (s : Supervisor) (c : C.Call) (u v : Use) → RoomsAlike u v → stepWhole s c (length (v .lent)) ≡ stepWhole s c (length (u .lent))
+unfolding stepWhole
+same-room s c u v e = ap (λ (b : Bool). if b then decline s SHORT-ROOM 0 else if not (soundWhole s) then decline s BAD-STATE 0 else done s (takeCall (view s) c)) (sym e)
 
-  same : stepWhole s (u .call) (length (u .lent)) ≡ whole
-  same = ap (λ (c : C.Call). stepWhole s c (length (u .lent))) (a .call) ∙ ap (λ (l : ℕ). stepWhole s (Advance n) l) (a .lent)
+-- the rules' step of a use with this call
+called : (s : Supervisor) (u : Use) {c : C.Call} → u .call ≡ c → stepWhole s (u .call) (length (u .lent)) ≡ stepWhole s c (length (u .lent))
+called s u e = ap (λ (c : C.Call). stepWhole s c (length (u .lent))) e
 
-  gave : u .gave ≡ steppedOf whole
+-- what a use gave, where the rules' step is known
+module _ (s : Supervisor) (u : Use) (k : Keeps s u) {w : Whole} (same : stepWhole s (u .call) (length (u .lent)) ≡ w) where
+  gave : u .gave ≡ steppedOf w
   gave = k .answer ∙ ap steppedOf same
 
-  state-is : u .gave .state ≡ whole .state
+  wrote : u .wrote ≡ roomAfter (u .lent) (w .ended)
+  wrote = k .room ∙ ap (λ (x : Whole). roomAfter (u .lent) (x .ended)) same
+
+  state-is : u .gave .state ≡ w .state
   state-is = ap (λ (g : Stepped). g .state) gave
 
-  readings-are : u .gave .answer .entry ≡ whole .answer .entry
+  readings-are : u .gave .answer .entry ≡ w .answer .entry
   readings-are = ap (λ (g : Stepped). g .answer .entry) gave
 
-  ends-are : endedIn u ≡ whole .ended
+  next-is : u .gave .answer .next ≡ w .next
+  next-is = ap (λ (g : Stepped). g .answer .next) gave
+
+  refusal-is : u .gave .answer .refusal ≡ w .refusal
+  refusal-is = ap (λ (g : Stepped). g .answer .refusal) gave
+
+  ends-are : endedIn u ≡ w .ended
   ends-are =
       ap (λ (g : Stepped). itemsIn (g .answer .ended) (u .wrote)) gave
-      ∙ ap (λ (l : List ℕ). itemsIn (length (whole .ended)) l) (k .room ∙ ap (λ (w : Whole). roomAfter (u .lent) (w .ended)) same)
-      ∙ items-back (whole .ended) (u .lent)
+      ∙ ap (itemsIn (length (w .ended))) wrote
+      ∙ items-back (w .ended) (u .lent)
 
-module _ (clock : ℕ) (run : Run clock) where
-  -- what the rules say after every run, said of the run's own state
-  here : (P : Supervisor → Type 0) → P (reachWhole (start clock) (asks clock run)) → P (stateOf run)
-  here P p = subst P (sym (at-end clock run)) p
-
-  ticks-alike : (n room : ℕ) (u : Use) → Keeps (stateOf run) u → Advancing n room u → TicksAlike n room clock run u
-  ticks-alike n room u k a =
-      let t = here (λ (s : Supervisor). AsTicks s n room) (advances .as-ticks clock (run .clock) (asks clock run) n room) in
+module _ (s : Supervisor) (t : Typed s) where
+  ticks-alike : (n : ℕ) (u : Use) → Keeps s u → u .call ≡ Advance n → TicksAlike s n u
+  ticks-alike n u k e =
+      let a = advances .as-ticks s t n (length (u .lent)) in
       record {
-        state = state-is (stateOf run) n room u k a ∙ t .state;
-        ends = ends-are (stateOf run) n room u k a ∙ t .ends;
-        readings = readings-are (stateOf run) n room u k a ∙ t .readings;
+        state = state-is s u k (called s u e) ∙ a .state;
+        ends = ends-are s u k (called s u e) ∙ a .ends;
+        readings = readings-are s u k (called s u e) ∙ a .readings;
+        different = a .different;
+        few = subst (λ (x : ℕ). x ≤ 31) (sym (readings-are s u k (called s u e))) (a .few);
       }
 
-  cut-alike : (a b room : ℕ) (u v w : Use) → Keeps (stateOf run) u → Keeps (u .gave .state) v → Keeps (stateOf run) w
-      → Advancing a room u → Advancing b room v → Advancing (a + b) room w → CutAlike u v w
-  cut-alike a b room u v w ku kv kw au av aw =
-      let s = stateOf run in
-      let c = here (λ (s : Supervisor). Cut (stepWhole s (Advance a) room) (stepWhole (stepWhole s (Advance a) room .state) (Advance b) room) (stepWhole s (Advance (a + b)) room))
-      (advances .cut clock (run .clock) (asks clock run) a b room) in
-      let kv1 : Keeps (stepWhole s (Advance a) room .state) v = subst (λ (x : Supervisor). Keeps x v) (state-is s a room u ku au) kv in
+  unchanged : (u : Use) → Keeps s u → u .call ≡ Advance 0 → Unchanged s u
+  unchanged u k e =
+      let z = advances .nothing s t (length (u .lent)) in
       record {
-        state = state-is s (a + b) room w kw aw ∙ c .state ∙ sym (state-is (stepWhole s (Advance a) room .state) b room v kv1 av);
-        ends = ends-are s (a + b) room w kw aw ∙ c .ends
-            ∙ (λ j. sym (ends-are s a room u ku au) j ++ sym (ends-are (stepWhole s (Advance a) room .state) b room v kv1 av) j);
-        readings = readings-are s (a + b) room w kw aw ∙ c .count
-            ∙ (λ j. sym (readings-are s a room u ku au) j + sym (readings-are (stepWhole s (Advance a) room .state) b room v kv1 av) j);
+        state = state-is s u k (called s u e) ∙ z .state;
+        ends = ends-are s u k (called s u e) ∙ z .ends;
+        room = wrote s u k (called s u e) ∙ ap (roomAfter (u .lent)) (z .ends);
+        readings = readings-are s u k (called s u e) ∙ z .count;
       }
 
-  nothing-here : (room : ℕ) (u : Use) → Keeps (stateOf run) u → Advancing 0 room u → (u .gave .state ≡ stateOf run) × (endedIn u ≡ [])
-  nothing-here room u k a =
-      let z = here (λ (s : Supervisor). Nothing s (stepWhole s (Advance 0) room)) (advances .nothing clock (run .clock) (asks clock run) room) in
-      (state-is (stateOf run) 0 room u k a ∙ z .state, ends-are (stateOf run) 0 room u k a ∙ z .ends)
+  cut-alike : (a b : ℕ) (u v w : Use) → Keeps s u → Keeps (u .gave .state) v → Keeps s w
+      → u .call ≡ Advance a → v .call ≡ Advance b → w .call ≡ Advance (a + b) → RoomsAlike u v → RoomsAlike u w → CutAlike u v w
+  cut-alike a b u v w ku kv kw eu ev ew r q =
+      let room = length (u .lent) in
+      let s1 = stepWhole s (Advance a) room .state in
+      let c = advances .cut s t a b room in
+      let gu = called s u eu in
+      let gw = called s w ew ∙ same-room s (Advance (a + b)) u w q in
+      let k1 : Keeps s1 v = subst (λ (x : Supervisor). Keeps x v) (state-is s u ku gu) kv in
+      let gv = called s1 v ev ∙ same-room s1 (Advance b) u v r in
+      record {
+        state = state-is s w kw gw ∙ c .state ∙ sym (state-is s1 v k1 gv);
+        ends = ends-are s w kw gw ∙ c .ends ∙ (λ j. sym (ends-are s u ku gu) j ++ sym (ends-are s1 v k1 gv) j);
+        readings = readings-are s w kw gw ∙ c .count ∙ (λ j. sym (readings-are s u ku gu) j + sym (readings-are s1 v k1 gv) j);
+        next = next-is s w kw gw ∙ c .next ∙ sym (next-is s1 v k1 gv);
+        refusals = (
+          refusal-is s w kw gw ∙ c .refusals .0 ∙ sym (refusal-is s u ku gu),
+          refusal-is s w kw gw ∙ c .refusals .1 ∙ sym (refusal-is s1 v k1 gv),
+        );
+      }
+
+  onward : (u : Use) → Keeps s u → Typed (u .gave .state)
+  onward u k = subst Typed (sym (ap (λ (g : Stepped). g .state) (k .answer))) (each-step .typed s t (u .call) (length (u .lent)))
+
+chained : (s : Supervisor) → Typed s → (us : List Use) → Chain s us → Typed (reached s us)
+chained s t [] k = t
+chained s t (u ∷ us) k = chained (u .gave .state) (onward s t u (k .0)) us (k .1)
 
 pub cutting : Cutting
-cutting = record { as-ticks = ticks-alike; cut = cut-alike; nothing = nothing-here }
+cutting = record {
+  as-ticks = ticks-alike;
+  cut = cut-alike;
+  nothing = unchanged;
+  onward = onward;
+  reached = λ n run. chained (start n) (typed-pack (empty n) (empty-sound n (run .clock))) (run .uses) (run .kept);
+}

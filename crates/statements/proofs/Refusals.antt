@@ -1,19 +1,19 @@
 -- The step's refusal is the number of the first row of the table that applies.
 -- Assumes nothing.
-use Prim.Native.Nat.{ℕ, zero, suc, _+_, _≤_, _<_, _^_}
-use mathlib.Core.Path.{_≡_, refl, sym, _∙_, ap, subst}
-use mathlib.Core.Bool.{Bool, true, false, not, _&&_}
+use Prim.Native.Nat.{ℕ, zero, suc, _^_}
+use mathlib.Core.Path.{_≡_, refl, sym, _∙_, ap}
+use mathlib.Core.Bool.{Bool, not, _&&_}
 use mathlib.Core.List.{List, [], _∷_}
 use native.Mathlib.Omega.{arith}
 use lib.Dec.{eqb, ltb, leb}
 use lib.ListN.{length}
-use borrow.Author.Tests.{eqb-true, eqb-false, eq-eqb, ne-eqb, lt-ltb, le-ltb, ltb-true, ltb-false, le-leb}
+use borrow.Author.Tests.{ne-eqb, ltb-true, ltb-false}
 use Rattle.lists.specs.Lists.{if_then_else_, count, last}
 use Rattle.lists.proofs.ListLaws.{by-bool}
-use Rattle.rules.specs.State.{State, created, taskOf, placeOf, isTask, isCompleted, accepts, heldBy, queue, running}
-use Rattle.rules.specs.Sound.{inRange, sound}
-use Rattle.rules.specs.Step.{Outcome, refused, took, Refusal, number, BAD-STATE, SHORT-ROOM, ticks, create, delayFor, timedCall, callBusy, call, selectAt, selectNone, selectDelay, select, openEntry, endLast, end, finish, ofRunning, takeCall}
-use Rattle.rules.specs.Whole.{view, packed, soundWhole, done, decline, stepWhole}
+use Rattle.rules.specs.State.{State, created, taskOf, placeOf, isTask, isCompleted, accepts, heldBy, running}
+use Rattle.rules.specs.Sound.{inRange}
+use Rattle.rules.specs.Step.{Outcome, refused, took, number, ticks, create, delayFor, timedCall, callBusy, call, selectAt, selectNone, selectDelay, select, openEntry, endLast, end, finish, ofRunning, takeCall}
+use Rattle.rules.specs.Whole.{Typed, view, soundWhole, done, stepWhole}
 use Rattle.rules.specs.declared.Supervisor.{Supervisor}
 use Rattle.calls.specs.declared.Call as C
 use Rattle.calls.specs.declared.Call.the-variants.{Create, Delay, Call, Select, End, Finish, Tick, Advance}
@@ -23,9 +23,9 @@ use Rattle.calls.specs.declared.SelectMode.{SelectMode}
 use Rattle.calls.specs.declared.SelectMode.the-variants.{Plain, Else}
 use Rattle.calls.specs.declared.SelectMode.the-variants as S
 use Rattle.rules.proofs.Invariant.{Sound}
-use Rattle.rules.proofs.Members.{and-true, of-held, held-there}
-use Rattle.rules.proofs.SoundTest.{sound-props}
-use Rattle.statements.specs.Refusals.{badField, needsTask, noTask, noTarget, noEntry, notServing, stillServing, full, Row, row, rows, firstRow}
+use Rattle.rules.proofs.Members.{of-held, held-there}
+use Rattle.rules.proofs.WholeLaws.{sound-view}
+use Rattle.statements.specs.Refusals.{badField, noTask, noTarget, noEntry, notServing, stillServing, full, Row, row, rows, firstRow}
 
 -- the refusal of an outcome, 0 if the call is taken
 abbrev refusalOf : Outcome → ℕ
@@ -129,8 +129,8 @@ done-refusal : (s : Supervisor) (o : Outcome) → done s o .refusal ≡ refusalO
 done-refusal s (refused r) = refl
 done-refusal s (took st a l) = refl
 
-pub by-table : (s : Supervisor) (c : C.Call) (n : ℕ) → s .clock < 4294967296 → stepWhole s c n .refusal ≡ firstRow (rows s c n)
+pub by-table : (s : Supervisor) (c : C.Call) (n : ℕ) → Typed s → stepWhole s c n .refusal ≡ firstRow (rows s c n)
 unfolding stepWhole tableOf
 by-table s c n k =
     by-bool (ltb n 124) (λ e. rw e) λ e.
-    by-bool (soundWhole s) (λ f. rw (e, f) (done-refusal s (takeCall (view s) c) ∙ taken (view s) c (sound-props (view s) k (and-true (packed s) (sound (view s)) f)))) (λ f. rw (e, f))
+    by-bool (soundWhole s) (λ f. rw (e, f) (done-refusal s (takeCall (view s) c) ∙ taken (view s) c (sound-view s k f))) (λ f. rw (e, f))

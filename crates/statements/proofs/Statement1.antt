@@ -1,9 +1,9 @@
 -- Statement 1, proved.
 -- Assumes nothing.
 use Prim.Native.Nat.{ℕ, _<_}
-use mathlib.Core.Path.{_≡_, refl, sym, _∙_, ap, subst}
-use mathlib.Core.Logic.{_↔_, _⊎_, inl, inr}
-use mathlib.Core.Bool.{Bool, true, false, not}
+use mathlib.Core.Path.{_≡_, refl, sym, _∙_}
+use mathlib.Core.Logic.{_↔_, inl, inr}
+use mathlib.Core.Bool.{Bool, true, false}
 use mathlib.Core.List.{List, [], _∷_}
 use native.Mathlib.Omega.{arith}
 use lib.Dec.{ltb}
@@ -11,7 +11,7 @@ use borrow.Author.Tests.{ltb-true, ltb-false}
 use lib.ListN.{length}
 use Rattle.lists.specs.Lists.{if_then_else_}
 use Rattle.lists.proofs.ListLaws.{by-bool, clash}
-use Rattle.rules.specs.Whole.{soundWhole, stepWhole}
+use Rattle.rules.specs.Whole.{Typed, soundWhole, stepWhole}
 use Rattle.rules.proofs.Dispatch.{each-step}
 use Rattle.rules.specs.Questions.{countWhole, callableWhole}
 use Rattle.rules.specs.declared.Supervisor.{Supervisor}
@@ -28,7 +28,7 @@ use Rattle.supervisor.proofs.count.Met as count
 use Rattle.supervisor.proofs.callable.Met as callable
 use Rattle.supervisor.proofs.sound.Met as sound
 use Rattle.statements.specs.Refusals.{Row, rows, firstRow}
-use Rattle.statements.specs.Statement1.{RowGiven, Typed, Statement1}
+use Rattle.statements.specs.Statement1.{RowGiven, Statement1}
 use Rattle.statements.proofs.Refusals.{by-table}
 
 -- the first row that applies, as a number and as a proposition

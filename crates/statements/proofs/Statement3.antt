@@ -1,12 +1,9 @@
 -- Statement 3, proved: what holds of every log of the rules holds of every log that is read off uses of `step`.
 -- Assumes nothing.
-use Prim.Native.Nat.{ℕ, _<_}
+use Prim.Native.Nat.{ℕ}
 use mathlib.Core.Path.{_≡_, refl, sym, _∙_, ap, subst}
-use mathlib.Core.Bool.{true}
 use mathlib.Core.List.{List, [], _∷_, map}
-use lib.ListN.{length}
-use Rattle.rules.specs.State.{State}
-use Rattle.rules.specs.Whole.{view, soundWhole, stepWhole}
+use Rattle.rules.specs.Whole.{view, soundWhole}
 use Rattle.rules.specs.Runs.{Ask, Entry, start, afterStep, entryWhole, logWhole, reachWhole}
 use Rattle.rules.specs.OverRuns.{WaitsCounted, EndsOnce, WereWaiting, SixReasons, FewEnds, HeldTillEnd, TimedWaits}
 use Rattle.rules.specs.Uses.{Use, Keeps, Chain, asked, readEntry, readLog}
@@ -14,7 +11,7 @@ use Rattle.rules.specs.declared.Stepped.{Stepped}
 use Rattle.rules.specs.declared.Supervisor.{Supervisor}
 use Rattle.rules.proofs.Uses.{entry-back, read-back}
 use Rattle.rules.proofs.WholeRuns.{over-runs-whole}
-use Rattle.statements.specs.Statement3.{reached, Run, stateOf, logOf, Statement3}
+use Rattle.statements.specs.Statement3.{reached, Run, stateOf, Statement3}
 
 -- the state that a use gives is that of the rules
 gave-state : (s : Supervisor) (u : Use) → Keeps s u → u .gave .state ≡ afterStep s (asked u)
@@ -25,10 +22,10 @@ reached-is s [] k = refl
 reached-is s (u ∷ us) k = reached-is (u .gave .state) us (k .1) ∙ ap (λ (t : Supervisor). reachWhole t (map asked us)) (gave-state s u (k .0))
 
 module _ (n : ℕ) (run : Run n) where
-  abbrev pub asks : List Ask
+  abbrev asks : List Ask
   asks = map asked (run .uses)
 
-  pub at-end : stateOf run ≡ reachWhole (start n) asks
+  at-end : stateOf run ≡ reachWhole (start n) asks
   at-end = reached-is (start n) (run .uses) (run .kept)
 
   -- one more use

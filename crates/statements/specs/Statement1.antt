@@ -1,16 +1,17 @@
 -- Statement 1. Each public operation ends and does nothing undefined on every input, a damaged supervisor state or a garbled
 -- call record included. Bad input gets its refusal number. A refused step returns the state it was given, an empty list of
 -- ended waits, and lent room untouched.
+-- A struct is any value of its type, sound or damaged: `Typed` (rules, Whole.antt) says no more of it.
 -- Assumes nothing.
 use Prim.Native.Nat.{ℕ, _≤_, _<_}
 use mathlib.Core.Path.{_≡_}
 use mathlib.Core.Logic.{_↔_, _⊎_}
-use mathlib.Core.Bool.{Bool, true, false}
+use mathlib.Core.Bool.{true, false}
 use mathlib.Core.List.{List, [], _∷_}
 use lib.ListN.{length}
 use Rattle.rules.specs.State as state
 use Rattle.rules.specs.State.{queue}
-use Rattle.rules.specs.Whole.{view, soundWhole, stepWhole}
+use Rattle.rules.specs.Whole.{Typed, view, soundWhole, stepWhole}
 use Rattle.rules.specs.EachStep.{Untouched}
 use Rattle.rules.specs.Questions.{countWhole, callableWhole}
 use Rattle.rules.specs.declared.Supervisor.{Supervisor}
@@ -32,10 +33,6 @@ use Rattle.statements.specs.Refusals.{Row, rows}
 abbrev pub RowGiven : ℕ → List Row → Type 0
 RowGiven k [] = ⊥
 RowGiven k (r ∷ rs) = ((r .applies ≡ true) × (r .number ≡ k)) ⊎ ((r .applies ≡ false) × RowGiven k rs)
-
--- a struct whose clock is a 32-bit number, as its type says
-abbrev pub Typed : Supervisor → Type 0
-Typed s = s .clock < 4294967296
 
 pub record Statement1 : Type 2 where
   -- "ends and does nothing undefined on every input": what the gate proves of each public operation, under its name

@@ -1,18 +1,18 @@
 -- Statement 2. Each step gives the next state, result, list of ended waits and dispatched task that the rules give. The dispatched
 -- task heads the highest ready level. Call records are read and written so that each call has one record and each good record one call.
 -- Assumes nothing.
-use Prim.Native.Nat.{ℕ, _≤_, _<_}
+use Prim.Native.Nat.{ℕ, _≤_}
 use mathlib.Core.Path.{_≡_}
 use mathlib.Core.Bool.{true}
-use mathlib.Core.List.{List, [], _∷_, _++_}
+use mathlib.Core.List.{List, _++_}
 use lib.ListN.{length, take}
 use denote.Ref.{now}
-use Rattle.rules.specs.State.{State, queue}
+use Rattle.rules.specs.State.{queue}
 use Rattle.rules.specs.Step.{takeCall}
-use Rattle.rules.specs.Whole.{view, soundWhole, done, stepWhole}
+use Rattle.rules.specs.Whole.{Typed, view, soundWhole, done, stepWhole}
 use Rattle.rules.specs.Questions.{countWhole}
 use Rattle.rules.specs.EachStep.{Dispatched, waitingOn}
-use Rattle.rules.specs.Uses.{Use, Keeps}
+use Rattle.rules.specs.Uses.{Keeps}
 use Rattle.rules.specs.declared.Supervisor.{Supervisor}
 use Rattle.calls.specs.declared.Call as C
 use Rattle.calls.specs.declared.Read.the-variants.{Record}
@@ -20,7 +20,6 @@ use Rattle.calls.specs.Record.{encode}
 use Rattle.calls.specs.Reading.{readOf}
 use Rattle.calls.specs.Range.{InRange, Bytes}
 use Rattle.supervisor.proofs.step.Reads as step
-use Rattle.statements.specs.Statement1.{Typed}
 
 pub record Statement2 : Type 1 where
   -- whatever the contract of `step` allows, in a state x .0 with the call x .1 .0 and a lent room, is a use that keeps the rules' step

@@ -4,11 +4,10 @@ use Prim.Native.Nat.{ℕ, zero, suc, _≤_, _^_}
 use mathlib.Core.Path.{_≡_, refl, sym}
 use mathlib.Core.Bool.{true, false}
 use mathlib.Core.List.{[]}
-use lib.Dec.{ltb, leb, eqb}
+use lib.Dec.{leb, eqb}
 use lib.ListN.{length}
-use borrow.Author.Tests.{ltb-true}
 use Rattle.lists.specs.Lists.{first}
-use Rattle.rules.specs.State.{State, taskOf, move, running, after, opens, queue, offer, meet}
+use Rattle.rules.specs.State.{State, taskOf, move, running, after, queue, offer, meet}
 use Rattle.rules.specs.Step.{refused, took, NO-TASK, NO-ENTRY, item, WAITS, ACCEPTED, DELAY-TAKEN, ticks, openEntry, selectDelay, selectNone, selectAt, select, takeCall}
 use Rattle.rules.specs.declared.Place.the-variants.{Accepting}
 use Rattle.rules.specs.declared.Timer.the-variants.{Due}
@@ -16,9 +15,9 @@ use Rattle.calls.specs.declared.Call.the-variants.{Delay, Select}
 use lib.IntN.{ℤ}
 use Rattle.calls.specs.declared.SelectMode.{SelectMode}
 use Rattle.calls.specs.declared.SelectMode.the-variants.{Plain, Else}
-use Rattle.rules.proofs.Members.{of-queue, first-member, and-true, queued-there}
+use Rattle.rules.proofs.Members.{queued-there}
 use Rattle.lists.proofs.ListLaws.{by-test}
-use Rattle.rules.proofs.StepSound.{one-open}
+use Rattle.rules.proofs.StepSound.{caller-taken}
 use Rattle.calls.specs.declared.SelectMode.the-variants as S
 use Rattle.supervisor.proofs.AnswerLaws.{no-runner, of-runner, Quiet, quiet-runner}
 
@@ -44,11 +43,10 @@ module _ (v : State) (t o : ℕ) (m : SelectMode) where
       go (suc e) k z f = rw f
 
 pub first-fits : (v : State) (t o e k : ℕ) → e ≡ openEntry v t o → (e ≡ 0 → ⊥) → k ≡ first (queue v t e) → k ≤ length (v .tasks)
-unfolding openEntry
 first-fits v t o zero k i z f = absurd (z refl)
 first-fits v t o (suc e) k i z f =
-    let q = of-queue v k t (suc e) (rw f (first-member (queue v t (suc e)) (ltb-true 0 _ (and-true (opens o (suc e)) (ltb 0 (length (queue v t (suc e)))) (one-open v t o 8 1 e (sym i)))))) in
-    queued-there v k (q .0) (q .1) .1
+    let q = caller-taken v t o e (sym i) in
+    rw f (queued-there v (first (queue v t (suc e))) (q .0) (q .1) .1)
 
 module _ (v : State) (t o : ℕ) (d : ℤ) (n : ℕ) (is : n ≡ ticks d) where
   pub select-now : n ≡ 0 → selectNone v t o (S.Delay d) ≡ took v (item t DELAY-TAKEN 0 0) []

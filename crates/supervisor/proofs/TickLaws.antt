@@ -11,11 +11,10 @@ use Rattle.rules.specs.Step.{took, item, DONE, takeCall, isDue, dueAt, expired,
 use Rattle.rules.specs.Whole.{pack}
 use Rattle.rules.specs.declared.Supervisor.{Supervisor}
 use Rattle.calls.specs.declared.Call.the-variants.{Tick}
-use Rattle.rules.proofs.Members.{in-filter, timed-there}
+use Rattle.rules.proofs.Members.{bit-le, in-filter, timed-there}
 use Rattle.rules.proofs.StepSound.{due-is}
 use Rattle.lists.proofs.LineLaws.{length-filter}
 use Rattle.lists.proofs.ListLaws.{count-filter-le}
-use Rattle.rules.proofs.Passes.{bit-le}
 use Rattle.rules.proofs.Invariant.{Sound}
 use Rattle.rules.proofs.WholeLaws.{delays-fit}
 use Rattle.supervisor.specs.Taken.{AllThere, EachOnce, WokenAs, PassedTo}

@@ -6,34 +6,26 @@ use mathlib.Core.Bool.{Bool, true, false, not, _&&_}
 use mathlib.Core.List.{List}
 use native.Mathlib.Omega.{arith}
 use lib.Dec.{ltb, leb}
-use lib.ListN.{length, drop}
+use lib.ListN.{length}
 use lib.Seq.{length-take-le}
-use borrow.Author.Tests.{lt-ltb, le-ltb, leb-true}
-use Rattle.lists.specs.Line.{tidy}
-use Rattle.lists.specs.Lists.{every}
+use borrow.Author.Tests.{lt-ltb, le-ltb}
 use Rattle.rules.specs.State.{created, taskOf, running, isCompleted}
 use Rattle.rules.specs.Step.{Outcome, refused, took, takeCall, roomAfter, SHORT-ROOM, BAD-STATE}
-use Rattle.rules.specs.Sound.{sound}
-use Rattle.rules.specs.Whole.{view, pack, Whole, packed, soundWhole, decline, done, stepWhole, steppedOf, unused}
+use Rattle.rules.specs.Whole.{Typed, view, pack, Whole, soundWhole, decline, done, stepWhole, steppedOf}
 use Rattle.rules.specs.declared.Task.{Task}
 use Rattle.rules.specs.declared.Supervisor.{Supervisor}
 use Rattle.calls.specs.declared.Call.the-variants.{Call}
-use Rattle.rules.proofs.Members.{and-true, and-first}
 use Rattle.rules.proofs.StepSound.{Kept, call-sound}
-use Rattle.rules.proofs.WholeLaws.{view-pack, whole-packed}
+use Rattle.rules.proofs.WholeLaws.{view-pack, parts, whole-packed, sound-view}
 use Rattle.supervisor.specs.Taken.{Stands, takenOf, endedBy}
 use Rattle.supervisor.specs.declared.answers.Taken.{Taken}
-use Rattle.rules.proofs.SoundTest.{sound-props}
 use Rattle.rules.specs.declared.Stepped.{Stepped}
 use Rattle.rules.specs.declared.Known.{Known}
 use Rattle.rules.specs.Questions.{callableWhole}
 use Rattle.calls.specs.declared.Call as C
 
-pub stands-of : (s : Supervisor) → s .clock < 4294967296 → length (s .tasks) ≡ 31 → length (s .ready) ≡ 31 → length (s .callers) ≡ 31 → length (s .held) ≡ 31 → length (s .delays) ≡ 31 → soundWhole s ≡ true → Stands s
-stands-of s k l1 l2 l3 l4 l5 h = record {
-  packs = whole-packed s l1 l2 l3 l4 l5 (and-first (packed s) (sound (view s)) h);
-  sound = sound-props (view s) k (and-true (packed s) (sound (view s)) h);
-}
+pub stands-of : (s : Supervisor) → Typed s → soundWhole s ≡ true → Stands s
+stands-of s t h = record { packs = whole-packed s t h; sound = sound-view s t h }
 
 module _ (s : Supervisor) (c : C.Call) (n : ℕ) where
   pub step-short : n < 124 → stepWhole s c n ≡ decline s SHORT-ROOM 0
@@ -67,15 +59,7 @@ kept s c h = call-sound (view s) c (h .sound)
 -- ---- questions
 
 created-sound : (s : Supervisor) → soundWhole s ≡ true → length (s .tasks) ≡ 31 → created (view s) ≡ s .created
-created-sound s h k =
-    let f : Bool = leb (s .created) 31 in
-    let e : Bool = every unused (drop (s .created) (s .tasks)) in
-    let x1 : Bool = tidy (s .ready) in let x2 : Bool = tidy (s .callers) in let x3 : Bool = tidy (s .held) in let x4 : Bool = tidy (s .delays) in
-    let t4 = and-first (packed s) (sound (view s)) h in
-    let t3 = and-first (f && e && x1 && x2 && x3) x4 t4 in
-    let t0 = and-first (f && e) x1 (and-first (f && e && x1) x2 (and-first (f && e && x1 && x2) x3 t3)) in
-    let n = leb-true (s .created) 31 (and-first f e t0) in
-    length-take-le (s .created) (s .tasks) (omega arith)
+created-sound s h k = length-take-le (s .created) (s .tasks) (omega (arith, parts s h .few, k))
 
 pub callable-is : (s : Supervisor) (t : ℕ) (b d : Bool) (x : Task) → soundWhole s ≡ true → length (s .tasks) ≡ 31 → b ≡ (ltb 0 t && leb t (s .created)) → x ≡ taskOf (view s) t → d ≡ isCompleted (x .place)
     → _≡_ {A = Known} (record { refusal = 0; yes = b && not d }) (callableWhole s t)

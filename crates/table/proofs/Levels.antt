@@ -8,8 +8,8 @@ use native.Mathlib.Omega.{arith}
 use lib.Dec.{ltb, leb, eqb}
 use borrow.Author.Tests.{ne-eqb, eqb-true, eqb-false, le-leb, lt-leb, lt-ltb, leb-true, leb-false, ltb-true}
 use Rattle.lists.specs.Lists.{if_then_else_, filter}
+use Rattle.lists.proofs.Tests.{and-first, and-second}
 use Rattle.rules.specs.State.{State, taskOf, level, headUpTo, running}
-use Rattle.rules.proofs.Members.{and-true, and-first}
 use Rattle.table.specs.Best.{bestOf, betterOf}
 use Rattle.rules.specs.State.{priorityOf}
 use Rattle.table.specs.declared.dispatch.Best.{Best}
@@ -65,7 +65,7 @@ module _ (f : ℕ → ℕ) where
           → bestOf f (if t then record { task = x; priority = f x } else b) l .task ≡ headIn (x ∷ l) (b .priority) 15 (b .task)
       go true e ih =
           ih (record { task = x; priority = f x })
-          ∙ sym (hit x l (b .priority) 15 (b .task) (ltb-true (b .priority) (f x) (and-first (ltb (b .priority) (f x)) (leb (f x) 15) e)) (leb-true (f x) 15 (and-true (ltb (b .priority) (f x)) (leb (f x) 15) e)))
+          ∙ sym (hit x l (b .priority) 15 (b .task) (ltb-true (b .priority) (f x) (and-first (ltb (b .priority) (f x)) (leb (f x) 15) e)) (leb-true (f x) 15 (and-second (ltb (b .priority) (f x)) (leb (f x) 15) e)))
       go false e ih =
           ih b ∙ sym (skip x l (b .priority) 15 (b .task)
           (λ q a c z. true≢false (rw (lt-ltb (b .priority) (f x) (omega arith), le-leb (f x) 15 (omega arith)) at e)))

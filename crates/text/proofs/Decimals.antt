@@ -9,20 +9,20 @@ use native.Mathlib.Nat.{pow-suc, pow-zero, one-le-pow}
 use lib.Dec.{ltb}
 use borrow.Author.Tests.{lt-ltb, le-ltb, ltb-true, ltb-false}
 use Rattle.io.specs.Digits.{glyph, digits, Fewest}
-use Rattle.lists.proofs.Tests.{cases}
+use Rattle.lists.proofs.ListLaws.{by-bool}
 use Rattle.text.specs.Text.{spelled, decimal}
 
-small : (k n : ℕ) → n < 10 → spelled (suc k) n ≡ (48 + n) ∷ []
+pub small : (k n : ℕ) → n < 10 → spelled (suc k) n ≡ (48 + n) ∷ []
 small k n h = rw (lt-ltb n 10 h) refl
 
-large : (k n : ℕ) → 10 ≤ n → spelled (suc k) n ≡ spelled k (n / 10) ++ ((48 + n % 10) ∷ [])
+pub large : (k n : ℕ) → 10 ≤ n → spelled (suc k) n ≡ spelled k (n / 10) ++ ((48 + n % 10) ∷ [])
 large k n h = rw (le-ltb n 10 h) refl
 
 -- a number has fewer digits than it counts, so leave for more of them changes nothing
 enough : (k m n : ℕ) → n < k → n < m → spelled k n ≡ spelled m n
 enough zero m n h g = absurd (omega arith)
 enough (suc k) zero n h g = absurd (omega arith)
-enough (suc k) (suc m) n h g = cases (ltb n 10)
+enough (suc k) (suc m) n h g = by-bool (ltb n 10)
     (λ e. let low = ltb-true n 10 e in small k n low ∙ sym (small m n low))
     (λ e. let high = ltb-false n 10 e in
     large k n high ∙ ap (λ (l : List ℕ). l ++ ((48 + n % 10) ∷ [])) (enough k m (n / 10) (omega arith) (omega arith)) ∙ sym (large m n high))

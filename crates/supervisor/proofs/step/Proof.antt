@@ -26,7 +26,7 @@ stands-here c =
     let l4 : length (s .held) ≡ 31 = search (needs, mapped-long) in
     let l5 : length (s .delays) ≡ 31 = search (needs, mapped-long) in
     let k : s .clock < 4294967296 = search needs in
-    stands-of s k l1 l2 l3 l4 l5 (sound-here c)
+    stands-of s (record { clock = k; tasks = l1; ready = l2; callers = l3; held = l4; delays = l5 }) (sound-here c)
 
 returns : tie.Need-returns
 returns c =
