@@ -12,10 +12,10 @@ use Rattle.io.specs.Digits.{glyph, digits, Fewest}
 use Rattle.lists.proofs.ListLaws.{by-bool}
 use Rattle.text.specs.Text.{spelled, decimal}
 
-small : (k n : ℕ) → n < 10 → spelled (suc k) n ≡ (48 + n) ∷ []
+pub small : (k n : ℕ) → n < 10 → spelled (suc k) n ≡ (48 + n) ∷ []
 small k n h = rw (lt-ltb n 10 h) refl
 
-large : (k n : ℕ) → 10 ≤ n → spelled (suc k) n ≡ spelled k (n / 10) ++ ((48 + n % 10) ∷ [])
+pub large : (k n : ℕ) → 10 ≤ n → spelled (suc k) n ≡ spelled k (n / 10) ++ ((48 + n % 10) ∷ [])
 large k n h = rw (le-ltb n 10 h) refl
 
 -- a number has fewer digits than it counts, so leave for more of them changes nothing

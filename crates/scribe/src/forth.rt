@@ -1,0 +1,76 @@
+// Text to records, line by line.
+use crate::errors;
+use crate::work::Work;
+use crate::work::begun;
+use crate::work::fed;
+use crate::work::passed;
+use crate::work::stopped;
+use script::Line;
+use script::put_record;
+use script::read_line;
+use stream::output::flushed;
+use stream::window::unread;
+use text::least;
+
+// The record of a line is put into out. Of a line that cannot be read the number is told, and nothing is put.
+fn put_line(number: u64, line: &[u8], out: &mut [u8], at: usize) -> usize {
+    let said = read_line(line);
+    if let Line::Unread = said {
+        errors::unread(number, line);
+    }
+    put_record(said, out, at)
+}
+
+// Behind a whole line; the next one begins at `next`.
+fn taken(w: Work, line: &[u8], next: usize, out: &mut [u8]) -> Work {
+    if w.skips {
+        return passed(w, next, w.waits, out);
+    }
+    let place = put_line(w.number, line, out, w.waits);
+    passed(w, next, place, out)
+}
+
+// A line that fills the buffer is told, and the rest of it skipped.
+fn skipped(w: Work) -> Work {
+    if !w.skips {
+        errors::too_long(w.number);
+    }
+    let window = unread();
+    Work {
+        window,
+        waits: w.waits,
+        number: w.number,
+        skips: true,
+        goes: true,
+    }
+}
+
+// One turn, on what stands in the window. The last line may lack its line end.
+fn turn(w: Work, buf: &mut [u8], out: &mut [u8]) -> Work {
+    let v = w.window;
+    let end = least(v.end, buf.len());
+    let at = least(v.at, end);
+    let stop = bytes::scan::find(buf, at, end, b'\n');
+    if stop < end {
+        return taken(w, &buf[at..stop], stop + 1, out);
+    }
+    if v.last {
+        let t = taken(w, &buf[at..end], end, out);
+        return stopped(t);
+    }
+    if end - at == buf.len() {
+        return skipped(w);
+    }
+    fed(w, buf, out)
+}
+
+// All lines of standard input.
+pub fn run(buf: &mut [u8], out: &mut [u8]) {
+    let mut w = begun();
+    let mut turns = u64::MAX;
+    while turns > 0 && w.goes {
+        w = turn(w, buf, out);
+        turns -= 1;
+    }
+    flushed(out, w.waits);
+}

@@ -1,0 +1,108 @@
+-- Decimal numbers: their digits, their length, and the number that is read back.
+-- Assumes nothing.
+use Prim.Native.Nat.{ℕ, zero, suc, _+_, _*_, _/_, _%_, _^_, _≤_, _<_}
+use mathlib.Core.Path.{_≡_, refl, sym, ap, subst, _∙_}
+use mathlib.Core.List.{List, [], _∷_, _++_}
+use native.Mathlib.Omega.{arith}
+use native.Mathlib.Nat.{pow-suc, pow-zero}
+use lib.Dec.{ltb}
+use lib.ListN.{length, length-append}
+use borrow.Author.Tests.{le-leb, ltb-true, ltb-false}
+use Rattle.lists.proofs.ListLaws.{by-bool}
+use Rattle.text.specs.Text.{spelled, decimal}
+use Rattle.text.proofs.Decimals.{small, large}
+use Rattle.script.specs.Guess.{fresh, grownOf}
+use Rattle.script.specs.declared.guess.Word.{Word}
+
+-- ── digits ──
+
+-- a digit, or a comma: neither a blank nor a letter nor a minus nor a comment
+pub record Plain (b : ℕ) : Type 0 where
+  pub low : 44 ≤ b
+  pub high : b ≤ 57
+  pub no-minus : b ≡ 45 → ⊥
+
+-- every byte is plain
+abbrev pub AllPlain : List ℕ → Type 0
+AllPlain [] = Unit {0}
+AllPlain (b ∷ l) = Plain b × AllPlain l
+
+plain-append : (a b : List ℕ) → AllPlain a → AllPlain b → AllPlain (a ++ b)
+plain-append [] b p q = q
+plain-append (x ∷ a) b p q = (p .0, plain-append a b (p .1) q)
+
+digit : (d : ℕ) → d < 10 → AllPlain ((48 + d) ∷ [])
+digit d h = (record { low = omega arith; high = omega arith; no-minus = λ e. omega arith }, tt)
+
+spelled-plain : (k n : ℕ) → AllPlain (spelled k n)
+spelled-plain zero n = tt
+spelled-plain (suc k) n = by-bool (ltb n 10)
+    (λ e. let h = ltb-true n 10 e in subst AllPlain (sym (small k n h)) (digit n h))
+    (λ e. let h = ltb-false n 10 e in
+    subst AllPlain (sym (large k n h)) (plain-append (spelled k (n / 10)) ((48 + n % 10) ∷ []) (spelled-plain k (n / 10)) (digit (n % 10) (omega arith))))
+
+pub decimal-plain : (n : ℕ) → AllPlain (decimal n)
+unfolding decimal
+decimal-plain n = spelled-plain (suc n) n
+
+-- ── length ──
+
+pub decimal-some : (n : ℕ) → 0 < length (decimal n)
+unfolding decimal
+decimal-some n = by-bool (ltb n 10)
+    (λ e. subst (λ (l : List ℕ). 0 < length l) (sym (small n n (ltb-true n 10 e))) (omega arith))
+    (λ e. subst (λ (l : List ℕ). 0 < length l) (sym (large n n (ltb-false n 10 e)))
+    (let g = length-append (spelled n (n / 10)) ((48 + n % 10) ∷ []) in omega (arith, g)))
+
+one-more : (l : List ℕ) (d m n : ℕ) → ((m : ℕ) → n / 10 < 10 ^ m → length l ≤ suc m) → 10 ≤ n → n < 10 ^ m → length (l ++ (d ∷ [])) ≤ suc m
+one-more l d zero n ih g h = let z : n < 1 = subst (λ (p : ℕ). n < p) (pow-zero 10) h in absurd (omega arith)
+one-more l d (suc m) n ih g h =
+    let p = 10 ^ m in
+    let z : n < p * 10 = subst (λ (p : ℕ). n < p) (pow-suc 10 m) h in
+    let i = ih m (omega arith) in
+    rw (length-append l (d ∷ [])) (omega arith)
+
+spelled-short : (k n m : ℕ) → n < 10 ^ m → length (spelled k n) ≤ suc m
+spelled-short zero n m h = omega arith
+spelled-short (suc k) n m h = by-bool (ltb n 10)
+    (λ e. subst (λ (l : List ℕ). length l ≤ suc m) (sym (small k n (ltb-true n 10 e))) (omega arith))
+    (λ e. let g = ltb-false n 10 e in
+    subst (λ (l : List ℕ). length l ≤ suc m) (sym (large k n g))
+    (one-more (spelled k (n / 10)) (48 + n % 10) m n (λ m h. spelled-short k (n / 10) m h) g h))
+
+pub decimal-short : (n : ℕ) → n < 2 ^ 32 → length (decimal n) ≤ 11
+unfolding decimal
+decimal-short n h = spelled-short (suc n) n 10 (omega arith)
+
+-- ── the number that is read back ──
+
+-- a word with all bytes of a text
+abbrev pub growAll : Word → List ℕ → Word
+growAll w [] = w
+growAll w (b ∷ l) = growAll (grownOf w b) l
+
+grow-append : (w : Word) (a b : List ℕ) → growAll w (a ++ b) ≡ growAll (growAll w a) b
+grow-append w [] b = refl
+grow-append w (x ∷ a) b = grow-append (grownOf w x) a b
+
+grow-digit : (w : Word) (d : ℕ) → d < 10 → grownOf w (48 + d) .number ≡ w .number % 4294967296 * 10 + d
+grow-digit w d h =
+    let e : (48 + d) % 16 ≡ d = omega arith in
+    rw (le-leb 48 (48 + d) (omega arith), le-leb (48 + d) 57 (omega arith), e) refl
+
+spelled-back : (k n : ℕ) → n < k → n < 4294967296 → growAll fresh (spelled k n) .number ≡ n
+spelled-back zero n h b = absurd (omega arith)
+spelled-back (suc k) n h b = by-bool (ltb n 10)
+    (λ e. let low = ltb-true n 10 e in
+    ap (λ (l : List ℕ). growAll fresh l .number) (small k n low) ∙ grow-digit fresh n low ∙ (omega arith))
+    (λ e. let high = ltb-false n 10 e in
+    let ih = spelled-back k (n / 10) (omega arith) (omega arith) in
+    let w = growAll fresh (spelled k (n / 10)) in
+    ap (λ (l : List ℕ). growAll fresh l .number) (large k n high)
+    ∙ ap (λ (w : Word). w .number) (grow-append fresh (spelled k (n / 10)) ((48 + n % 10) ∷ []))
+    ∙ grow-digit w (n % 10) (omega arith)
+    ∙ (rw ih (omega arith)))
+
+pub decimal-back : (n : ℕ) → n < 4294967296 → growAll fresh (decimal n) .number ≡ n
+unfolding decimal
+decimal-back n h = spelled-back (suc n) n (omega arith) h

@@ -1,0 +1,149 @@
+-- The text of a call is its words with one blank between them, and it is short.
+-- Assumes nothing.
+use Prim.Native.Nat.{ℕ, zero, suc, _^_, _≤_, _<_}
+use mathlib.Core.Path.{_≡_, refl, sym, ap, _∙_}
+use mathlib.Core.Bool.{true, false}
+use mathlib.Core.List.{List, [], _∷_, _++_, append-nil, append-assoc}
+use native.Mathlib.Omega.{arith}
+use lib.Dec.{eqb}
+use lib.IntN.{ℤ, pos, negsuc}
+use lib.ListN.{length, length-append}
+use borrow.Author.Tests.{ne-eqb, lt-leb, lt-ltb}
+use mir.Syntax.{w32}
+use mir.Val.{SFits}
+use Rattle.calls.specs.Record.{callTime, selectTime}
+use Rattle.calls.specs.declared.CallMode.{CallMode}
+use Rattle.calls.specs.declared.CallMode.the-variants.{Simple, Timed, Conditional}
+use Rattle.calls.specs.declared.SelectMode.{SelectMode}
+use Rattle.calls.specs.declared.SelectMode.the-variants as S
+use Rattle.calls.specs.declared.Call as C
+use Rattle.calls.specs.declared.Call.the-variants.{Create, Delay, Call, Select, End, Finish, Tick, Advance}
+use Rattle.text.specs.Text.{decimal}
+use Rattle.script.specs.CallText.{spaced, spacedTime, entries, openText, callModeText, selectModeText, textOf}
+use Rattle.script.specs.Words.{wordsFrom, wordsOf}
+use Rattle.script.specs.Says.{Fits}
+use Rattle.script.proofs.Digits.{Plain, AllPlain, decimal-plain, decimal-some, decimal-short}
+use Rattle.script.proofs.Sets.{tail, set-text}
+
+-- ── words ──
+
+-- behind a word, these bytes are words with one blank in front of each
+abbrev Tidy : List ℕ → Type 0
+Tidy l = (r : List ℕ) → wordsFrom true (l ++ r) ≡ l ++ wordsFrom true r
+
+tidy-append : (a b : List ℕ) → Tidy a → Tidy b → Tidy (a ++ b)
+tidy-append a b p q r = rw (append-assoc a b r, append-assoc a b (wordsFrom true r)) (p (b ++ r) ∙ ap (λ (l : List ℕ). a ++ l) (q r))
+
+plain-on : (l : List ℕ) → AllPlain l → Tidy l
+plain-on [] p r = refl
+plain-on (b ∷ l) p r =
+    let h = p .0 .low in
+    let n : b ≡ 35 → ⊥ = λ e. omega arith in
+    rw (ne-eqb b 35 n, lt-leb b 32 (omega arith), lt-ltb 32 b (omega arith)) (ap (λ (l : List ℕ). b ∷ l) (plain-on l (p .1) r))
+
+tidy-word : (l : List ℕ) → AllPlain l → 0 < length l → Tidy (32 ∷ l)
+tidy-word [] p h r = absurd (omega arith)
+tidy-word (b ∷ l) p h r =
+    let g = p .0 .low in
+    let n : b ≡ 35 → ⊥ = λ e. omega arith in
+    rw (ne-eqb b 35 n, lt-leb b 32 (omega arith), lt-ltb 32 b (omega arith)) (ap (λ (l : List ℕ). 32 ∷ b ∷ l) (plain-on l (p .1) r))
+
+tidy-number : (n : ℕ) → Tidy (spaced n)
+unfolding spaced
+tidy-number n = tidy-word (decimal n) (decimal-plain n) (decimal-some n)
+
+tidy-time : (d : ℤ) → Tidy (spacedTime d)
+unfolding spacedTime
+tidy-time (pos n) r = tidy-number n r
+tidy-time (negsuc n) r = ap (λ (l : List ℕ). 32 ∷ 45 ∷ l) (plain-on (decimal (suc n)) (decimal-plain (suc n)) r)
+
+tidy-open : (o : ℕ) → o < 256 → Tidy (openText o)
+unfolding openText
+tidy-open zero h r = refl
+tidy-open (suc n) h r =
+    let t = set-text (suc n) (omega arith) h in
+    let e : eqb (suc n) 0 ≡ false = ne-eqb (suc n) 0 (λ z. omega arith) in
+    rw (e, t .blank) (tidy-word (tail (entries 8 49 32 (suc n))) (t .plain) (t .some) r)
+
+tidy-call-mode : (m : CallMode) → Tidy (callModeText m)
+unfolding callModeText
+tidy-call-mode Simple r = refl
+tidy-call-mode (Timed d) r = ap (λ (l : List ℕ). 32 ∷ 116 ∷ 105 ∷ 109 ∷ 101 ∷ 100 ∷ l) (tidy-time d r)
+tidy-call-mode Conditional r = refl
+
+tidy-select-mode : (m : SelectMode) → Tidy (selectModeText m)
+unfolding selectModeText
+tidy-select-mode S.Plain r = refl
+tidy-select-mode (S.Delay d) r = ap (λ (l : List ℕ). 32 ∷ 100 ∷ 101 ∷ 108 ∷ 97 ∷ 121 ∷ l) (tidy-time d r)
+tidy-select-mode S.Else r = refl
+
+whole : (l : List ℕ) → Tidy l → wordsFrom true l ≡ l
+whole l p = ap (wordsFrom true) (sym (append-nil l)) ∙ p [] ∙ append-nil l
+
+pub words-back : (c : C.Call) → Fits c → wordsOf (textOf c) ≡ 32 ∷ textOf c
+unfolding textOf wordsOf
+words-back (Create p n) f =
+    ap (λ (l : List ℕ). 32 ∷ 67 ∷ 82 ∷ 69 ∷ 65 ∷ 84 ∷ 69 ∷ l) (whole (spaced p ++ spaced n) (tidy-append (spaced p) (spaced n) (tidy-number p) (tidy-number n)))
+words-back (Delay d) f = ap (λ (l : List ℕ). 32 ∷ 68 ∷ 69 ∷ 76 ∷ 65 ∷ 89 ∷ l) (whole (spacedTime d) (tidy-time d))
+words-back (Call t e m) f =
+    ap (λ (l : List ℕ). 32 ∷ 67 ∷ 65 ∷ 76 ∷ 76 ∷ l)
+    (whole (spaced t ++ (spaced e ++ callModeText m)) (tidy-append (spaced t) (spaced e ++ callModeText m) (tidy-number t) (tidy-append (spaced e) (callModeText m) (tidy-number e) (tidy-call-mode m))))
+words-back (Select o m) f =
+    ap (λ (l : List ℕ). 32 ∷ 83 ∷ 69 ∷ 76 ∷ 69 ∷ 67 ∷ 84 ∷ l)
+    (whole (openText o ++ selectModeText m) (tidy-append (openText o) (selectModeText m) (tidy-open o (f .0)) (tidy-select-mode m)))
+words-back End f = refl
+words-back Finish f = refl
+words-back Tick f = refl
+words-back (Advance n) f = ap (λ (l : List ℕ). 32 ∷ 65 ∷ 68 ∷ 86 ∷ 65 ∷ 78 ∷ 67 ∷ 69 ∷ l) (whole (spaced n) (tidy-number n))
+
+-- ── length ──
+
+short-number : (n : ℕ) → n < 2 ^ 32 → length (spaced n) ≤ 12
+unfolding spaced
+short-number n h = let s = decimal-short n h in omega arith
+
+short-time : (d : ℤ) → SFits w32 d → length (spacedTime d) ≤ 13
+unfolding spacedTime
+short-time (pos n) f = let h : n < 2 ^ 31 = f .sfits in let s = short-number n (omega arith) in omega arith
+short-time (negsuc n) f = let h : n < 2 ^ 31 = f .sfits in let s = decimal-short (suc n) (omega arith) in omega arith
+
+short-open : (o : ℕ) → o < 256 → length (openText o) ≤ 16
+unfolding openText
+short-open zero h = omega arith
+short-open (suc n) h =
+    let t = set-text (suc n) (omega arith) h in
+    let e : eqb (suc n) 0 ≡ false = ne-eqb (suc n) 0 (λ z. omega arith) in
+    rw e (t .short)
+
+short-call-mode : (m : CallMode) → SFits w32 (callTime m) → length (callModeText m) ≤ 19
+unfolding callModeText
+short-call-mode Simple f = omega arith
+short-call-mode (Timed d) f = let s = short-time d f in omega arith
+short-call-mode Conditional f = omega arith
+
+short-select-mode : (m : SelectMode) → SFits w32 (selectTime m) → length (selectModeText m) ≤ 19
+unfolding selectModeText
+short-select-mode S.Plain f = omega arith
+short-select-mode (S.Delay d) f = let s = short-time d f in omega arith
+short-select-mode S.Else f = omega arith
+
+pub text-short : (c : C.Call) → Fits c → length (textOf c) ≤ 62
+unfolding textOf
+text-short (Create p n) f =
+    let a = short-number p (omega arith) in
+    let b = short-number n (omega arith) in
+    omega (arith, length-append (spaced p) (spaced n))
+text-short (Delay d) f = let a = short-time d f in omega arith
+text-short (Call t e m) f =
+    let a = short-number t (omega arith) in
+    let b = short-number e (omega arith) in
+    let d = short-call-mode m (f .1 .1) in
+    omega (arith, length-append (spaced t) (spaced e ++ callModeText m), length-append (spaced e) (callModeText m))
+text-short (Select o m) f =
+    let a = short-open o (f .0) in
+    let b = short-select-mode m (f .1) in
+    omega (arith, length-append (openText o) (selectModeText m))
+text-short End f = omega arith
+text-short Finish f = omega arith
+text-short Tick f = omega arith
+text-short (Advance n) f = let a = short-number n f in omega arith

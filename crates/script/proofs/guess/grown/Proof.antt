@@ -1,0 +1,22 @@
+use borrow.Author.Needs.{needs}
+use Rattle.script.proofs.guess.grown.Statement.{statement}
+use Rattle.script.proofs.guess.grown.Tie as tie
+
+returns : tie.Need-returns
+returns c = rw (c .before .before .before .if1 .taken, c .bit-of .ensures)
+
+returns-2 : tie.Need-returns-2
+returns-2 c = rw (c .if1 .left)
+
+pub grown-spec : {M : Type 1} → statement M
+grown-spec =
+    tie.close
+    (tie.spec
+    (λ c. search needs)
+    (λ c. search needs)
+    (λ c. search needs)
+    (λ c κs. search needs)
+    (λ c. search needs)
+    (λ c. search needs)
+    returns
+    returns-2)

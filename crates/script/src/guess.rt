@@ -1,0 +1,209 @@
+// A guess at the call that words look like. It is right where they are the text of a call, and may be anything where they are not: the reader
+// prints it and compares.
+ghost use mathlib.Core.Path.{_≡_};
+ghost use Prim.Native.Nat.{_%_};
+ghost use Rattle.script.specs.Guess.{bitOf, fresh, grownOf, addedOf, heardOf, hear, unseen, timeOf, selectBy, callBy, guessOf};
+use calls::Call;
+use calls::CallMode;
+use calls::SelectMode;
+
+// The bit of an entry's digit in an open set.
+const BITS: [u8; 16] = [0, 1, 2, 4, 8, 16, 32, 64, 128, 0, 0, 0, 0, 0, 0, 0];
+
+// What a word is by its digits: a number, and an open set.
+pub struct Word {
+    pub number: u64,
+    pub set: u64,
+}
+
+// What is seen of a line: the sum of its letters, whether there is a minus, and its four last words.
+pub struct Seen {
+    pub letters: u64,
+    pub minus: bool,
+    pub fourth: Word,
+    pub third: Word,
+    pub second: Word,
+    pub last: Word,
+}
+
+fn bit_of(d: u8) -> u8
+    ensures { λ r. ⌜ r ≡ bitOf (d % 16) ⌝ }
+{
+    let i = (d % 16) as usize;
+    BITS[i]
+}
+
+// A word with one byte more.
+fn grown(w: Word, b: u8) -> Word
+    ensures { λ r. ⌜ r ≡ grownOf w b ⌝ }
+{
+    if (48 <= b) & (b <= 57) {
+        Word {
+            number: w.number % 4294967296 * 10 + (b % 16) as u64,
+            set: w.set % 65536 + bit_of(b) as u64,
+        }
+    } else {
+        w
+    }
+}
+
+// The sum of the letters with one byte more.
+fn added(n: u64, b: u8) -> u64
+    ensures { λ r. ⌜ r ≡ addedOf n b ⌝ }
+{
+    if 64 < b { n % 65536 + b as u64 } else { n }
+}
+
+// What is seen with one byte more. A blank begins a word.
+fn heard(s: Seen, b: u8) -> Seen
+    ensures { λ r. ⌜ r ≡ heardOf s b ⌝ }
+{
+    let fourth = s.fourth;
+    let third = s.third;
+    let second = s.second;
+    let last = s.last;
+    if b == 32 {
+        let new = Word { number: 0, set: 0 };
+        Seen {
+            letters: s.letters,
+            minus: s.minus,
+            fourth: third,
+            third: second,
+            second: last,
+            last: new,
+        }
+    } else {
+        let more = grown(last, b);
+        Seen {
+            letters: added(s.letters, b),
+            minus: (b == 45) | s.minus,
+            fourth,
+            third,
+            second,
+            last: more,
+        }
+    }
+}
+
+// Nothing is seen yet.
+fn nothing() -> Seen
+    ensures { λ r. ⌜ r ≡ unseen ⌝ }
+{
+    let new = Word { number: 0, set: 0 };
+    Seen {
+        letters: 0,
+        minus: false,
+        fourth: new,
+        third: new,
+        second: new,
+        last: new,
+    }
+}
+
+// What is seen of words.
+fn seen_in(words: &[u8]) -> Seen
+    ensures { λ r. ⌜ r ≡ hear unseen (now (words .entry)) ⌝ }
+{
+    let mut s = nothing();
+    let mut i = 0;
+    while i < words.len() {
+        s = heard(s, words[i]);
+        i += 1;
+    }
+    s
+}
+
+// A number with or without a minus, as a duration.
+fn time_of(minus: bool, n: u64) -> i32
+    ensures { λ r. ⌜ r ≡ timeOf minus n ⌝ }
+{
+    if minus {
+        !(((n % 4294967296 + 2147483647) % 2147483648) as i32)
+    } else {
+        (n % 2147483648) as i32
+    }
+}
+
+// The low byte of a number.
+fn low(n: u64) -> u8
+    ensures { λ r. ⌜ r ≡ n % 256 ⌝ }
+{
+    (n % 256) as u8
+}
+
+// A SELECT by the sum of the letters, or an ADVANCE.
+fn select_by(letters: u64, b: Word, c: Word, d: Word, time: i32) -> Call
+    ensures { λ r. ⌜ r ≡ selectBy letters b c d time ⌝ }
+{
+    match letters {
+        448 => Call::Select {
+            open: low(d.set),
+            mode: SelectMode::Plain,
+        },
+        880 => Call::Select {
+            open: low(d.set),
+            mode: SelectMode::Plain,
+        },
+        975 => Call::Select {
+            open: low(b.set),
+            mode: SelectMode::Delay(time),
+        },
+        1407 => Call::Select {
+            open: low(b.set),
+            mode: SelectMode::Delay(time),
+        },
+        873 => Call::Select {
+            open: low(c.set),
+            mode: SelectMode::Else,
+        },
+        1305 => Call::Select {
+            open: low(c.set),
+            mode: SelectMode::Else,
+        },
+        _ => Call::Advance((d.number % 4294967296) as u32),
+    }
+}
+
+// The call that the sum of the letters stands for, with the four last words a, b, c, d. Each form of a call has a sum of its own.
+fn call_by(letters: u64, a: Word, b: Word, c: Word, d: Word, time: i32) -> Call
+    ensures { λ r. ⌜ r ≡ callBy letters a b c d time ⌝ }
+{
+    match letters {
+        436 => Call::Create {
+            priority: low(c.number),
+            entries: low(d.number),
+        },
+        367 => Call::Delay(time),
+        284 => Call::Call {
+            target: low(c.number),
+            entry: low(d.number),
+            mode: CallMode::Simple,
+        },
+        815 => Call::Call {
+            target: low(a.number),
+            entry: low(b.number),
+            mode: CallMode::Timed(time),
+        },
+        1456 => Call::Call {
+            target: low(b.number),
+            entry: low(c.number),
+            mode: CallMode::Conditional,
+        },
+        215 => Call::End,
+        449 => Call::Finish,
+        299 => Call::Tick,
+        _ => select_by(letters, b, c, d, time),
+    }
+}
+
+// The call that words look like.
+pub fn guess_at(words: &[u8]) -> Call
+    ensures { λ r. ⌜ r ≡ guessOf (now (words .entry)) ⌝ }
+{
+    let s = seen_in(words);
+    let a = s.fourth;
+    let b = s.third;
+    let c = s.second;
+    let d = s.last;
+    call_by(s.letters, a, b, c, d, time_of(s.minus, d.number))
+}
