@@ -39,6 +39,10 @@ pub fn finish(s: Supervisor, room: &mut [u8]) -> Taken
         return refused_by(s, STILL_SERVING);
     }
     let l = queued_on(s, t);
+    if lines::first_of(l) == 0 {
+        let m = moved(s, t, Place::Completed, Timer::Off);
+        return answered(m, t, DONE, 0, 0, 0);
+    }
     let w = wake_all(s, l, true, room);
     let n = w.state;
     let m = moved(n, t, Place::Completed, Timer::Off);

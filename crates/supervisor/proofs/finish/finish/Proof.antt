@@ -1,22 +1,30 @@
 use borrow.Author.Needs.{needs}
+use Prim.Native.Nat.{ℕ}
+use mathlib.Core.Bool.{true}
+use mathlib.Core.List.{List, []}
 use mathlib.Core.Path.{_≡_, refl, sym, _∙_, ap, subst}
 use lib.ListN.{length}
 use Rattle.calls.specs.declared.Call.the-variants.{Finish}
 use Rattle.lists.specs.Line.{line}
 use Rattle.rules.specs.State.{wakeAll, move, heldBy}
-use Rattle.rules.specs.Step.{queuedOn, failed, takeCall}
+use Rattle.rules.specs.Step.{queuedOn, failed, takeCall, item, DONE, roomAfter}
 use Rattle.rules.specs.Step as rules
 use Rattle.rules.specs.Whole.{view}
 use Rattle.rules.specs.declared.Place.the-variants.{Completed}
 use Rattle.rules.specs.declared.Timer.the-variants.{Off}
 use Rattle.rules.proofs.Members.{Runs}
 use Rattle.table.specs.declared.queues.Test.the-variants.{HeldBy}
-use Rattle.supervisor.specs.Taken.{EachOnce}
+use Rattle.supervisor.specs.Taken.{EachOnce, WokenAs, takenOf, endedBy}
+use Rattle.supervisor.specs.declared.answers.Taken.{Taken}
+use Rattle.rules.specs.declared.Supervisor.{Supervisor}
+use Rattle.table.specs.Moved.{movedOf}
+use Rattle.lists.proofs.Turns.{rest-blank}
+use Rattle.supervisor.proofs.WakeLaws.{woken-none}
 use Rattle.supervisor.proofs.MoveLaws.{picked-line, long-held}
 use Rattle.supervisor.proofs.AnswerLaws.{by-both, runner, many-answers, room-of}
 use Rattle.supervisor.proofs.FinishLaws.{finish-idle, finish-runs, finish-holds, finish-goes, queued-all, queued-each, queued-line, woken-completed}
 use Rattle.supervisor.proofs.RoomLaws.{in-room}
-use Rattle.lists.proofs.LineLaws.{length-pad}
+use Rattle.lists.proofs.LineLaws.{length-pad, first-at}
 use Rattle.supervisor.proofs.finish.finish.Statement.{statement}
 use Rattle.supervisor.proofs.finish.finish.Tie as tie
 
@@ -48,30 +56,54 @@ returns-2 c =
     let s = c .before .before .before .before .before .before .before .before .args .s in
     by-both s _ _ (finish-here e1 ∙ finish-holds (view s) (e1 .before .running .result) _ (held-here h) (c .before .if2 .taken)) (c .refused-by2 .ensures) refl
 
-wake-all-requires : tie.Need-wake-all-requires
-wake-all-requires c κs =
-    let q = c .before in
-    let v = view (c .before .before .before .before .before .before .before .before .before .args .s) in
-    (c .before .before .before .before .before .before .before .before .before .pre .0, in-room (q .queued-on .result) _ (ap length (q .queued-on .ensures) ∙ length-pad _) (c .before .before .before .before .before .before .before .before .before .pre .1), subst (EachOnce v) (sym (queued-here q)) (queued-each v (c .before .before .before .before .before .before .before .running .result) (c .before .before .before .before .before .before .before .before .before .pre .0 .sound)))
-
-returns-3 : tie.Need-returns-3
-returns-3 c =
-    let q = c .before .before .before .before .before .before .before in
-    let e2 = c .before .before .before .before .before .before .before .before in
-    let e1 = c .before .before .before .before .before .before .before .before .before .before .before .before in
-    let s = c .before .before .before .before .before .before .before .before .before .before .before .before .before .before .before .args .s in
+-- what FINISH gives, from what waking and the move gave
+finished : (c : tie.After-queued-on) →
+    let k = c .before .before .before .before .before .before .before .before in
+    let s = k .args .s in
+    let t = c .before .before .before .before .before .before .running .result in
+    (n m : Supervisor) (count : ℕ) (after : List ℕ) (r : Taken) → WokenAs (view s) true (line (c .queued-on .result)) n count (k .args .room .now) after → m ≡ movedOf n t Completed Off
+    → r ≡ record { state = m; refusal = 0; answer = item t DONE 0 0; ended = count }
+    → (r ≡ takenOf s (takeCall (view s) Finish)) × (after ≡ roomAfter (k .args .room .now) (endedBy (takeCall (view s) Finish)))
+finished c n m count after r w em er =
+    let k = c .before .before .before .before .before .before .before .before in
+    let e2 = c .before in
+    let e1 = e2 .before .before .before .before in
+    let s = k .args .s in
     let v = view s in
     let t = e1 .before .running .result in
-    let l = line (q .queued-on .result) in
-    let w = c .before .before .before .before .before .wake-all in
+    let l = line (c .queued-on .result) in
     by-both s _ _ (finish-here e1 ∙ finish-goes v t _ (held-here (e2 .before)) (e2 .if2 .left))
-    (many-answers s _ (move (wakeAll v (queuedOn v t)) t Completed Off) _ (failed v) l (queuedOn v t) _ (c .answered .ensures)
-    (woken-completed v (w .result .state) (c .before .moved .result) l (queuedOn v t) t (c .before .before .before .before .before .before .before .before .before .before .before .before .before .before .before .pre .0 .sound) (queued-all v t) (queued-here q) (runs-here e1 .high) (w .ensures .state) (c .before .moved .ensures)) (w .ensures .number) (queued-here q))
-    (room-of _ _ (failed v) l (queuedOn v t) (w .ensures .written) (queued-here q))
+    (many-answers s _ (move (wakeAll v (queuedOn v t)) t Completed Off) _ (failed v) l (queuedOn v t) _ er
+    (woken-completed v n m l (queuedOn v t) t (k .pre .0 .sound) (queued-all v t) (queued-here c) (runs-here e1 .high) (w .state) em) (w .number) (queued-here c))
+    (room-of _ _ (failed v) l (queuedOn v t) (w .written) (queued-here c))
+
+-- nobody is queued on t
+returns-3 : tie.Need-returns-3
+returns-3 c =
+    let f = c .before .before .before in
+    let q = f .before in
+    let k = q .before .before .before .before .before .before .before .before in
+    let s = k .args .s in
+    let l = q .queued-on .result in
+    let z : line l ≡ [] = rest-blank l 0 (search needs) (first-at l ∙ sym (f .first-of .ensures) ∙ c .before .before .if3 .taken) in
+    finished q s (c .before .moved .result) 0 _ _ (woken-none (view s) s true (line l) _ (k .pre .0 .packs) z) (c .before .moved .ensures) (c .answered .ensures)
+
+wake-all-requires : tie.Need-wake-all-requires
+wake-all-requires c κs =
+    let q = c .before .before .before in
+    let k = q .before .before .before .before .before .before .before .before in
+    let v = view (k .args .s) in
+    let t = q .before .before .before .before .before .before .running .result in
+    (k .pre .0, in-room (q .queued-on .result) _ (ap length (q .queued-on .ensures) ∙ length-pad _) (k .pre .1), subst (EachOnce v) (sym (queued-here q)) (queued-each v t (k .pre .0 .sound)))
+
+returns-4 : tie.Need-returns-4
+returns-4 c =
+    let w = c .before .before .before .before .before in
+    finished (w .before .before .before .before) (w .wake-all .result .state) (c .before .moved2 .result) _ _ _ (w .wake-all .ensures) (c .before .moved2 .ensures) (c .answered2 .ensures)
 
 pub finish-spec : {M : Type 1} → statement M
 finish-spec =
     tie.close
     (tie.spec (λ c κs. search needs) (λ c κs. search needs) returns (λ c κs. search needs) (λ c κs. search needs)
-    (λ c κs. search needs) returns-2 (λ c κs. search needs) wake-all-requires (λ c κs. search needs)
-    (λ c κs. search needs) (λ c. search needs) returns-3)
+    (λ c κs. search needs) returns-2 (λ c κs. search needs) (λ c κs. search needs) (λ c κs. search needs) (λ c κs. search needs) returns-3
+    wake-all-requires (λ c κs. search needs) (λ c κs. search needs) (λ c. search needs) returns-4)
