@@ -77,10 +77,11 @@ exec "{self.clang}" "$@"
         if not (work / "words").exists():
             stop(f"{main} was not compiled\n{said.stdout}{said.stderr}")
 
-    def compiled(self, work, functions, out, form="-c"):
+    def compiled(self, work, functions, out, form="-c", native=False):
         """Compiles the module that is kept as the kit does, but so that the functions can be called from outside.
 
-        Its `main` is called `program`, which makes room for another. The form is -c for an object, -S for text.
+        Its `main` is called `program`, which makes room for another. The form is -c for an object, -S for text. The code is for x86-64, as
+        all that the kit builds; native, it is for the processor that this runs on.
         """
         words = (work / "words").read_text().split()
         target = [word for word in words if word.startswith("--target=")]
@@ -92,6 +93,10 @@ exec "{self.clang}" "$@"
             ir, times = re.subn(rf'^define internal (.*@"{re.escape(name)}"\()', r"define \1", ir, flags=re.M)
             if not times:
                 stop(f"the program has no function {name}")
+        if native and platform.machine() != "x86_64":
+            ir = ir.replace('"target-cpu"="x86-64"', "")
+            words = [word for word in words if word not in (*target, "-march=x86-64")]
+            words += [f"--target={platform.machine()}-unknown-linux-gnu", "-Wno-override-module"]
         text.write_text(ir)
         ours = {"module.bc": text, "module.o": out, "-c": form}
         run(self.clang, *(ours.get(word, word) for word in words))

@@ -1,6 +1,6 @@
-"""own_form.py OBJECT: compiles functions of the supervisor on its own struct, for tests/reference/own.rs to call.
+"""own_form.py OBJECT: compiles functions of the supervisor and of the library, for tests/reference/own.rs to call.
 
-They are compiled as the kit compiles a program, but kept as functions of their own: see module.py.
+They are compiled as the kit compiles a program, but kept as functions of their own and for the processor that this runs on: see module.py.
 """
 import os
 import sys
@@ -16,6 +16,7 @@ FUNCTIONS = [
     "calls::reader::read_record",
     "card::codec::state_in",
     "card::codec::store",
+    "card::card_step",
 ]
 
 # a program that uses the library, so that the compiler gets all of it
@@ -41,7 +42,7 @@ def main():
         program = work / "main.rt"
         program.write_text(PROGRAM)
         kit.module(program, ["card"], work)
-        kit.compiled(work, FUNCTIONS, out)
+        kit.compiled(work, FUNCTIONS, out, native=True)
 
 
 main()

@@ -19,6 +19,11 @@ def public_functions(crate, modules=()):
         yield from public_functions(crate, (*modules, module))
 
 
+def without_answer(trust):
+    """The functions that TRUST lists because no contract determines their answer."""
+    return {name for row in re.findall(r"(?m)^\|([^|]*)\|", trust) for name in re.findall(r"`(\w+(?:::\w+)+)`", row)}
+
+
 def theorem(crate, function):
     """The name of the theorem about the function's contract, or None."""
     file = Path("crates") / crate / "proofs/Unique.antt"
@@ -34,7 +39,7 @@ def theorem(crate, function):
 
 def main():
     trust, statements = (Path(doc).read_text() for doc in sys.argv[1:3])
-    listed = {name for row in re.findall(r"(?m)^\|([^|]*)\|", trust) for name in re.findall(r"`(\w+(?:::\w+)+)`", row)}
+    listed = without_answer(trust)
     rows = re.findall(r"(?m)^\|(.*)\| `(\w+)/proofs/Unique\.antt` \|", statements)
     cited = {(crate, name) for row, crate in rows for name in re.findall(r"`(\S+-once)`", row)}
     wrong, public = [], set()
@@ -55,4 +60,5 @@ def main():
     sys.exit(1 if wrong or not public else 0)
 
 
-main()
+if __name__ == "__main__":
+    main()

@@ -7,7 +7,6 @@
 #![allow(dead_code)]
 
 mod calls;
-mod card;
 mod flat;
 mod numbers;
 mod own;
@@ -79,7 +78,7 @@ fn byte_step(scene: &Scene) -> Costs {
     let (bytes, record) = (bytes_of(&scene.state), calls::record(&scene.call));
     let mut room = [0; ROOM];
     let ours = fastest(&bytes, |state| {
-        black_box(card::step(state, &record, &mut room));
+        black_box(own::byte_step(state, &record, &mut room));
     });
     let reference = fastest(&bytes, |state| {
         black_box(step_over_bytes(state, &record, &mut room));
@@ -127,7 +126,7 @@ fn agree(scene: &Scene) {
     let wanted = ([a.refusal, a.result, a.task, a.entry, a.partner, a.ended, a.next], bytes_of(&after), room);
 
     let (mut left, mut room) = (bytes, [0; ROOM]);
-    let answer = card::step(&mut left, &record, &mut room);
+    let answer = own::byte_step(&mut left, &record, &mut room);
     assert_eq!((answer, left, room), wanted, "{}", scene.name);
 
     let (state, mut room, mut stepped) = (own::state(&bytes), [0; ROOM], own::none());
@@ -141,7 +140,7 @@ fn repeat(name: &str, tasks: usize) -> Option<()> {
     let scene = scenes::scenes(tasks).into_iter().find(|scene| scene.name == name)?;
     let (bytes, record) = (bytes_of(&scene.state), calls::record(&scene.call));
     for _ in 0..2_000_000 {
-        black_box(card::step(&mut bytes.clone(), &record, &mut [0; ROOM]));
+        black_box(own::byte_step(&mut bytes.clone(), &record, &mut [0; ROOM]));
     }
     Some(())
 }

@@ -1,4 +1,5 @@
-//! The supervisor's functions on its own struct, as tests/own_form.py compiles them: no bytes in between.
+//! The supervisor's functions on its own struct, no bytes in between, and the library's `card_step`, as tests/own_form.py
+//! compiles them.
 //!
 //! A state is made of bytes by the library's own `state_in` and read back by its `store`. So little is assumed of the
 //! form: a struct goes by a pointer, as a result too; a slice is a pointer to a pointer and a number of bytes; the call
@@ -23,6 +24,8 @@ extern "C" {
     fn state_in(state: *mut Form, bytes: *const Slice);
     #[link_name = "card::codec::store"]
     fn store(state: *const Form, bytes: *const Slice);
+    #[link_name = "card::card_step"]
+    fn card_step(state: *const Slice, record: *const Slice, room: *const Slice, answer: *const Slice) -> u8;
     #[link_name = "calls::reader::read_record"]
     fn read_record(read: *mut Form, record: *const Slice);
     #[link_name = "supervisor::step"]
@@ -78,4 +81,14 @@ pub fn sound(state: &Form) -> bool {
 pub fn running(state: &Form) -> u8 {
     // SAFETY: the function reads a state.
     unsafe { dispatched(state) }
+}
+
+/// A step from bytes to bytes, as a program in C or Ada has it made: the seven numbers of the answer.
+pub fn byte_step(state: &mut [u8; STATE], record: &[u8], room: &mut [u8]) -> [u8; 7] {
+    let mut answer = [0; 7];
+    let (state, record) = (Slice(state.as_mut_ptr(), state.len()), Slice(record.as_ptr(), record.len()));
+    let (room, lent) = (Slice(room.as_mut_ptr(), room.len()), Slice(answer.as_mut_ptr(), answer.len()));
+    // SAFETY: the function reads and writes the bytes that are lent to it, and no others; the four do not overlap.
+    unsafe { card_step(&state, &record, &room, &lent) };
+    answer
 }

@@ -1,0 +1,148 @@
+"""wrong_answers.py texts | table [--write] DOC | logs [CRATE..]: the wrong answers of crates/*/must-fail/*.edit.
+
+An edit replaces one or more texts of its crate, each by a wrong one; the comment above each names the wrong answer.
+  texts   each replaced text stands once in its file, in the body of a function or in a definition, and has its comment; an edit changes a
+          function once; and every public function whose contract determines its answer has two wrong answers of its own
+  table   the table of DOC between its two marks lists them all (--write puts it there)
+  logs    in what the prover said of the edits (of the named crates), each changed function was refused by itself, at a fact, and each
+          changed definition by a theorem about it
+"""
+import re
+import sys
+from collections import namedtuple
+from pathlib import Path
+
+from unique_names import public_functions, without_answer
+
+Wrong = namedtuple("Wrong", "edit crate file says old where")
+BEGIN, END = "<!-- wrong answers: made by tests/wrong_answers.py -->", "<!-- end of the wrong answers -->"
+FUNCTION = re.compile(r'^\s*(?:#\[no_mangle\] )?(?:pub(?:\(crate\))? )?(?:extern "C" )?fn (\w+)')
+CLAUSE = re.compile(r"^\s*(?:requires|ensures|ghost)\b")
+# what the prover says of two sides that are not equal, or of a goal that does not follow
+FACT = re.compile(r"first differ|differ only|the two types|does not follow|no proof of|what it leaves must be")
+
+
+def crates():
+    """The listed crates, lower layers first."""
+    return re.findall(r"(?m)^(\w+):", Path("crates.txt").read_text())
+
+
+def function_of(file, text, at):
+    """The path of the function in whose body the text stands at that place, or None."""
+    lines = text[: text.index("\n", at)].splitlines()
+    if CLAUSE.match(lines[-1]):
+        return None
+    names = [found.group(1) for found in map(FUNCTION.match, lines) if found]
+    modules = file.removesuffix(".rt").split("/")[1:]
+    return "::".join((modules if modules not in (["lib"], ["main"]) else []) + names[-1:]) if names else None
+
+
+def replacements(edit):
+    """The wrong answers of an edit, and what is amiss with it."""
+    crate, file, says, texts, found, amiss = edit.parts[1], None, None, {}, [], []
+    for line in edit.read_text().splitlines():
+        if line.startswith("#"):
+            says = line[1:].strip()
+        elif line.startswith("file: "):
+            file = line[6:]
+            texts.setdefault(file, (Path("crates") / crate / file).read_text())
+        elif line.startswith("old: "):
+            old, text = line[5:], texts[file]
+            if text.count(old) != 1:
+                amiss.append(f"{edit}: its text stands {text.count(old)} times in {file}: {old.strip()}")
+            where = function_of(file, text, text.find(old)) if file.startswith("src/") else file
+            found.append(Wrong(edit, crate, file, says, old, where))
+            if not says:
+                amiss.append(f"{edit}: no comment above: {old.strip()}")
+            if not where:
+                amiss.append(f"{edit}: in no function's body: {old.strip()}")
+            says = None
+        elif line.startswith("new:"):
+            texts[file] = texts[file].replace(old, line[4:].removeprefix(" "), 1)
+    places = [w.where for w in found if w.file.startswith("src/")]
+    amiss += [f"{edit}: changes {place} twice" for place in sorted(set(places)) if places.count(place) > 1]
+    return found, amiss
+
+
+def all_wrong():
+    """All wrong answers, by crate and edit, and what is amiss with the edits."""
+    found, amiss = [], []
+    for crate in crates():
+        for edit in sorted((Path("crates") / crate / "must-fail").glob("*.edit")):
+            more, wrong = replacements(edit)
+            found += more
+            amiss += wrong
+    return found, amiss
+
+
+def texts():
+    found, amiss = all_wrong()
+    unbound = without_answer(Path("docs/TRUST.md").read_text())
+    for crate in crates():
+        if not (Path("crates") / crate / "src/lib.rt").exists():
+            continue
+        for function in ("::".join(f) for f in public_functions(crate)):
+            own = [w for w in found if (w.crate, w.where) == (crate, function)]
+            if f"{crate}::{function}" not in unbound and len(own) < 2:
+                amiss.append(f"{crate}::{function}: {len(own)} wrong answers in crates/{crate}/must-fail, not two")
+    return amiss, f"{len(found)} wrong answers in {len({w.edit for w in found})} edits"
+
+
+def rows():
+    """The table: a row for each function, and for each file of definitions."""
+    found, _ = all_wrong()
+    places = list(dict.fromkeys((w.crate, w.where) for w in found))
+    yield "| function, or file of definitions | wrong answers | refused edits |"
+    yield "|---|---|---|"
+    for crate, where in places:
+        own = [w for w in found if (w.crate, w.where) == (crate, where)]
+        name = f"{crate}/{where}" if "/" in where else f"{crate}::{where}"
+        edits = " ".join(dict.fromkeys(f"`{crate}/must-fail/{w.edit.name}`" for w in own))
+        yield f"| `{name}` | {'; '.join(w.says for w in own)} | {edits} |"
+
+
+def table(words):
+    doc = Path(words[-1])
+    text = doc.read_text()
+    head, rest = text.split(BEGIN)
+    made = "\n".join([BEGIN, "", *rows(), "", END])
+    new = head + made + rest.split(END)[1]
+    if "--write" in words:
+        doc.write_text(new)
+    return [] if text == new or "--write" in words else [f"{doc}: not the wrong answers of the edits: run tests/wrong_answers.py table --write {doc}"], ""
+
+
+def refused(log, wrong):
+    """What was changed was refused at a fact: a function by its own proof, or by the search that stands in for one."""
+    proof = r"\S*"
+    if wrong.file.startswith("src/"):
+        if re.search(rf"(?m)^fn {wrong.crate}::{wrong.where}: no proof: .*`search` does not close", log):
+            return True
+        proof = "proofs/" + wrong.where.replace("::", "/") + "/Proof.antt"
+    said = re.findall(rf"(?m)^\S*/{proof}:\d+:\d+: error: (.*(?:\n  .*)*)", log)
+    return any(FACT.search(one) for one in said)
+
+
+def logs(words):
+    found = [wrong for wrong in all_wrong()[0] if not words or wrong.crate in words]
+    amiss = []
+    for wrong in found:
+        log = Path("target/must-fail") / wrong.crate / wrong.edit.stem / ".log"
+        if not log.exists():
+            amiss.append(f"{wrong.edit}: no log {log}")
+        elif not refused(log.read_text(), wrong):
+            amiss.append(f"{wrong.edit}: {wrong.crate}: {wrong.where} was not refused by itself at a fact")
+    return amiss, f"{len(found)} wrong answers, each refused by itself at a fact"
+
+
+def main():
+    verbs = {"texts": lambda words: texts(), "logs": logs, "table": table}
+    if len(sys.argv) < 2 or sys.argv[1] not in verbs:
+        sys.exit(__doc__)
+    amiss, well = verbs[sys.argv[1]](sys.argv[2:])
+    print("\n".join(amiss) or well)
+    sys.exit(1 if amiss else 0)
+
+
+if __name__ == "__main__":
+    main()
