@@ -27,12 +27,12 @@ pub fn joined(a: [u8; 31], t: u8) -> [u8; 31]
 {
     let mut r = [0u8; 31];
     for i in 0..31 {
-        let x = a[i];
-        if x == 0 {
+        let u = a[i];
+        if u == 0 {
             r[i] = t;
             return r;
         }
-        r[i] = x;
+        r[i] = u;
     }
     r
 }
@@ -44,12 +44,12 @@ pub fn without(a: [u8; 31], t: u8) -> [u8; 31]
     let mut r = [0u8; 31];
     let mut j: usize = 0;
     for i in 0..31 {
-        let x = a[i];
-        if x == 0 {
+        let y = a[i];
+        if y == 0 {
             return r;
         }
-        if x != t {
-            r[j] = x;
+        if y != t {
+            r[j] = y;
             j += 1;
         }
     }
