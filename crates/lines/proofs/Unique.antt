@@ -3,7 +3,6 @@
 use mathlib.Core.Path.{sym, _∙_}
 use Rattle.lists.specs.Once.{Once}
 use Rattle.lines.proofs.len.Reads as len
-use Rattle.lines.proofs.put_at.Reads as put-at
 use Rattle.lines.proofs.joined.Reads as joined
 use Rattle.lines.proofs.without.Reads as without
 use Rattle.lines.proofs.rejoined.Reads as rejoined
@@ -12,12 +11,10 @@ use Rattle.lines.proofs.first_of.Reads as first-of
 use Rattle.lines.proofs.last_of.Reads as last-of
 use Rattle.lines.proofs.marks_of.Reads as marks-of
 use Rattle.lines.proofs.picked.Reads as picked
+use Rattle.lines.proofs.put_by.Reads as put-by
 
 pub len-once : Once len.Post
 len-once κs x r r′ y y′ p q = p ∙ sym q
-
-pub put-at-once : Once put-at.Post
-put-at-once κs x r r′ y y′ p q = p ∙ sym q
 
 pub joined-once : Once joined.Post
 joined-once κs x r r′ y y′ p q = p ∙ sym q
@@ -42,3 +39,6 @@ marks-of-once κs x r r′ y y′ p q = p ∙ sym q
 
 pub picked-once : Once picked.Post
 picked-once κs x r r′ y y′ p q = p ∙ sym q
+
+pub put-by-once : Once put-by.Post
+put-by-once κs x r r′ y y′ p q = p ∙ sym q

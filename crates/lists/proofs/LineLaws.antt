@@ -4,13 +4,13 @@ use Prim.Native.Nat.{ℕ, zero, suc, _-_, _≤_, _<_, suc-le-suc, zero-le}
 use native.Mathlib.Nat.{le-of-suc-le-suc, not-suc-le-zero, le-refl, suc-inj, suc-ne-zero}
 use native.Mathlib.Omega.{arith}
 use mathlib.Core.Path.{_≡_, refl, sym, ap, _∙_}
-use mathlib.Core.Bool.{Bool, true, false, not}
+use mathlib.Core.Bool.{Bool, true, not}
 use mathlib.Core.List.{List, [], _∷_, _++_, nil≢cons, tail-eq-of-cons-eq}
 use lib.Dec.{eqb}
 use lib.ListN.{length, take, getD}
 use borrow.Author.Tests.{eqb-true}
-use Rattle.lists.specs.Lists.{if_then_else_, filter, remove, insert, first, last}
-use Rattle.lists.specs.Line.{line, padTo, pad, insertAt, slotOf, blanks, tidy}
+use Rattle.lists.specs.Lists.{filter, remove, first, last}
+use Rattle.lists.specs.Line.{line, padTo, pad, blanks, tidy}
 use Rattle.lists.proofs.ListLaws.{by-bool}
 use Rattle.lists.proofs.Tests.{and-first, and-second}
 
@@ -18,12 +18,6 @@ use Rattle.lists.proofs.Tests.{and-first, and-second}
 pub length-filter : (p : ℕ → Bool) (xs : List ℕ) → length (filter p xs) ≤ length xs
 length-filter p [] = le-refl 0
 length-filter p (x ∷ xs) = let ih = length-filter p xs in by-bool (p x) (λ e. simp e (omega arith)) (λ e. simp e (omega arith))
-
--- a place beyond the end is the end
-pub insertAt-end : (i t : ℕ) (xs : List ℕ) → length xs ≤ i → insertAt i t xs ≡ xs ++ (t ∷ [])
-insertAt-end i t [] h = refl
-insertAt-end zero t (x ∷ xs) h = absurd (not-suc-le-zero h)
-insertAt-end (suc i) t (x ∷ xs) h = ap (λ (r : List ℕ). x ∷ r) (insertAt-end i t xs (le-of-suc-le-suc h))
 
 -- a line has no blanks
 pub line-line : (xs : List ℕ) → line (line xs) ≡ line xs
@@ -155,16 +149,6 @@ padTo-tidy (suc n) (suc x ∷ xs) h = padTo-tidy n xs (tail-eq-of-cons-eq h)
 pub pad-tidy : (xs : List ℕ) → line xs ≡ xs → tidy (pad xs) ≡ true
 unfolding pad
 pad-tidy xs h = padTo-tidy 31 xs h
-
--- insertion before the first that passes is insertion at its place
-pub insert-slot : (f : ℕ → Bool) (t : ℕ) (l : List ℕ) → insert f t l ≡ insertAt (slotOf f l) t l
-insert-slot f t [] = refl
-insert-slot f t (x ∷ xs) = go (f x) (insert-slot f t xs)
-  where
-    go : (b : Bool) → insert f t xs ≡ insertAt (slotOf f xs) t xs
-        → (if b then t ∷ x ∷ xs else x ∷ insert f t xs) ≡ insertAt (if b then 0 else suc (slotOf f xs)) t (x ∷ xs)
-    go true ih = refl
-    go false ih = ap (λ (r : List ℕ). x ∷ r) ih
 
 -- the first of a line stands at place 0
 pub first-at : (a : List ℕ) → getD a 0 0 ≡ first (line a)

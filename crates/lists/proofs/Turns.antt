@@ -5,12 +5,13 @@ use native.Mathlib.Numerals.{add-one}
 use native.Mathlib.Nat.{le-of-suc-le-suc, not-suc-le-zero}
 use native.Mathlib.Omega.{arith}
 use mathlib.Core.Path.{_≡_, refl, sym, ap, _∙_, subst}
-use mathlib.Core.Bool.{Bool, true, false}
+use mathlib.Core.Bool.{Bool, true, false, _||_}
 use mathlib.Core.List.{List, [], _∷_, _++_, append-nil}
 use lib.ListN.{length, replicate, take, drop, getD, set, drop-of-length-le}
 use lib.Seq.{drop-cons, take-suc-set, take-all, length-take-le, append-snoc}
-use Rattle.lists.specs.Lists.{filter}
-use Rattle.lists.specs.Line.{line, pad, padTo, insertAt, slotOf}
+use Rattle.lists.specs.Lists.{filter, insert}
+use Rattle.lists.specs.Line.{line, pad, padTo}
+use Rattle.lists.proofs.ListLaws.{clash}
 use Rattle.lists.proofs.LineLaws.{take-pad, length-padTo, padTo-full}
 
 -- ---- reading: the entries from place i on
@@ -79,13 +80,6 @@ filled-up r j ys h e =
     let l = length-filled r j e in
     ap (λ (s : List ℕ). pad (s ++ ys)) (take-all j r (omega arith)) ∙ padTo-full 31 r ys l
 
--- ---- insertion at the front
-
--- place 0 is the front
-pub insert-front : (x : ℕ) (xs : List ℕ) → insertAt 0 x xs ≡ x ∷ xs
-insert-front x [] = refl
-insert-front x (y ∷ ys) = refl
-
 -- ---- an array that another function laid out
 
 -- its front is what was laid out
@@ -104,10 +98,19 @@ pick-on p r j x xs ys l e q h = simp (q, h, fill-front r j x (filter p ys) l e)
 pub pick-off : (p : ℕ → Bool) (x : ℕ) (xs ys zs : List ℕ) → xs ≡ x ∷ ys → p x ≡ false → pad (zs ++ filter p xs) ≡ pad (zs ++ filter p ys)
 pick-off p x xs ys zs q h = simp (q, h)
 
--- the place of the first that passes
-pub slot-hit : (f : ℕ → Bool) (x : ℕ) (xs ys : List ℕ) → xs ≡ x ∷ ys → f x ≡ true → slotOf f xs ≡ 0
-slot-hit f x xs ys q h = simp (q, h)
+-- ---- insertion before the first that passes the test, or at once where one before has passed
 
--- the place is further on
-pub slot-on : (f : ℕ → Bool) (x : ℕ) (xs ys : List ℕ) → xs ≡ x ∷ ys → f x ≡ false → slotOf f xs ≡ suc (slotOf f ys)
-slot-on f x xs ys q h = simp (q, h)
+-- one has passed: at the front
+insert-front : (f : ℕ → Bool) (t : ℕ) (xs : List ℕ) → insert (λ x. true || f x) t xs ≡ t ∷ xs
+insert-front f t [] = refl
+insert-front f t (x ∷ xs) = refl
+
+module _ (f : ℕ → Bool) (r : List ℕ) (i t x : ℕ) (xs ys : List ℕ) (room : i < 31) (laid : r ≡ pad (take i r)) (q : xs ≡ x ∷ ys) where
+  -- one turn of insertion where x or one before it passes: t takes its place, and x goes in behind
+  pub insert-here : (b n : Bool) → n ≡ (b || f x) → n ≡ true → pad (take i r ++ insert (λ y. b || f y) t xs) ≡ pad (take (i + 1) (set r i t) ++ insert (λ y. n || f y) x ys)
+  insert-here b n e h = rw (q, sym e ∙ h, h, insert-front f x ys, fill-front r i t (x ∷ ys) room laid)
+
+  -- one turn of insertion where none has passed yet: x stays, and t goes in further on
+  pub insert-on : (b n : Bool) → n ≡ (b || f x) → n ≡ false → pad (take i r ++ insert (λ y. b || f y) t xs) ≡ pad (take (i + 1) (set r i x) ++ insert (λ y. n || f y) t ys)
+  insert-on true n e h = clash e h
+  insert-on false n e h = rw (q, sym e ∙ h, h, fill-front r i x (insert f t ys) room laid)

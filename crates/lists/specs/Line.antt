@@ -5,7 +5,6 @@ use Prim.Native.Nat.{ℕ, zero, suc}
 use mathlib.Core.Bool.{Bool, true, _&&_}
 use mathlib.Core.List.{List, [], _∷_}
 use lib.Dec.{eqb}
-use Rattle.lists.specs.Lists.{if_then_else_}
 
 -- the entries before the first 0
 abbrev pub line : List ℕ → List ℕ
@@ -33,14 +32,3 @@ abbrev pub tidy : List ℕ → Bool
 tidy [] = true
 tidy (zero ∷ xs) = blanks xs
 tidy (suc n ∷ xs) = tidy xs
-
--- xs with t at place i, those from there on one place on; at the end where xs is shorter
-abbrev pub insertAt : ℕ → ℕ → List ℕ → List ℕ
-insertAt i t [] = t ∷ []
-insertAt zero t (x ∷ xs) = t ∷ x ∷ xs
-insertAt (suc i) t (x ∷ xs) = x ∷ insertAt i t xs
-
--- the place of the first that passes the test, or the end: where `insert` puts its number
-abbrev pub slotOf : (ℕ → Bool) → List ℕ → ℕ
-slotOf f [] = 0
-slotOf f (x ∷ xs) = if f x then 0 else suc (slotOf f xs)

@@ -10,12 +10,13 @@ use lib.Dec.{eqb, ltb, leb}
 use lib.ListN.{length, getD, set, take, length-map}
 use lib.Seq.{getD-take, set-out, set-getD}
 use borrow.Author.Tests.{ltb-true, ltb-false, leb-true, leb-false}
-use Rattle.lists.specs.Line.{line, pad, insertAt, slotOf}
+use Rattle.lists.specs.Line.{line, pad}
 use Rattle.lists.proofs.ListLaws.{by-bool}
 use Rattle.lists.proofs.Tests.{and-first, and-second}
-use Rattle.lists.proofs.LineLaws.{left-over, insert-slot, line-picked}
+use Rattle.lists.proofs.LineLaws.{left-over, line-picked}
+use Rattle.lists.proofs.MarkLaws.{insert-by}
 use Rattle.lists.specs.Lists.{if_then_else_, remove, rejoin}
-use Rattle.lists.specs.Marks.{noMarks, markOf, marked, withMark}
+use Rattle.lists.specs.Marks.{noMarks, markOf, marked, withMark, insertBy}
 use Rattle.rules.specs.State.{blank, nth, setNth, taskOf, isReady, isQueued, isHeld, retime, ticksLeft, placed}
 use Rattle.rules.specs.Whole.{view}
 use Rattle.rules.specs.declared.Supervisor.{Supervisor}
@@ -25,7 +26,7 @@ use Rattle.rules.specs.declared.Timer.the-variants.{Off, Due}
 use Rattle.rules.specs.declared.Place.the-variants.{Ready}
 use Rattle.rules.specs.declared.Task.{Task}
 use Rattle.rules.proofs.Members.{nth-beyond}
-use Rattle.table.specs.Moved.{withTask, movedOf, readiedOf, wokenOf}
+use Rattle.table.specs.Moved.{withTask, movedOf, readiedOf, wokenOf, leftOf}
 use Rattle.table.specs.Numbers.{isNumber, indexOf, shownOf}
 
 -- ---- the table
@@ -107,10 +108,15 @@ with-beyond s t x h = λ i. record {
   delays = s .delays;
 }
 
-module _ (a : List ℕ) (t : ℕ) (l : List ℕ) (long : length a ≡ 31) (e : l ≡ pad (remove t (line a))) where
-  pub retime-due : (now : ℕ) (ts : List Task) (d n at : ℕ) → n ≡ ticksLeft now (Due d) → at ≡ slotOf (λ x. ltb n (ticksLeft now (nth ts x .timer))) (line l)
-      → pad (insertAt at t (line l)) ≡ pad (retime now ts (Due d) t (line a))
-  retime-due now ts d n at q f = rw (f, q, left-over a t l long e) (sym (ap pad (insert-slot (λ x. ltb (ticksLeft now (Due d)) (ticksLeft now (nth ts x .timer))) t (remove t (line a)))))
+-- the delay queue with t in its place: ordered insertion by the ticks left
+pub retime-due : (s : Supervisor) (t d n : ℕ) (l keys : List ℕ) → length (s .tasks) ≡ 31 → length (s .delays) ≡ 31 → l ≡ pad (remove t (line (s .delays))) → keys ≡ marked (leftOf s) (line l) noMarks → n ≡ ticksLeft (s .clock) (Due d)
+    → pad (insertBy keys n t (line l)) ≡ pad (retime (s .clock) (view s .tasks) (Due d) t (line (s .delays)))
+retime-due s t d n l keys long k e em q =
+    rw (em, q, insert-by (leftOf s) (ticksLeft (s .clock) (Due d)) t (line l) none, left-over (s .delays) t l k e)
+  where
+    -- a number above 31 is nobody's, and has no ticks left
+    none : (x : ℕ) → 32 ≤ x → leftOf s x ≡ 0
+    none x h = ap (λ (y : Task). ticksLeft (s .clock) (y .timer)) (sym (task-out (s .tasks) (s .created) x (omega arith)))
 
 -- task t, put back into the table in another place
 pub task-put :

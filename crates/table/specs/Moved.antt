@@ -1,11 +1,11 @@
 -- What the small functions of the code answer, where the rules have no word for it.
 -- Assumes nothing.
-use Prim.Native.Nat.{ℕ, zero, suc}
-use mathlib.Core.Bool.{Bool, true, false, not, _&&_}
+use Prim.Native.Nat.{ℕ}
+use mathlib.Core.Bool.{Bool, _&&_}
 use mathlib.Core.List.{List, [], _∷_, _++_}
-use lib.Dec.{eqb, ltb}
+use lib.Dec.{eqb}
 use Rattle.lists.specs.Line.{line, pad}
-use Rattle.lists.specs.Lists.{if_then_else_, rejoin}
+use Rattle.lists.specs.Lists.{rejoin}
 use Rattle.lists.specs.Marks.{noMarks, marked, withMark}
 use Rattle.rules.specs.State.{State, setNth, taskOf, timerOf, isReady, isQueued, isHeld, ticksLeft, retime, placed, partnerOf, entryOf, meeting}
 use Rattle.rules.specs.declared.Place.the-variants.{Ready, Held}
@@ -67,9 +67,9 @@ metOf s g c e = movedOf s c (Held (meeting (view s) g e)) Off
 abbrev pub partedOf : Supervisor → ℕ → ℕ → Supervisor
 partedOf s g c = movedOf s c Ready Off
 
--- task x has more than so many ticks left
-abbrev pub later : Supervisor → ℕ → ℕ → Bool
-later s left x = ltb left (ticksLeft (s .clock) (timerOf (view s) x))
+-- the ticks that task x has left
+abbrev pub leftOf : Supervisor → ℕ → ℕ
+leftOf s x = ticksLeft (s .clock) (timerOf (view s) x)
 
 -- the tests by which queues are picked out of lines
 abbrev pub isPicked : Task → Test → Bool

@@ -1,9 +1,10 @@
 // The one way in which a task changes its place.
 ghost use mathlib.Core.Path.{_≡_};
-ghost use Rattle.lists.specs.Line.{line, pad, slotOf};
+ghost use Rattle.lists.specs.Line.{line, pad};
+ghost use Rattle.lists.specs.Marks.{noMarks, marked};
 ghost use Rattle.rules.specs.State.{retime};
 ghost use Rattle.rules.specs.Whole.{view};
-ghost use Rattle.table.specs.Moved.{movedOf, readiedOf, wokenOf, metOf, partedOf, later};
+ghost use Rattle.table.specs.Moved.{movedOf, readiedOf, wokenOf, metOf, partedOf, leftOf};
 use super::place::is_held;
 use super::place::is_queued;
 use super::place::is_ready;
@@ -18,24 +19,26 @@ use rules::Place;
 use rules::Supervisor;
 use rules::Timer;
 
-// The place of the first of the line that has more than `left` ticks left.
-fn slot(s: Supervisor, a: [u8; 31], left: u32) -> usize
-    ensures { λ r. ⌜ r ≡ slotOf (later s left) (line a) ⌝ }
+// The ticks left of each of the line, by its number.
+fn keys_of(s: Supervisor, a: [u8; 31]) -> [u32; 32]
+    ensures { λ r. ⌜ r ≡ marked (leftOf s) (line a) noMarks ⌝ }
 {
+    let mut keys = [0u32; 32];
     for i in 0..31 {
         let x = a[i];
         if x == 0 {
-            return i;
+            return keys;
         }
         let at = index_of(x);
         let k = s.tasks[at];
         let y = shown(s.created, x, k);
         let w = y.timer;
-        if left < ticks_left(s.clock, w) {
-            return i;
+        let left = ticks_left(s.clock, w);
+        if x < 32 {
+            keys[x as usize] = left;
         }
     }
-    31
+    keys
 }
 
 // The delay queue without t, and with t in its place if it has a time now.
@@ -47,8 +50,8 @@ fn retimed(s: Supervisor, t: u8, w: Timer) -> [u8; 31]
     match w {
         Timer::Off => a,
         Timer::Due(d) => {
-            let at = slot(s, a, ticks_left(s.clock, w));
-            lines::put_at(a, at, t)
+            let keys = keys_of(s, a);
+            lines::put_by(a, t, keys, ticks_left(s.clock, w))
         }
     }
 }
