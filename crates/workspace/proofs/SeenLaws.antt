@@ -4,7 +4,7 @@ use mathlib.Core.Path.{_≡_, refl, sym, _∙_, ap}
 use Prim.Native.Nat.{ℕ, zero, suc, _+_, _-_, _<_, _≤_}
 use native.Mathlib.Nat.{not-suc-le-zero, le-of-suc-le-suc}
 use native.Mathlib.Omega.{arith}
-use mathlib.Core.Bool.{Bool, true, false}
+use mathlib.Core.Bool.{Bool, true, false, _&&_, _||_}
 use mathlib.Core.List.{List, [], _∷_, _++_}
 use lib.ListN.{length, getD, set, take, drop, replicate}
 use lib.Dec.{ltb}
@@ -14,7 +14,7 @@ use Rattle.workspace.specs.declared.Table.{Table}
 use Rattle.workspace.specs.Rules.{if_then_else_, every, none, isNone}
 use Rattle.workspace.specs.Operations.{tableAfter}
 use Rattle.workspace.specs.Places.{over}
-use Rattle.workspace.specs.Seen.{tableOf, placeAfter, laid}
+use Rattle.workspace.specs.Seen.{tableOf, noteOf, placeAfter, laid}
 use Rattle.workspace.proofs.Basics.{cases}
 use Rattle.workspace.proofs.PlaceLaws.{over-nil, over-length, over-next, over-all, over-same, over-own}
 use Rattle.workspace.proofs.Padded.{pad, pad-nil, none-over, all-unused}
@@ -103,3 +103,12 @@ lay-over (suc k) (suc m) (x ∷ xs) h n = ap (λ (l : List Stretch). x ∷ l) (l
 pub laid-list : (l table : List Stretch) → length l ≤ 32 → length l ≤ length table → laid (record { places = pad 32 l; clear = true }) table ≡ tableAfter table l
 unfolding laid
 laid-list l table h n = lay-over 32 (length table) l h n
+
+-- ── one place, read and written: an equation for each call's result ──
+
+pub note-law : (t : Table) (i : ℕ) (x : Stretch) {places : List Stretch} {unused : Bool} → places ≡ set (t .places) i x → unused ≡ isNone x
+    → _≡_ {A = Table} (record { places = places; clear = t .clear && (ltb i 32 || unused) }) (noteOf t i x)
+note-law t i x {places = places} ep eu = λ j. record { places = ep j; clear = t .clear && (ltb i 32 || eu j) }
+
+pub after-law : (t : Table) (i : ℕ) (x : Stretch) {noted rest r : Stretch} → noted ≡ getD (t .places) i none → rest ≡ (if t .clear then none else x) → r ≡ (if ltb i 32 then noted else rest) → r ≡ placeAfter t i x
+after-law t i x en es er = er ∙ (λ j. if ltb i 32 then en j else es j)

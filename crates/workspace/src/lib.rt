@@ -86,10 +86,10 @@ pub fn fresh(blocks: &mut [Stretch], free: &mut [Stretch]) -> Answer
         × (now (blocks .exit) ≡ blocksAfter (now (blocks .entry)) (freshOf (now (blocks .entry)) (now (free .entry))))
         × (now (free .exit) ≡ freeAfter (now (free .entry)) (freshOf (now (blocks .entry)) (now (free .entry)))) ⌝ }
 {
-    let seen = look_at(blocks, free, 0);
-    let done = made(seen);
-    write_back(blocks, free, done);
-    done.answer
+    let old = look_at(blocks, free, 0);
+    let new = made(old);
+    write_back(blocks, free, new);
+    new.answer
 }
 
 // Takes a block of `size` units off the front of the first free stretch that is long enough.
@@ -99,9 +99,9 @@ pub fn request(blocks: &mut [Stretch], free: &mut [Stretch], used: Used, size: u
         × (now (free .exit) ≡ freeAfter (now (free .entry)) (requestOf (now (blocks .entry)) (now (free .entry)) used size)) ⌝ }
 {
     let seen = look_at(blocks, free, size);
-    let done = requested(seen, used, size);
-    write_back(blocks, free, done);
-    done.answer
+    let taken = requested(seen, used, size);
+    write_back(blocks, free, taken);
+    taken.answer
 }
 
 // Gives the block that starts at `start` back, and joins its units with free neighbours.
@@ -111,7 +111,7 @@ pub fn release(blocks: &mut [Stretch], free: &mut [Stretch], used: Used, start: 
         × (now (free .exit) ≡ freeAfter (now (free .entry)) (releaseOf (now (blocks .entry)) (now (free .entry)) used start)) ⌝ }
 {
     let seen = look_at(blocks, free, 0);
-    let done = released(seen, used, start);
-    write_back(blocks, free, done);
-    done.answer
+    let given = released(seen, used, start);
+    write_back(blocks, free, given);
+    given.answer
 }

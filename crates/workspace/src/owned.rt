@@ -1,7 +1,6 @@
 // The operations on two tables of 32 places by value, for callers that own their tables.
 use crate::Answer;
 use crate::Look;
-use crate::Stretch;
 use crate::Table;
 use crate::Tables;
 use crate::Test;
@@ -16,10 +15,12 @@ ghost use Rattle.workspace.specs.Operations.{freshOf, requestOf, release
 ghost use Rattle.workspace.specs.Seen.{lookOf};
 ghost use Rattle.workspace.specs.Owning.{tablesAs, ownedFresh, ownedAfter};
 
-// What is seen of both tables.
-fn looked(blocks: [Stretch; 32], free: [Stretch; 32], size: u32) -> Look
-    ensures { λ r. ⌜ (r ≡ lookOf blocks free size) × (length blocks ≡ 32) × (length free ≡ 32) ⌝ }
+// What is seen of both tables. The contract tells a caller that an array has 32 places, as that of `left` does.
+fn looked(area: Tables, size: u32) -> Look
+    ensures { λ r. ⌜ (r ≡ lookOf (area .blocks) (area .free) size) × (length (area .blocks) ≡ 32) × (length (area .free) ≡ 32) ⌝ }
 {
+    let blocks = area.blocks;
+    let free = area.free;
     let b = Table {
         places: blocks,
         clear: true,
@@ -32,10 +33,12 @@ fn looked(blocks: [Stretch; 32], free: [Stretch; 32], size: u32) -> Look
     seen_as(b, f, 32, 32, place)
 }
 
-// The parts of what is left. Its contract tells a caller that an array has 32 places, as that of `looked` does.
-fn left(blocks: [Stretch; 32], free: [Stretch; 32], answer: Answer) -> Tables
-    ensures { λ r. ⌜ (r ≡ tablesAs blocks free answer) × (length blocks ≡ 32) × (length free ≡ 32) ⌝ }
+// The parts of what is left.
+fn left(b: Table, f: Table, answer: Answer) -> Tables
+    ensures { λ r. ⌜ (r ≡ tablesAs (b .places) (f .places) answer) × (length (b .places) ≡ 32) × (length (f .places) ≡ 32) ⌝ }
 {
+    let blocks = b.places;
+    let free = f.places;
     Tables {
         blocks,
         free,
@@ -47,50 +50,27 @@ fn left(blocks: [Stretch; 32], free: [Stretch; 32], answer: Answer) -> Tables
 pub fn fresh(area: Tables) -> Tables
     ensures { λ r. ⌜ r ≡ ownedFresh area ⌝ }
 {
-    let blocks = area.blocks;
-    let free = area.free;
-    let seen = looked(blocks, free, 0);
-    let done = made(seen);
-    let b = done.blocks;
-    let f = done.free;
-    let bs = b.places;
-    let fs = f.places;
-    let last = done.answer;
-    left(bs, fs, last)
+    let old = looked(area, 0);
+    let new = made(old);
+    left(new.blocks, new.free, new.answer)
 }
 
 // Takes a block of `size` units off the front of the first free stretch that is long enough.
 pub fn request(area: Tables, size: u32) -> Tables
     ensures { λ r. ⌜ r ≡ ownedAfter area (requestOf (area .blocks) (area .free) (area .answer .used) size) ⌝ }
 {
-    let blocks = area.blocks;
-    let free = area.free;
-    let answer = area.answer;
-    let used = answer.used;
-    let seen = looked(blocks, free, size);
-    let done = requested(seen, used, size);
-    let b = done.blocks;
-    let f = done.free;
-    let bs = b.places;
-    let fs = f.places;
-    let last = done.answer;
-    left(bs, fs, last)
+    let last = area.answer;
+    let seen = looked(area, size);
+    let taken = requested(seen, last.used, size);
+    left(taken.blocks, taken.free, taken.answer)
 }
 
 // Gives the block that starts at `start` back, and joins its units with free neighbours.
 pub fn release(area: Tables, start: u32) -> Tables
     ensures { λ r. ⌜ r ≡ ownedAfter area (releaseOf (area .blocks) (area .free) (area .answer .used) start) ⌝ }
 {
-    let blocks = area.blocks;
-    let free = area.free;
-    let answer = area.answer;
-    let used = answer.used;
-    let seen = looked(blocks, free, 0);
-    let done = released(seen, used, start);
-    let b = done.blocks;
-    let f = done.free;
-    let bs = b.places;
-    let fs = f.places;
-    let last = done.answer;
-    left(bs, fs, last)
+    let last = area.answer;
+    let seen = looked(area, 0);
+    let given = released(seen, last.used, start);
+    left(given.blocks, given.free, given.answer)
 }

@@ -5,10 +5,15 @@ use Rattle.workspace.proofs.rules.keeps.Tie as tie
 
 returns : tie.Need-returns
 returns c =
-    let r = c .before .before .before .before in
-    let a = r .before .before .before .before .before .before .before .before .before .before .args in
-    keep-law (a .seen) (a .used) (r .before .before .before .before .before .at-most-32 .result) (r .before .before .before .before .at-most-322 .result) (r .before .before .before .has-seen .result) (r .before .before .all-none .result) (r .before .all-none2 .result) (r .tiles .result)
-    (r .before .before .before .has-seen .ensures) (r .before .before .before .before .before .at-most-32 .ensures) (r .before .before .before .before .at-most-322 .ensures) (r .before .before .all-none .ensures) (r .before .all-none2 .ensures) (r .tiles .ensures)
+    let c4 = c .before .before .before .before in
+    let c5 = c4 .before in
+    let c6 = c5 .before in
+    let c7 = c6 .before in
+    let c8 = c7 .before in
+    let c9 = c8 .before in
+    let c14 = c9 .before .before .before .before .before in
+    let a = c14 .args in
+    keep-law (a .seen) (a .used) (c7 .has-seen .ensures) (c9 .at-most-32 .ensures) (c8 .at-most-322 .ensures) (c6 .all-none .ensures) (c5 .all-none2 .ensures) (c4 .tiles .ensures)
 
 pub keeps-spec : {M : Type 1} → statement M
 keeps-spec =

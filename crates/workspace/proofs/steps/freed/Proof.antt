@@ -1,4 +1,3 @@
-use mathlib.Core.Path.{_∙_}
 use Rattle.workspace.proofs.StepLaws.{free-law}
 use borrow.Author.Needs.{needs}
 use Rattle.workspace.proofs.steps.freed.Statement.{statement}
@@ -6,10 +5,16 @@ use Rattle.workspace.proofs.steps.freed.Tie as tie
 
 returns : tie.Need-returns
 returns c =
-    let a = c .before .before .before .before .before .before .before .before .before .before .before .before .args in
-    c .done-as .ensures
-    ∙ free-law (a .seen) (a .used) (a .p) (c .before .before .before .before .before .before .before .nth .result) (c .before .before .before .before .before .before .at-most-32 .result) (c .before .before .before .before .before .place-of .result) (c .before .before .before .before .closed .result) (c .before .before .before .give-back .result) (c .before .before .down .result) (c .before .count-back .result)
-    (c .before .before .before .before .before .before .before .nth .ensures) (c .before .before .before .before .before .before .at-most-32 .ensures) (c .before .before .before .before .before .place-of .ensures) (c .before .before .before .before .closed .ensures) (c .before .before .before .give-back .ensures) (c .before .before .down .ensures) (c .before .count-back .ensures)
+    let c1 = c .before in
+    let c2 = c1 .before in
+    let c3 = c2 .before in
+    let c4 = c3 .before in
+    let c5 = c4 .before in
+    let c6 = c5 .before in
+    let c7 = c6 .before in
+    let c12 = c7 .before .before .before .before .before in
+    let a = c12 .args in
+    free-law (a .seen) (a .used) (a .p) (c7 .nth .ensures) (c6 .at-most-32 .ensures) (c5 .place-of .ensures) (c4 .closed .ensures) (c3 .give-back .ensures) (c2 .down .ensures) (c1 .count-back .ensures) (c .done-as .ensures)
 
 pub freed-spec : {M : Type 1} → statement M
 freed-spec =

@@ -1,4 +1,3 @@
-use mathlib.Core.Path.{refl, _∙_}
 use Rattle.workspace.proofs.StepLaws.{grant-law}
 use borrow.Author.Needs.{needs}
 use Rattle.workspace.proofs.steps.granted.Statement.{statement}
@@ -6,12 +5,21 @@ use Rattle.workspace.proofs.steps.granted.Tie as tie
 
 returns : tie.Need-returns
 returns c =
-    let n = c .before .before .before .before .before .before .before .before .before .before .before .before .before in
-    let w = c .before .before .before .before .before .before in
-    let a = n .before .before .before .before .before .args in
-    c .done-as .ensures
-    ∙ grant-law (a .seen) (a .used) (a .size) (n .nth .result) (w .before .before .before .before .before .before .at-most-32 .result) (w .before .before .before .before .before .place-of .result) (w .before .before .before .before .opened .result) (c .before .before .before .before .pick-places .result) (w .before .closed .result) (w .with-at .result) (w .before .before .before .wrapping-add-u32 .result) (w .before .before .less .result) (c .before .before .before .up .result) (c .before .before .down .result) (c .before .pick-usize .result) _
-    (n .nth .ensures) (w .before .before .before .before .before .before .at-most-32 .ensures) (w .before .before .before .before .before .place-of .ensures) (w .before .before .before .before .opened .ensures) (w .before .before .before .wrapping-add-u32 .ensures) (w .before .before .less .ensures) (w .before .closed .ensures) (w .with-at .ensures) refl (c .before .before .before .before .pick-places .ensures) (c .before .before .before .up .ensures) (c .before .before .down .ensures) (c .before .pick-usize .ensures)
+    let c1 = c .before in
+    let c2 = c1 .before in
+    let c3 = c2 .before in
+    let c4 = c3 .before in
+    let c6 = c4 .before .before in
+    let c7 = c6 .before in
+    let c8 = c7 .before in
+    let c9 = c8 .before in
+    let c10 = c9 .before in
+    let c11 = c10 .before in
+    let c12 = c11 .before in
+    let c13 = c12 .before in
+    let c18 = c13 .before .before .before .before .before in
+    let a = c18 .args in
+    grant-law (a .seen) (a .used) (a .size) (c13 .nth .ensures) (c12 .at-most-32 .ensures) (c11 .place-of .ensures) (c10 .opened .ensures) (c9 .wrapping-add-u32 .ensures) (c8 .less .ensures) (c7 .closed .ensures) (c6 .with-at .ensures) (c4 .pick-places .ensures) (c3 .up .ensures) (c2 .down .ensures) (c1 .pick-usize .ensures) (c .done-as .ensures)
 
 pub granted-spec : {M : Type 1} → statement M
 granted-spec =

@@ -5,10 +5,14 @@ use Rattle.workspace.proofs.steps.made.Tie as tie
 
 returns : tie.Need-returns
 returns c =
-    let h = c .before .before in
-    let e = h .before .before .before .before in
-    fresh-law (e .before .args .seen) (e .empty .result) (h .before .before .with-at .result) (h .before .done-as .result) (c .unless-refused .result) (h .has-seen .result) (c .before .pick-u8 .result)
-    (e .empty .ensures) (h .before .before .with-at .ensures) (h .before .done-as .ensures) (h .has-seen .ensures) (c .before .pick-u8 .ensures) (c .unless-refused .ensures)
+    let c1 = c .before in
+    let c2 = c1 .before in
+    let c3 = c2 .before in
+    let c4 = c3 .before in
+    let c6 = c4 .before .before in
+    let c7 = c6 .before in
+    let a = c7 .args in
+    fresh-law (a .seen) (c6 .empty .ensures) (c4 .with-at .ensures) (c3 .done-as .ensures) (c2 .has-seen .ensures) (c1 .pick-u8 .ensures) (c .unless-refused .ensures)
 
 pub made-spec : {M : Type 1} → statement M
 made-spec =
