@@ -1,6 +1,7 @@
 -- Any two answers that the contract of an exported function allows are equal, and so is each lent byte afterwards. Assumes nothing.
 use mathlib.Core.Path.{_≡_, sym, _∙_}
 use denote.Ref.{now}
+use Rattle.lists.specs.Once.{Once}
 use Rattle.card.proofs.card_empty.Reads as empty
 use Rattle.card.proofs.card_sound.Reads as sound
 use Rattle.card.proofs.card_step.Reads as step
@@ -11,7 +12,7 @@ use Rattle.card.proofs.card_running.Reads as running
 pub empty-once : (κs : _) (x : _) (r r′ : _) (y y′ : _) → empty.Post κs x r y → empty.Post κs x r′ y′ → (r ≡ r′) × (now (y .0) ≡ now (y′ .0))
 empty-once κs x r r′ y y′ p q = (p .0 ∙ sym (q .0), p .1 ∙ sym (q .1))
 
-pub sound-once : (κs : _) (x : _) (r r′ : _) (y y′ : _) → sound.Post κs x r y → sound.Post κs x r′ y′ → r ≡ r′
+pub sound-once : Once sound.Post
 sound-once κs x r r′ y y′ p q = p ∙ sym q
 
 pub step-once : (κs : _) (x : _) (r r′ : _) (y y′ : _) → step.Post κs x r y → step.Post κs x r′ y′

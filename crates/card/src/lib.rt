@@ -132,9 +132,9 @@ pub extern "C" fn card_step(
     if answer.len() < 7 {
         return 1;
     }
-    let a = take_record(state, record, room);
-    put_answer(answer, a);
-    a.refusal
+    let taken = take_record(state, record, room);
+    put_answer(answer, taken);
+    taken.refusal
 }
 
 // A question's answer: its byte, and its refusal.

@@ -2,12 +2,13 @@
 -- Assumes nothing.
 use mathlib.Core.Path.{_≡_, sym, _∙_}
 use denote.Ref.{now}
+use Rattle.lists.specs.Once.{Once}
 use Rattle.text.proofs.least.Reads as least
 use Rattle.text.proofs.put_byte.Reads as byte
 use Rattle.text.proofs.put_bytes.Reads as bytes
 use Rattle.text.proofs.put_number.Reads as number
 
-pub least-once : (κs : _) (x : _) (r r′ : _) (y y′ : _) → least.Post κs x r y → least.Post κs x r′ y′ → r ≡ r′
+pub least-once : Once least.Post
 least-once κs x r r′ y y′ p q = p ∙ sym q
 
 pub byte-once : (κs : _) (x : _) (r r′ : _) (y y′ : _) → byte.Post κs x r y → byte.Post κs x r′ y′ → (r ≡ r′) × (now (y .1 .0) ≡ now (y′ .1 .0))

@@ -1,4 +1,5 @@
 use borrow.Author.Needs.{needs}
+use Prim.Native.Nat.{ℕ}
 use mathlib.Core.Path.{_≡_, _∙_, ap, sym}
 use lib.ListN.{length}
 use Rattle.rules.specs.Questions.{countWhole}
@@ -15,7 +16,7 @@ returns c =
     let k : length (a .s .callers) ≡ 31 = search (needs, mapped-long) in
     let n = c .len .ensures ∙ ap length (picked-line (a .s) (a .s .callers) (QueuedOn (a .t) (a .e)) (c .before .picked .result) k (c .before .picked .ensures)) in
     let q = sym (c .before .before .before .before .is-sound .ensures) ∙ c .before .before .before .if1 .taken in
-    rw (q, n)
+    rw q (ap (λ (k : ℕ). record { refusal = 0; count = k }) n)
 
 returns-2 : tie.Need-returns-2
 unfolding countWhole

@@ -4,7 +4,7 @@ use mathlib.Core.Bool.{true, false, _&&_}
 use mathlib.Core.List.{[], _∷_}
 use lib.Dec.{ltb, leb}
 use borrow.Author.Tests.{not-true, not-false}
-use Rattle.rules.specs.Step.{takeCall, item}
+use Rattle.rules.specs.Step.{takeCall, item, WAITS}
 use Rattle.rules.specs.Step as rules
 use Rattle.rules.specs.State.{meet, wake, accepts, isCompleted, isTask, taskOf, placeOf}
 use Rattle.rules.specs.Whole.{view}
@@ -72,7 +72,7 @@ returns-5 c =
     let meets = of-task v (a .g) _ (λ x. accepts (x .place) (a .e)) _ _ (c .before .before .before .before .before .before .before .before .before .before .before .before .before .task-of .ensures) (c .before .before .before .before .before .before .before .before .accepts-at .ensures) (c .before .before .before .before .before .before .before .if5 .taken) in
     let woken = woken-met (a .s) _ _ (a .g) t (a .e) (c .before .before .before .before .before .before .before .before .before .before .before .before .before .before .before .before .before .before .before .pre .0) (task-here e2) (runs-here e1 .high) (c .before .before .moved .ensures) (c .before .met .ensures) in
     by-both (a .s) _ _ (call-here e1 ∙ call-meets v t (a .g) (a .e) (a .m) (task-here e2) (entry-here e3) (alive-here e4) meets)
-    (answers (a .s) _ (meet (wake v (a .g)) (a .g) t (a .e)) _ (item (a .g) 5 (a .e) t ∷ []) (c .answered2 .ensures) woken)
+    (answers (a .s) (c .before .met .result) (meet (wake v (a .g)) (a .g) t (a .e)) (item t WAITS 0 0) (item (a .g) 5 (a .e) t ∷ []) (c .answered2 .ensures) woken)
     (c .before .before .before .before .before .put .ensures)
 
 call-busy-requires : tie.Need-call-busy-requires

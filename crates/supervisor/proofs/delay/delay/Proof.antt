@@ -2,7 +2,7 @@ use borrow.Author.Needs.{needs}
 use mathlib.Core.Path.{_≡_, _∙_, ap}
 use mathlib.Core.List.{[]}
 use mir.Facts.{toZ-ofZ}
-use Rattle.rules.specs.Step.{delayFor, ticks}
+use Rattle.rules.specs.Step.{delayFor, ticks, item, ELAPSED}
 use Rattle.rules.specs.Whole.{view}
 use Rattle.rules.proofs.Members.{Runs}
 use Rattle.supervisor.proofs.AnswerLaws.{no-runner, runner, by-outcome, move-answers}
@@ -28,7 +28,7 @@ returns-2 c =
     let a = c .before .before .before .before .before .before .args in
     let t = e1 .before .running .result in
     by-outcome (a .s) (delay-now (view (a .s)) t (e1 .before .running .ensures) (e1 .if1 .left) (a .d) (k .ticks .result) (ticks-here k) (c .before .before .if2 .taken))
-    (move-answers (a .s) _ _ _ _ _ [] (c .before .before .before .before .before .before .pre) (runs-here e1 .high) (c .answered .ensures) (c .before .moved .ensures))
+    (move-answers (a .s) (c .before .moved .result) t _ _ (item t ELAPSED 0 0) [] (c .before .before .before .before .before .before .pre) (runs-here e1 .high) (c .answered .ensures) (c .before .moved .ensures))
 
 returns-3 : tie.Need-returns-3
 returns-3 c =

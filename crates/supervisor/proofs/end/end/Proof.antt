@@ -4,7 +4,7 @@ use mathlib.Core.List.{[], _∷_}
 use Rattle.calls.specs.declared.Call.the-variants.{End}
 use Rattle.lists.specs.Lists.{last}
 use Rattle.rules.specs.State.{entryOf, placeOf, heldBy}
-use Rattle.rules.specs.Step.{item, takeCall}
+use Rattle.rules.specs.Step.{item, takeCall, DONE}
 use Rattle.rules.specs.Step as rules
 use Rattle.rules.specs.Whole.{view}
 use Rattle.rules.proofs.Members.{Runs}
@@ -49,7 +49,7 @@ returns-3 c =
     let k = e2 .before .last-of .result in
     let held = last-here (e2 .before) in
     by-both s _ _ (end-here e1 ∙ end-one v t k held (e2 .if2 .left))
-    (part-answers t k 0 s _ _ (item k 2 (entryOf (placeOf v k)) t ∷ []) (c .before .before .before .before .before .before .before .before .before .before .before .before .before .before .before .pre .0) (runs-here e1 .high) (held-fits v t k held (e2 .if2 .left)) (c .answered .ensures) (c .before .parted .ensures))
+    (part-answers t k 0 s (c .before .parted .result) (item t DONE 0 0) (item k 2 (entryOf (placeOf v k)) t ∷ []) (c .before .before .before .before .before .before .before .before .before .before .before .before .before .before .before .pre .0) (runs-here e1 .high) (held-fits v t k held (e2 .if2 .left)) (c .answered .ensures) (c .before .parted .ensures))
     (rw (c .before .before .before .before .before .entry-of .ensures, c .before .before .before .before .before .before .before .task-of .ensures) at (c .before .before .before .before .put .ensures))
 
 pub end-spec : {M : Type 1} → statement M

@@ -6,7 +6,7 @@ use mathlib.Core.List.{[]}
 use lib.Dec.{leb}
 use Rattle.calls.specs.declared.Call.the-variants.{Select}
 use Rattle.rules.specs.State.{taskOf}
-use Rattle.rules.specs.Step.{takeCall}
+use Rattle.rules.specs.Step.{takeCall, item, ACCEPTED}
 use Rattle.rules.specs.Step as rules
 use Rattle.rules.specs.Whole.{view}
 use Rattle.rules.proofs.Members.{Runs}
@@ -64,7 +64,7 @@ returns-4 c =
     let b = e3 .before .before .lowest .result in
     let one = lowest-one v t (a .o) b (e3 .before .before .lowest .ensures) (e3 .if3 .left) in
     by-outcome (a .s) (select-here e1 ∙ select-takes v t (a .o) (a .m) (b .entry) (b .task) (own-here e2) (one .0) (one .1) (one .2))
-    (meet-answers t (b .task) (b .entry) (a .s) _ _ [] (c .before .before .before .before .before .before .before .before .before .before .pre) (runs-here e1 .high) (first-fits v t (a .o) (b .entry) (b .task) (one .0) (one .1) (one .2)) (c .answered .ensures) (c .before .met .ensures))
+    (meet-answers t (b .task) (b .entry) (a .s) (c .before .met .result) (item t ACCEPTED (b .entry) (b .task)) [] (c .before .before .before .before .before .before .before .before .before .before .pre) (runs-here e1 .high) (first-fits v t (a .o) (b .entry) (b .task) (one .0) (one .1) (one .2)) (c .answered .ensures) (c .before .met .ensures))
 
 pub select-spec : {M : Type 1} → statement M
 select-spec =
