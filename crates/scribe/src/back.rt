@@ -1,7 +1,6 @@
 // Records to text, a line for each.
 use crate::errors;
 use crate::work::Work;
-use crate::work::begun;
 use crate::work::fed;
 use crate::work::passed;
 use crate::work::stopped;
@@ -9,7 +8,6 @@ use crate::work::written;
 use calls::Call;
 use calls::Read;
 use script::put_call;
-use stream::output::flushed;
 use text::least;
 use text::put_byte;
 
@@ -35,7 +33,7 @@ fn refused(w: Work, many: usize, buf: &mut [u8], out: &[u8]) -> Work {
 }
 
 // One turn, on what stands in the window.
-fn turn(w: Work, buf: &mut [u8], out: &mut [u8]) -> Work {
+pub fn turn(w: Work, buf: &mut [u8], out: &mut [u8]) -> Work {
     let v = w.window;
     let end = least(v.end, buf.len());
     let at = least(v.at, end);
@@ -44,15 +42,4 @@ fn turn(w: Work, buf: &mut [u8], out: &mut [u8]) -> Work {
         return refused(w, end - at, buf, out);
     };
     taken(w, call, std::num::wrapping_add_usize(at, count), out)
-}
-
-// All records of standard input.
-pub fn run(buf: &mut [u8], out: &mut [u8]) {
-    let mut w = begun();
-    let mut turns = u64::MAX;
-    while turns > 0 && w.goes {
-        w = turn(w, buf, out);
-        turns -= 1;
-    }
-    flushed(out, w.waits);
 }

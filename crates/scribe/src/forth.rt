@@ -1,14 +1,12 @@
 // Text to records, line by line.
 use crate::errors;
 use crate::work::Work;
-use crate::work::begun;
 use crate::work::fed;
 use crate::work::passed;
 use crate::work::stopped;
 use script::Line;
 use script::put_record;
 use script::read_line;
-use stream::output::flushed;
 use stream::window::unread;
 use text::least;
 
@@ -46,7 +44,7 @@ fn skipped(w: Work) -> Work {
 }
 
 // One turn, on what stands in the window. The last line may lack its line end.
-fn turn(w: Work, buf: &mut [u8], out: &mut [u8]) -> Work {
+pub fn turn(w: Work, buf: &mut [u8], out: &mut [u8]) -> Work {
     let v = w.window;
     let end = least(v.end, buf.len());
     let at = least(v.at, end);
@@ -62,15 +60,4 @@ fn turn(w: Work, buf: &mut [u8], out: &mut [u8]) -> Work {
         return skipped(w);
     }
     fed(w, buf, out)
-}
-
-// All lines of standard input.
-pub fn run(buf: &mut [u8], out: &mut [u8]) {
-    let mut w = begun();
-    let mut turns = u64::MAX;
-    while turns > 0 && w.goes {
-        w = turn(w, buf, out);
-        turns -= 1;
-    }
-    flushed(out, w.waits);
 }

@@ -1,9 +1,13 @@
 // Calls as text to records, and records back to text: `scribe` and `scribe back`, from standard input to standard output.
-// What cannot be read is told on standard error with the number of its line or record.
+// What cannot be read is told on standard error with the number of its line or record, and so is output that cannot be written.
 mod back; // back.rt: records to text
 mod errors; // errors.rt: what is told on standard error
 mod forth; // forth.rt: text to records
 mod work; // work.rt: input on its way to output
+
+use stream::output::flushed;
+use work::Work;
+use work::begun;
 
 // Whether the only argument is `back`.
 fn is_back(count: usize, word: &[u8; 5], n: usize) -> bool {
@@ -15,6 +19,25 @@ fn is_back(count: usize, word: &[u8; 5], n: usize) -> bool {
         & (word[3] == b'k')
 }
 
+// One turn, on the line or record that comes next.
+fn turn(is_back: bool, w: Work, buf: &mut [u8], out: &mut [u8]) -> Work {
+    if is_back {
+        return back::turn(w, buf, out);
+    }
+    forth::turn(w, buf, out)
+}
+
+// All lines or records of standard input.
+fn run(is_back: bool, buf: &mut [u8], out: &mut [u8]) {
+    let mut w = begun();
+    let mut turns = u64::MAX;
+    while turns > 0 && w.goes {
+        w = turn(is_back, w, buf, out);
+        turns -= 1;
+    }
+    flushed(out, w.waits);
+}
+
 fn main() {
     let mut buf = io::large_buffer();
     let mut out = io::large_buffer();
@@ -22,11 +45,11 @@ fn main() {
     let count = os::arg_count();
     let n = os::arg(1, &mut word);
     if count <= 1 {
-        forth::run(&mut buf, &mut out);
+        run(false, &mut buf, &mut out);
         return;
     }
     if is_back(count, &word, n) {
-        back::run(&mut buf, &mut out);
+        run(true, &mut buf, &mut out);
         return;
     }
     errors::usage();

@@ -1,4 +1,6 @@
 // What is printed is gathered in a buffer, and written once that is nearly full or before more input is waited for.
+// Where it cannot be written, that is told on standard error, and the program ends.
+use libc::STDERR_FILENO;
 use libc::STDOUT_FILENO;
 use text::least;
 
@@ -12,13 +14,22 @@ pub struct Output {
     pub writes: bool,
 }
 
+// Tells that output is lost.
+fn tell_lost() {
+    io::write_all(
+        STDERR_FILENO,
+        b"standard output: cannot be written; the rest of the output is lost\n",
+    );
+}
+
 // Writes all that waits.
 pub fn flushed(out: &[u8], waits: usize) -> Output {
     let n = least(waits, out.len());
-    Output {
-        waits: 0,
-        writes: io::write_all(STDOUT_FILENO, &out[0..n]),
+    let writes = io::write_all(STDOUT_FILENO, &out[0..n]);
+    if !writes {
+        tell_lost();
     }
+    Output { waits: 0, writes }
 }
 
 // Writes all that waits where there is little room behind it.

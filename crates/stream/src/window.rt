@@ -4,6 +4,7 @@ ghost use Prim.Native.Nat.{_≤_, _-_};
 ghost use mathlib.Core.Path.{_≡_};
 ghost use lib.ListN.{length};
 ghost use Rattle.stream.specs.Windows.{noWindow, shifted, Grown};
+use libc::STDERR_FILENO;
 use libc::STDIN_FILENO;
 use text::least;
 
@@ -40,7 +41,17 @@ fn shift(buf: &mut [u8], at: usize, end: usize) -> usize
     n
 }
 
-// The window after one read more. A read that fails ends the input.
+// Tells a read that failed.
+fn tell_failed(got: isize) {
+    if got < 0 {
+        io::write_all(
+            STDERR_FILENO,
+            b"standard input: cannot be read; it is taken to end here\n",
+        );
+    }
+}
+
+// The window after one read more. A read that fails ends the input, and is told.
 pub fn refilled(w: Window, buf: &mut [u8]) -> Window
     ensures { λ r. ⌜ Grown w (now (buf .entry)) r (now (buf .exit)) ⌝ }
 {
@@ -50,6 +61,7 @@ pub fn refilled(w: Window, buf: &mut [u8]) -> Window
     let part = &mut buf[n..];
     let got = libc::read(STDIN_FILENO, part);
     let m = io::count(got, part);
+    tell_failed(got);
     Window {
         at: 0,
         end: n + m,

@@ -9,12 +9,12 @@ use Rattle.stream.proofs.window.refilled.Tie as tie
 
 returns : tie.Need-returns
 returns c =
-    let k = c .before .before .before .before .before .before .before .before .before .before .before in
+    let k = c .before .before .before .before .before .before .before .before .before .before .before .before in
     let a = k .before .before .before .before .before .args in
     let b = now (a .buf) in
     let to : k .before .before .before .least .result ≡ endIn (a .w) b = k .before .before .before .least .ensures in
     let from : k .before .before .least2 .result ≡ startIn (a .w) b = k .before .before .least2 .ensures ∙ ap (λ (e : ℕ). min (a .w .at) e) to in
-    grown-read (a .w) b (k .shift .last .0) (c .before .before .before .before .before .before .read .last .1 .0) (k .shift .result) (c .before .before .count .result) _
+    grown-read (a .w) b (k .shift .last .0) (c .before .before .before .before .before .before .before .read .last .1 .0) (k .shift .result) (c .before .before .before .count .result) _
     (rw (from, to) at (k .shift .ensures .0 .0))
     (rw (from, to) at (k .shift .ensures .1))
 
@@ -28,6 +28,7 @@ refilled-spec =
     (λ c. search needs)
     (λ c. search needs)
     (λ c. search needs)
+    (λ c κs. search needs)
     (λ c κs. search needs)
     (λ c κs. search needs)
     (λ c. search needs)
