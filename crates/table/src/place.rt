@@ -15,7 +15,7 @@ pub fn is_ready(p: Place) -> bool
     match p {
         Place::Blank => false,
         Place::Ready => true,
-        Place::Delayed => false,
+        Place::Delayed => false, // until its time comes
         Place::Queued(_) => false,
         Place::Held(_) => false,
         Place::Accepting(_) => false,
@@ -31,7 +31,7 @@ pub fn is_queued(p: Place) -> bool
         Place::Ready => false,
         Place::Delayed => false,
         Place::Queued(_) => true,
-        Place::Held(_) => false,
+        Place::Held(_) => false, // its call is accepted
         Place::Accepting(_) => false,
         Place::Completed => false,
     }
@@ -44,7 +44,7 @@ pub fn is_held(p: Place) -> bool
         Place::Blank => false,
         Place::Ready => false,
         Place::Delayed => false,
-        Place::Queued(_) => false,
+        Place::Queued(_) => false, // its call is not accepted yet
         Place::Held(_) => true,
         Place::Accepting(_) => false,
         Place::Completed => false,
@@ -55,7 +55,7 @@ pub fn is_completed(p: Place) -> bool
     ensures { λ r. ⌜ r ≡ isCompleted p ⌝ }
 {
     match p {
-        Place::Blank => false,
+        Place::Blank => false, // not even created
         Place::Ready => false,
         Place::Delayed => false,
         Place::Queued(_) => false,
@@ -112,7 +112,7 @@ pub fn has_time(w: Timer) -> bool
     ensures { λ r. ⌜ r ≡ hasTime w ⌝ }
 {
     match w {
-        Timer::Off => false,
+        Timer::Off => false, // no tick ends the wait
         Timer::Due(_) => true,
     }
 }
