@@ -1,34 +1,17 @@
--- `workspace::release` meets its contract: a walk of its MIR, by hand. Both tables are looked at, a covered function works out what is to be done, and the tables are written.
---     begins       the body, once the parameters are in their locals
+-- `workspace::release` meets its contract: its code is the one that `Operating` walks, with a call of `released`.
 -- Assumes nothing.
-use Rattle.workspace.proofs.Prelude.{_≡_, refl, _∙_, ℕ, _<_, _^_, List, [], _∷_, length, URA, fullShare, named, erased, imm, mut, w32, tyInt, tyUnit, Val, vint, SProp, ent, emp, via, fst∗, snd∗, exE, Lft, Share, ftrue, fat, froom, fdies, flft, Memory, Routine, Heap, Env, WpFn, Calls, Loops, Tables, Atoms, sem, Fun, fact, givenOf, tables, tablesOf, Given, Item, _⊛_, ⋆, runs, atRet, Sq, _$_, _∵_, !, qed, by, move, drop, split, join, fsplit, fjoin, suffices, frame, done, agg, whole, sub, look-in, look, init, forget, stop, hop, fld, from, load, addr, of-opd, and-then, no-more, lit, lit<, assigns, land, returns, enter, alloc1, alloc0, params1, pass1, pass0, free1, free0, FmC, fmOf, WpFn-mono, owns, Is, uint-vals, uint-tells, uint-makes, u32, RefT, MutSlice, Room, finally, slice-vals, mut-slice-tells, plain, nothing, owned, Vals, onEntry, Meets, tripleOf, Contract, Triple, ensured, lasts, entered, cited, says, Stays, gave-slice, stay-none, walkOf, AllGo, goes-gave-slice, goes-none, Walks, ends-at, walked, walk-meets, yes, ‵}
-use denote.Struct.Laws as LL
-use Rattle.workspace.specs.declared.Stretch.{Stretch}
-use Rattle.workspace.specs.declared.Used.{Used}
-use Rattle.workspace.specs.declared.Look.{Look}
-use Rattle.workspace.specs.declared.Done.{Done}
+use Rattle.workspace.proofs.Prelude.{_≡_, refl, tripleOf, entered, cited, givenOf, tables, tablesOf}
 use Rattle.workspace.specs.Operations.{releaseOf}
-use Rattle.workspace.specs.Seen.{laid, lookOf}
 use Rattle.workspace.specs.Steps.{releaseSeen}
-use Rattle.workspace.proofs.Bridge.{Says, release-says}
-use Rattle.workspace.proofs.Calls.{Told, tells-struct, calls-told}
-use Rattle.workspace.proofs.Both.{ptr, slice, answer, counts, Counts, looked, Looked, low, Low, Lent, val, LookAt, WriteBack, looks, writes-back}
-use Rattle.workspace.proofs.Stretch as T
-use Rattle.workspace.proofs.Used as S
-use Rattle.workspace.proofs.Used.Laws as S′
-use Rattle.workspace.proofs.Look as L
-use Rattle.workspace.proofs.Look.Laws as L′
-use Rattle.workspace.proofs.Answer as R
-use Rattle.workspace.proofs.Answer.Laws as R′
-use Rattle.workspace.proofs.Done as N
-use Rattle.workspace.proofs.Done.Laws as N′
+use Rattle.workspace.proofs.Bridge.{release-says}
+use Rattle.workspace.proofs.Both.{LookAt, WriteBack}
+use Rattle.workspace.proofs.Operating.{any, function, Does, operates}
 use Rattle.workspace.proofs.lent.look_at.Symbol as look-at-def
 use Rattle.workspace.proofs.lent.look_at.Symbol.{name as #workspace·look-at}
 use Rattle.workspace.proofs.lent.look_at.Met as look-at-thm
 use Rattle.workspace.proofs.lent.write_back.Symbol as write-back-def
 use Rattle.workspace.proofs.lent.write_back.Symbol.{name as #workspace·write-back}
 use Rattle.workspace.proofs.lent.write_back.Met as write-back-thm
-use Rattle.workspace.proofs.steps.released as released
 use Rattle.workspace.proofs.steps.released.Symbol as released-def
 use Rattle.workspace.proofs.steps.released.Symbol.{name as #workspace·released}
 use Rattle.workspace.proofs.steps.released.Met as released-thm
@@ -36,127 +19,17 @@ use Rattle.workspace.proofs.release.Key.{name as #workspace·release}
 use Rattle.workspace.proofs.release as f
 use Rattle.workspace.proofs.release.Statement as stated
 use Rattle.workspace.proofs.release.Code as code
-use Rattle.workspace.proofs.release.Code.Mir as text
 
-abbrev stayed : Stays (f.ended .signature .params) (f.ended .kept)
-stayed = (gave-slice (0 ∷ []) tt (plain (λ _. T.the-row)), (gave-slice (1 ∷ []) tt (plain (λ _. T.the-row)), (stay-none (λ _. S.the-row) yes, (stay-none (λ _. u32) yes, tt))))
-
--- ---- the contract of `released`, which does the work
-module _ {M : Type 1} (𝓤 : URA M) (H : Heap 𝓤) (A : Atoms 𝓤) (mem : Memory → SProp 𝓤) (run : Routine → Fun 𝓤) where
-  abbrev Released : Contract 𝓤
-  Released = tripleOf 𝓤 H A released.signature (released.spec 𝓤 H A mem run)
-
-module _ {M : Type 1} (𝓤 : URA M) (H : Heap 𝓤) (A : Atoms 𝓤) (W : Given 𝓤 H A) (mem : Memory → SProp 𝓤) (run : Routine → Fun 𝓤) (t : Look) (u : Used) (start : ℕ) where
-  abbrev to-released : Released 𝓤 H A mem run .Ghost
-  to-released = ((tt, tt, tt, (t, (u, (start, tt))), (looked t ∷ [], (counts u ∷ [], (vint w32 start ∷ [], tt)))), tt)
-
-  asks-released : Looked t → Counts u → start < 2 ^ 32 → ent 𝓤 (emp 𝓤) (Released 𝓤 H A mem run .pre to-released)
-  asks-released gt gu gs =
-      qed W [] ∵ nothing ! $ owned ! u32 (Is u32) (uint-makes 𝓤 H A W w32) start _ (refl, gs) $ fjoin ! $ owned ! S.the-row (Is S.the-row) (LL.makes S.the-type S′.the-plain 𝓤 H A) u _ gu $ fjoin ! $
-      owned ! L.the-row (Is L.the-row) (LL.makes L.the-type L′.the-plain 𝓤 H A) t _ gt $ fjoin ! $ nothing ! $ join ! $ frame ! $ done !
-
-  tells-released : (v : Val) → ent 𝓤 (Released 𝓤 H A mem run .post to-released v) (H .⇛ (fact 𝓤 (Told N.the-type N′.the-laws (releaseSeen t u start) v)))
-  tells-released v = tells-struct N.the-type N′.the-laws 𝓤 H A W (releaseSeen t u start) v (λ r. ensured 𝓤 H A released.ended (released.clauses 𝓤 H A mem run) tt (t, (u, (start, tt))) tt r)
-      (λ r. exE 𝓤 _ (λ ws. snd∗ 𝓤 (sem 𝓤 H A (lasts released.ended tt (t, (u, (start, tt))) ws)) (fact 𝓤 (r ≡ releaseSeen t u start))))
-
-module _ {M : Type 1} (𝓤 : URA M) (H : Heap 𝓤) (A : Atoms 𝓤) (W : Given 𝓤 H A) (mem : Memory → SProp 𝓤) (run : Routine → Fun 𝓤) (κ₁ κ₂ : Lft) (q₁ q₂ : Share) (t₁ t₂ : Lent) (u : Used) (start : ℕ)
-    (room₁ : Room T.the-row (length (t₁ .now))) (room₂ : Room T.the-row (length (t₂ .now))) (gu : Counts u) (gs : start < 2 ^ 32) where
-  abbrev x : RefT (List Stretch) × (RefT (List Stretch) × (Used × (ℕ × Unit {0})))
-  x = (record { ptr = (t₁ .b, t₁ .o); name = t₁ .γ; now = t₁ .now }, (record { ptr = (t₂ .b, t₂ .o); name = t₂ .γ; now = t₂ .now }, (u, (start, tt))))
-
-  abbrev vals : Vals f.signature (κ₁, (κ₂, tt))
-  vals = (val t₁ ∷ [], (val t₂ ∷ [], (counts u ∷ [], (vint w32 start ∷ [], tt))))
-
-  abbrev Post : Val → SProp 𝓤
-  Post = walkOf 𝓤 H A f.ended stayed (f.clauses 𝓤 H A mem run) .post (((κ₁, (κ₂, tt)), (q₁, (q₂, tt)), tt, x, vals), tt)
-
-  -- what is done
-  abbrev r : Done
-  r = releaseSeen (lookOf (t₁ .now) (t₂ .now) 0) u start
-
-  abbrev w : Says r (t₁ .now) (t₂ .now) u (releaseOf (t₁ .now) (t₂ .now) u start)
-  w = release-says (t₁ .now) (t₂ .now) u start
-
-  exits : (us vs : List Stretch) → (us ≡ laid (r .blocks) (t₁ .now)) × (vs ≡ laid (r .free) (t₂ .now)) → length us ≡ length (t₁ .now) → length vs ≡ length (t₂ .now) → Is R.the-row (r .answer) (answer (r .answer) ∷ [])
-      → ent 𝓤 (⋆ 𝓤 H A (‵ (finally T.the-row (t₁ .γ) us) ∷ ‵ (flft κ₁ q₁) ∷ ‵ (finally T.the-row (t₂ .γ) vs) ∷ ‵ (flft κ₂ q₂) ∷ [])) (Post (answer (r .answer)))
-  exits us vs e n₁ n₂ ga =
-      qed W (‵ (finally T.the-row (t₁ .γ) us) ∷ ‵ (flft κ₁ q₁) ∷ ‵ (finally T.the-row (t₂ .γ) vs) ∷ ‵ (flft κ₂ q₂) ∷ []) ∵
-      suffices ! _ (ends-at 𝓤 H A f.ended stayed (f.clauses 𝓤 H A mem run) W (((κ₁, (κ₂, tt)), (q₁, (q₂, tt)), tt, x, vals), tt) (answer (r .answer)) (r .answer) (us, (vs, (tt, (tt, tt)))) (n₁, (n₂, (tt, (tt, tt))))) $ says ! (w .answers, e .0 ∙ w .writes, e .1 ∙ w .frees) $
-      nothing ! $ move ! (4 ∷ 0 ∷ []) $ join ! $ move ! (2 ∷ 0 ∷ []) $ join ! $
-      -- [the tokens; blocks' last list; free's]
-      frame ! $ nothing ! $ owned ! u32 (Is u32) (uint-makes 𝓤 H A W w32) start _ (refl, gs) $ fjoin ! $ owned ! S.the-row (Is S.the-row) (LL.makes S.the-type S′.the-plain 𝓤 H A) u _ gu $ fjoin ! $ move ! (2 ∷ 0 ∷ []) $ fjoin ! $ move ! (1 ∷ 0 ∷ []) $ fjoin ! $
-      frame ! $ owned ! R.the-row (Is R.the-row) (LL.makes R.the-type R′.the-plain 𝓤 H A) (r .answer) _ ga $ done !
-
-  module _ (C : Calls 𝓤 H) (Λ : Loops 𝓤 H) (fm : FmC 𝓤 H (W .laws) C) (known-look-at : Triple 𝓤 (C #workspace·look-at) (LookAt 𝓤 H A mem run)) (known-released : Triple 𝓤 (C #workspace·released) (Released 𝓤 H A mem run)) (known-write-back : Triple 𝓤 (C #workspace·write-back) (WriteBack 𝓤 H A mem run))
-      (l₀ l₁ l₂ l₃ l₄ l₅ l₆ l₇ l₈ l₉ l₁₀ l₁₁ l₁₂ l₁₃ l₁₄ l₁₅ : ℕ) where
-    -- the locals: the result, blocks, free, used, start, what is seen, what is done, and each table's reference and slice that is lent, to be read and to be written
-    abbrev En : Env 𝓤 H
-    En = (R′.mir, l₀) ∷ (slice (named 0) mut, l₁) ∷ (slice (named 1) mut, l₂) ∷ (S′.mir, l₃) ∷ (tyInt w32, l₄) ∷ (L′.mir, l₅) ∷ (N′.mir, l₆) ∷ (ptr imm, l₇) ∷ (slice erased imm, l₈) ∷ (ptr imm, l₉) ∷ (slice erased imm, l₁₀) ∷ (tyUnit, l₁₁)
-        ∷ (ptr mut, l₁₂) ∷ (slice erased mut, l₁₃) ∷ (ptr mut, l₁₄) ∷ (slice erased mut, l₁₅) ∷ []
-
-    abbrev Entered : List (Item 𝓤)
-    Entered = ‵ (froom (slice erased mut) l₁₅ 0) ∷ ‵ (fdies (slice erased mut) l₁₅) ∷ ‵ (froom (ptr mut) l₁₄ 0) ∷ ‵ (fdies (ptr mut) l₁₄) ∷ ‵ (froom (slice erased mut) l₁₃ 0) ∷ ‵ (fdies (slice erased mut) l₁₃) ∷ ‵ (froom (ptr mut) l₁₂ 0) ∷ ‵ (fdies (ptr mut) l₁₂) ∷ ‵ (froom tyUnit l₁₁ 0) ∷ ‵ (fdies tyUnit l₁₁)
-        ∷ ‵ (froom (slice erased imm) l₁₀ 0) ∷ ‵ (fdies (slice erased imm) l₁₀) ∷ ‵ (froom (ptr imm) l₉ 0) ∷ ‵ (fdies (ptr imm) l₉) ∷ ‵ (froom (slice erased imm) l₈ 0) ∷ ‵ (fdies (slice erased imm) l₈) ∷ ‵ (froom (ptr imm) l₇ 0) ∷ ‵ (fdies (ptr imm) l₇)
-        ∷ ‵ (froom N′.mir l₆ 0) ∷ ‵ (fdies N′.mir l₆) ∷ ‵ (froom L′.mir l₅ 0) ∷ ‵ (fdies L′.mir l₅) ∷ ‵ (fat fullShare (tyInt w32) l₄ 0 (vint w32 start)) ∷ ‵ (fdies (tyInt w32) l₄) ∷ ‵ (fat fullShare S′.mir l₃ 0 (counts u)) ∷ ‵ (fdies S′.mir l₃)
-        ∷ ‵ (fat fullShare (slice (named 1) mut) l₂ 0 (val t₂)) ∷ ‵ (fdies (slice (named 1) mut) l₂) ∷ ‵ (fat fullShare (slice (named 0) mut) l₁ 0 (val t₁)) ∷ ‵ (fdies (slice (named 0) mut) l₁) ∷ ‵ (froom R′.mir l₀ 0) ∷ ‵ (fdies R′.mir l₀)
-        ∷ (‵ (flft κ₁ q₁) ⊛ (‵ (flft κ₂ q₂) ⊛ ‵ ftrue)) ∷ ‵ (owns (MutSlice (named 0) κ₁ T.the-row ∷ MutSlice (named 1) κ₂ T.the-row ∷ S.the-row ∷ u32 ∷ []) x vals) ∷ []
-
-    begins : Sq W Entered (runs C Λ En text.t-1 (atRet En Post))
-    begins =
-        move ! (33 ∷ []) $ fsplit ! $ move ! (1 ∷ []) $ fsplit ! $ move ! (1 ∷ []) $ drop ! $ move ! (34 ∷ []) $ split ! $ move ! (1 ∷ []) $ split ! $ move ! (1 ∷ []) $ drop ! $ move ! (3 ∷ 1 ∷ 2 ∷ 0 ∷ []) $
-        -- [what blocks owns; its token; what free owns; its token; _15; …]: local i at 2 · (15 − i) + 4
-        assigns ! (addr ! (from ! (fld ! refl (hop ! (look-in ! 32 (sub ! 0 refl (whole !))) (stop !))))) (from ! (stop !)) (init ! 20 refl (tt, tt)) $
-        assigns ! (agg ! (and-then ! (load ! (from ! (stop !)) (look ! 20 refl)) (and-then ! (load ! (from ! (fld ! refl (stop !))) (look-in ! 32 (sub ! 1 refl (whole !)))) (no-more !)))) (from ! (stop !)) (init ! 18 refl (tt, (tt, (record { fits = room₁ .0 }, tt)))) $
-        assigns ! (addr ! (from ! (fld ! refl (hop ! (look-in ! 30 (sub ! 0 refl (whole !))) (stop !))))) (from ! (stop !)) (init ! 16 refl (tt, tt)) $
-        assigns ! (agg ! (and-then ! (load ! (from ! (stop !)) (look ! 16 refl)) (and-then ! (load ! (from ! (fld ! refl (stop !))) (look-in ! 30 (sub ! 1 refl (whole !)))) (no-more !)))) (from ! (stop !)) (init ! 14 refl (tt, (tt, (record { fits = room₂ .0 }, tt)))) $
-        -- in the call: [what it asks; blocks' lender's part; free's; _15; …]
-        looks ! mem run κ₁ κ₂ q₁ q₂ t₁ t₂ room₁ room₂ 0 (lit< tt) fm known-look-at (λ ν μ δ ε. and-then ! (load ! (from ! (stop !)) (look ! 17 refl)) (and-then ! (load ! (from ! (stop !)) (look ! 13 refl)) (and-then ! (lit ! tt) (no-more !)))) (λ gl.
-        land ! (from ! (stop !)) (init ! 24 refl (LL.lawful L.the-type L′.the-laws 𝓤 H A W .typed (lookOf (t₁ .now) (t₂ .now) 0) _ gl .0)) $
-        calls-told ! fm (Released 𝓤 H A mem run) known-released (to-released 𝓤 H A W mem run (lookOf (t₁ .now) (t₂ .now) 0) u start) (asks-released 𝓤 H A W mem run (lookOf (t₁ .now) (t₂ .now) 0) u start gl gu gs) (low r) (Low r) (tells-released 𝓤 H A W mem run (lookOf (t₁ .now) (t₂ .now) 0) u start)
-        (and-then ! (load ! (from ! (stop !)) (look ! 25 refl)) (and-then ! (load ! (from ! (stop !)) (look ! 29 refl)) (and-then ! (load ! (from ! (stop !)) (look ! 27 refl)) (no-more !)))) (λ gr.
-        land ! (from ! (stop !)) (init ! 22 refl (LL.lawful N.the-type N′.the-laws 𝓤 H A W .typed r _ gr .0)) $
-        assigns ! (addr ! (from ! (fld ! refl (hop ! (look-in ! 32 (sub ! 0 refl (whole !))) (stop !))))) (from ! (stop !)) (init ! 10 refl (tt, tt)) $
-        assigns ! (agg ! (and-then ! (load ! (from ! (stop !)) (look ! 10 refl)) (and-then ! (load ! (from ! (fld ! refl (stop !))) (look-in ! 32 (sub ! 1 refl (whole !)))) (no-more !)))) (from ! (stop !)) (init ! 8 refl (tt, (tt, (record { fits = room₁ .0 }, tt)))) $
-        assigns ! (addr ! (from ! (fld ! refl (hop ! (look-in ! 30 (sub ! 0 refl (whole !))) (stop !))))) (from ! (stop !)) (init ! 6 refl (tt, tt)) $
-        assigns ! (agg ! (and-then ! (load ! (from ! (stop !)) (look ! 6 refl)) (and-then ! (load ! (from ! (fld ! refl (stop !))) (look-in ! 30 (sub ! 1 refl (whole !)))) (no-more !)))) (from ! (stop !)) (init ! 4 refl (tt, (tt, (record { fits = room₂ .0 }, tt)))) $
-        -- in the call: [what it asks; _15; …]
-        writes-back ! mem run κ₁ κ₂ q₁ q₂ t₁ t₂ r gr fm known-write-back (and-then ! (load ! (from ! (stop !)) (look ! 5 refl)) (and-then ! (load ! (from ! (stop !)) (look ! 1 refl)) (and-then ! (load ! (from ! (stop !)) (look ! 19 refl)) (no-more !)))) (λ us vs e n₁ n₂.
-        land ! (from ! (stop !)) (init ! 12 refl (tt, tt)) $
-        assigns ! (of-opd ! (load ! (from ! (fld ! refl (stop !))) (look-in ! 22 (sub ! 2 refl (whole !))))) (from ! (stop !)) (init ! 34 refl (LL.lawful R.the-type R′.the-laws 𝓤 H A W .typed (r .answer) _ (LL.owed N.the-type N′.the-laws r _ gr .1 .1 .0) .0)) $
-        returns ! (look ! 34 refl) $ forget ! 4 refl $ forget ! 6 refl $ forget ! 8 refl $ forget ! 10 refl $ forget ! 12 refl $ forget ! 14 refl $ forget ! 16 refl $ forget ! 18 refl $ forget ! 20 refl $ forget ! 22 refl $ forget ! 24 refl $ forget ! 26 refl $ forget ! 28 refl $ forget ! 30 refl $ forget ! 32 refl $ forget ! 34 refl $
-        move ! (34 ∷ 35 ∷ []) $ free1 ! $ move ! (32 ∷ 33 ∷ []) $ free1 ! $ move ! (30 ∷ 31 ∷ []) $ free1 ! $ move ! (28 ∷ 29 ∷ []) $ free1 ! $ move ! (26 ∷ 27 ∷ []) $ free1 ! $ move ! (24 ∷ 25 ∷ []) $ free1 ! $ move ! (22 ∷ 23 ∷ []) $ free1 ! $ move ! (20 ∷ 21 ∷ []) $ free1 ! $
-        move ! (18 ∷ 19 ∷ []) $ free1 ! $ move ! (16 ∷ 17 ∷ []) $ free1 ! $ move ! (14 ∷ 15 ∷ []) $ free1 ! $ move ! (12 ∷ 13 ∷ []) $ free1 ! $ move ! (10 ∷ 11 ∷ []) $ free1 ! $ move ! (8 ∷ 9 ∷ []) $ free1 ! $ move ! (6 ∷ 7 ∷ []) $ free1 ! $ move ! (4 ∷ 5 ∷ []) $ free1 ! $ free0 ! $
-        by ! (exits us vs e n₁ n₂ (LL.owed N.the-type N′.the-laws r _ gr .1 .1 .0)))))
-
-  walk : (C : Calls 𝓤 H) (Λ : Loops 𝓤 H) → FmC 𝓤 H (W .laws) C → Triple 𝓤 (C #workspace·look-at) (LookAt 𝓤 H A mem run) → Triple 𝓤 (C #workspace·released) (Released 𝓤 H A mem run) → Triple 𝓤 (C #workspace·write-back) (WriteBack 𝓤 H A mem run)
-      → ent 𝓤 (onEntry 𝓤 H A f.signature (κ₁, (κ₂, tt)) (q₁, (q₂, tt)) x vals) (WpFn 𝓤 H C Λ code.function (val t₁ ∷ val t₂ ∷ counts u ∷ vint w32 start ∷ []) Post)
-  walk C Λ fm k₁ k₂ k₃ =
-      qed W ((‵ (flft κ₁ q₁) ⊛ (‵ (flft κ₂ q₂) ⊛ ‵ ftrue)) ∷ ‵ (owns (MutSlice (named 0) κ₁ T.the-row ∷ MutSlice (named 1) κ₂ T.the-row ∷ S.the-row ∷ u32 ∷ []) x vals) ∷ []) ∵ enter ! C Λ code.function (val t₁ ∷ val t₂ ∷ counts u ∷ vint w32 start ∷ []) _ $
-      alloc1 ! (λ l₀. alloc1 ! (λ l₁. alloc1 ! (λ l₂. alloc1 ! (λ l₃. alloc1 ! (λ l₄. alloc1 ! (λ l₅. alloc1 ! (λ l₆. alloc1 ! (λ l₇. alloc1 ! (λ l₈. alloc1 ! (λ l₉. alloc1 ! (λ l₁₀. alloc1 ! (λ l₁₁. alloc1 ! (λ l₁₂. alloc1 ! (λ l₁₃. alloc1 ! (λ l₁₄. alloc1 ! (λ l₁₅. alloc0 ! $ params1 ! $
-      pass1 ! (init ! 28 refl (tt, (tt, (record { fits = room₁ .0 }, tt)))) $ pass1 ! (init ! 26 refl (tt, (tt, (record { fits = room₂ .0 }, tt)))) $ pass1 ! (init ! 24 refl (LL.lawful S.the-type S′.the-laws 𝓤 H A W .typed u _ gu .0)) $ pass1 ! (init ! 22 refl (tt, record { fits = gs })) $ pass0 ! $
-      begins C Λ fm k₁ k₂ k₃ l₀ l₁ l₂ l₃ l₄ l₅ l₆ l₇ l₈ l₉ l₁₀ l₁₁ l₁₂ l₁₃ l₁₄ l₁₅))))))))))))))))
-
-module _ {M : Type 1} (𝓤 : URA M) (H : Heap 𝓤) (A : Atoms 𝓤) (W : Given 𝓤 H A) (mem : Memory → SProp 𝓤) (run : Routine → Fun 𝓤) where
-  release-walks : (C : Calls 𝓤 H) (Λ : Loops 𝓤 H) → FmC 𝓤 H (W .laws) C → Triple 𝓤 (C #workspace·look-at) (LookAt 𝓤 H A mem run) → Triple 𝓤 (C #workspace·released) (Released 𝓤 H A mem run) → Triple 𝓤 (C #workspace·write-back) (WriteBack 𝓤 H A mem run)
-      → Walks 𝓤 H A f.ended stayed (WpFn 𝓤 H C Λ code.function) (f.clauses 𝓤 H A mem run)
-  release-walks C Λ fm k₁ k₂ k₃ = walked 𝓤 H A f.ended stayed (f.clauses 𝓤 H A mem run) (WpFn 𝓤 H C Λ code.function) (λ κs. (slice-vals, (slice-vals, (LL.vals S.the-type S′.the-laws, (uint-vals w32, tt)))))
-      (λ κs. (mut-slice-tells (named 0) (κs .0) T.the-row, (mut-slice-tells (named 1) (κs .1 .0) T.the-row, (LL.tells S.the-type S′.the-laws, (uint-tells w32, tt)))))
-      (λ κs qs bounds a g are. via 𝓤 _ (fst∗ 𝓤 _ (emp 𝓤)) (walk 𝓤 H A W mem run (κs .0) (κs .1 .0) (qs .0) (qs .1 .0) (record { b = a .0 .ptr .0; o = a .0 .ptr .1; γ = a .0 .name; now = a .0 .now }) (record { b = a .1 .0 .ptr .0; o = a .1 .0 .ptr .1; γ = a .1 .0 .name; now = a .1 .0 .now }) (a .1 .1 .0) (a .1 .1 .1 .0)
-      (are .0 .0 .1) (are .1 .0 .0 .1) (are .1 .1 .0) (are .1 .1 .1 .0 .1) C Λ fm k₁ k₂ k₃))
-
-  goes : AllGo 𝓤 H A W 2 (f.signature .params) (f.ended .kept) stayed
-  goes = (goes-gave-slice 𝓤 H A W 2 0 tt (plain (λ _. T.the-row)), (goes-gave-slice 𝓤 H A W 2 1 tt (plain (λ _. T.the-row)), (goes-none 𝓤 H A W 2 (λ _. S.the-row) yes (λ κs x f. refl), (goes-none 𝓤 H A W 2 (λ _. u32) yes (λ κs x f. refl), tt))))
-
-release-meets : {M : Type 1} (𝓤 : URA M) (H : Heap 𝓤) (A : Atoms 𝓤) → Given 𝓤 H A → (mem : Memory → SProp 𝓤) (run : Routine → Fun 𝓤) (𝓣 : Tables 𝓤 H) → Triple 𝓤 (𝓣 .C #workspace·look-at) (LookAt 𝓤 H A mem run) → Triple 𝓤 (𝓣 .C #workspace·released) (Released 𝓤 H A mem run) → Triple 𝓤 (𝓣 .C #workspace·write-back) (WriteBack 𝓤 H A mem run)
-    → Meets 𝓤 H A f.signature (WpFn 𝓤 H (𝓣 .C) (𝓣 .Λ) code.function) (f.spec 𝓤 H A mem run)
-release-meets 𝓤 H A W mem run 𝓣 k₁ k₂ k₃ = walk-meets 𝓤 H A f.ended stayed W (goes 𝓤 H A W mem run) (f.clauses 𝓤 H A mem run) (WpFn 𝓤 H (𝓣 .C) (𝓣 .Λ) code.function) (WpFn-mono 𝓤 H (W .laws) 𝓣 code.function) (release-walks 𝓤 H A W mem run (𝓣 .C) (𝓣 .Λ) (fmOf 𝓤 H (W .laws) 𝓣) k₁ k₂ k₃)
+-- the code, statement by statement
+code-walked : function #workspace·released any ≡ code.function
+code-walked = refl
 
 pub release-spec : {M : Type 1} → stated.statement M
 unfolding code.routine tablesOf
 release-spec 𝓤 H 𝓜 𝓖 𝓡 =
     entered 𝓤 H (tripleOf 𝓤 H (𝓖 .A) f.signature (f.spec 𝓤 H (𝓖 .A) (𝓜 .mem) (𝓡 .run)))
     (tables 𝓤 H 𝓜 𝓡 code.env .C) (tables 𝓤 H 𝓜 𝓡 code.env .Λ) #workspace·release code.function (code.unfolded 𝓤 H 𝓜 𝓡)
-    (release-meets 𝓤 H (𝓖 .A) (givenOf 𝓤 H 𝓜 𝓖) (𝓜 .mem) (𝓡 .run) (tablesOf 𝓤 H 𝓜 (tables 𝓤 H 𝓜 𝓡 code.env))
+    (operates 𝓤 H (𝓖 .A) (givenOf 𝓤 H 𝓜 𝓖) (𝓜 .mem) (𝓡 .run) releaseSeen releaseOf any release-says #workspace·released code-walked (tablesOf 𝓤 H 𝓜 (tables 𝓤 H 𝓜 𝓡 code.env))
     (cited 𝓤 H (LookAt 𝓤 H (𝓖 .A) (𝓜 .mem) (𝓡 .run)) 𝓜 𝓡 code.env #workspace·look-at look-at-def.routine code.calls-workspace·lent·look-at (look-at-thm.met 𝓤 H 𝓜 𝓖 𝓡))
-    (cited 𝓤 H (Released 𝓤 H (𝓖 .A) (𝓜 .mem) (𝓡 .run)) 𝓜 𝓡 code.env #workspace·released released-def.routine code.calls-workspace·steps·released (released-thm.met 𝓤 H 𝓜 𝓖 𝓡))
+    (cited 𝓤 H (Does 𝓤 H (𝓖 .A) releaseSeen) 𝓜 𝓡 code.env #workspace·released released-def.routine code.calls-workspace·steps·released (released-thm.met 𝓤 H 𝓜 𝓖 𝓡))
     (cited 𝓤 H (WriteBack 𝓤 H (𝓖 .A) (𝓜 .mem) (𝓡 .run)) 𝓜 𝓡 code.env #workspace·write-back write-back-def.routine code.calls-workspace·lent·write-back (write-back-thm.met 𝓤 H 𝓜 𝓖 𝓡)))

@@ -5,11 +5,10 @@ use Rattle.workspace.proofs.lent.place_after.Tie as tie
 
 returns : tie.Need-returns
 returns c =
-    let c1 = c .before in
-    let c2 = c1 .before in
-    let c4 = c2 .before .before in
-    let a = c4 .args in
-    after-law (a .t) (a .i) (a .x) (c2 .nth .ensures) (c1 .pick-stretch .ensures) (c .pick-stretch2 .ensures)
+    let rest = c .before in
+    let noted = rest .before in
+    let a = noted .before .before .args in
+    after-law (a .t) (a .i) (a .x) (noted .nth .ensures) (rest .pick-stretch .ensures) (c .pick-stretch2 .ensures)
 
 pub place-after-spec : {M : Type 1} → statement M
 place-after-spec =

@@ -5,15 +5,14 @@ use Rattle.workspace.proofs.rules.keeps.Tie as tie
 
 returns : tie.Need-returns
 returns c =
-    let c4 = c .before .before .before .before in
-    let c5 = c4 .before in
-    let c6 = c5 .before in
-    let c7 = c6 .before in
-    let c8 = c7 .before in
-    let c9 = c8 .before in
-    let c14 = c9 .before .before .before .before .before in
-    let a = c14 .args in
-    keep-law (a .seen) (a .used) (c7 .has-seen .ensures) (c9 .at-most-32 .ensures) (c8 .at-most-322 .ensures) (c6 .all-none .ensures) (c5 .all-none2 .ensures) (c4 .tiles .ensures)
+    let t = c .before .before .before .before in
+    let y = t .before in
+    let x = y .before in
+    let h = x .before in
+    let n = h .before in
+    let m = n .before in
+    let a = m .before .before .before .before .before .args in
+    keep-law (a .seen) (a .used) (h .has-seen .ensures) (m .at-most-32 .ensures) (n .at-most-322 .ensures) (x .all-none .ensures) (y .all-none2 .ensures) (t .tiles .ensures)
 
 pub keeps-spec : {M : Type 1} → statement M
 keeps-spec =

@@ -5,10 +5,9 @@ use Rattle.workspace.proofs.steps.block_at.Tie as tie
 
 returns : tie.Need-returns
 returns c =
-    let c1 = c .before in
-    let c4 = c1 .before .before .before in
-    let a = c4 .args in
-    block-law (a .seen) (a .used) (a .start) (c1 .at-most-32 .ensures) (c .place-of .ensures)
+    let m = c .before in
+    let a = m .before .before .before .args in
+    block-law (a .seen) (a .used) (a .start) (m .at-most-32 .ensures) (c .place-of .ensures)
 
 pub block-at-spec : {M : Type 1} → statement M
 block-at-spec = tie.close (tie.spec (λ c κs. search needs) (λ c κs. search needs) returns)

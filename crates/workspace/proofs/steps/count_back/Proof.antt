@@ -5,15 +5,14 @@ use Rattle.workspace.proofs.steps.count_back.Tie as tie
 
 returns : tie.Need-returns
 returns c =
-    let c1 = c .before in
-    let c2 = c1 .before in
-    let c3 = c2 .before in
-    let c4 = c3 .before in
-    let c5 = c4 .before in
-    let c6 = c5 .before in
-    let c7 = c6 .before in
-    let a = c7 .args in
-    count-law (a .b) (a .k) (a .n) (a .l) (c6 .touches-low .ensures) (c5 .touches-high .ensures) (c4 .down .ensures) (c3 .pick-usize .ensures) (c2 .down2 .ensures) (c1 .pick-usize2 .ensures) (c .up .ensures)
+    let rest = c .before in
+    let least = rest .before in
+    let m = least .before in
+    let fewer = m .before in
+    let high = fewer .before in
+    let low = high .before in
+    let a = low .before .args in
+    count-law (a .b) (a .k) (a .n) (a .l) (low .touches-low .ensures) (high .touches-high .ensures) (fewer .down .ensures) (m .pick-usize .ensures) (least .down2 .ensures) (rest .pick-usize2 .ensures) (c .up .ensures)
 
 pub count-back-spec : {M : Type 1} → statement M
 count-back-spec =

@@ -5,14 +5,13 @@ use Rattle.workspace.proofs.steps.made.Tie as tie
 
 returns : tie.Need-returns
 returns c =
-    let c1 = c .before in
-    let c2 = c1 .before in
-    let c3 = c2 .before in
-    let c4 = c3 .before in
-    let c6 = c4 .before .before in
-    let c7 = c6 .before in
-    let a = c7 .args in
-    fresh-law (a .seen) (c6 .empty .ensures) (c4 .with-at .ensures) (c3 .done-as .ensures) (c2 .has-seen .ensures) (c1 .pick-u8 .ensures) (c .unless-refused .ensures)
+    let refusal = c .before in
+    let h = refusal .before in
+    let area = h .before in
+    let one = area .before in
+    let e = one .before .before in
+    let a = e .before .args in
+    fresh-law (a .seen) (e .empty .ensures) (one .with-at .ensures) (area .done-as .ensures) (h .has-seen .ensures) (refusal .pick-u8 .ensures) (c .unless-refused .ensures)
 
 pub made-spec : {M : Type 1} → statement M
 made-spec =

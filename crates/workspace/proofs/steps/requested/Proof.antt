@@ -5,11 +5,10 @@ use Rattle.workspace.proofs.steps.requested.Tie as tie
 
 returns : tie.Need-returns
 returns c =
-    let c1 = c .before in
-    let c2 = c1 .before in
-    let c3 = c2 .before in
-    let a = c3 .args in
-    request-law (a .seen) (a .used) (a .size) (c2 .request-refusal .ensures) (c1 .granted .ensures) (c .unless-refused .ensures)
+    let taken = c .before in
+    let refusal = taken .before in
+    let a = refusal .before .args in
+    request-law (a .seen) (a .used) (a .size) (refusal .request-refusal .ensures) (taken .granted .ensures) (c .unless-refused .ensures)
 
 pub requested-spec : {M : Type 1} → statement M
 requested-spec =

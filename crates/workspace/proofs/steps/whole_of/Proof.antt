@@ -5,18 +5,17 @@ use Rattle.workspace.proofs.steps.whole_of.Tie as tie
 
 returns : tie.Need-returns
 returns c =
-    let c1 = c .before in
-    let c2 = c1 .before in
-    let c3 = c2 .before in
-    let c4 = c3 .before in
-    let c5 = c4 .before in
-    let c6 = c5 .before in
-    let c7 = c6 .before in
-    let c8 = c7 .before in
-    let c9 = c8 .before in
-    let c10 = c9 .before in
-    let a = c10 .args in
-    whole-law (a .b) (a .k) (a .l) (c9 .touches-low .ensures) (c8 .touches-high .ensures) (c7 .down .ensures) (c6 .nth .ensures) (c5 .nth2 .ensures) (c4 .pick-u32 .ensures) (c3 .pick-u322 .ensures) (c2 .pick-u323 .ensures) (c1 .wrapping-add-u32 .ensures) (c .wrapping-add-u322 .ensures)
+    let front = c .before in
+    let behind = front .before in
+    let ahead = behind .before in
+    let start = ahead .before in
+    let y = start .before in
+    let x = y .before in
+    let j = x .before in
+    let high = j .before in
+    let low = high .before in
+    let a = low .before .args in
+    whole-law (a .b) (a .k) (a .l) (low .touches-low .ensures) (high .touches-high .ensures) (j .down .ensures) (x .nth .ensures) (y .nth2 .ensures) (start .pick-u32 .ensures) (ahead .pick-u322 .ensures) (behind .pick-u323 .ensures) (front .wrapping-add-u32 .ensures) (c .wrapping-add-u322 .ensures)
 
 pub whole-of-spec : {M : Type 1} → statement M
 whole-of-spec =
