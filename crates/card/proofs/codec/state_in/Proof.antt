@@ -3,7 +3,7 @@ use borrow.Author.Needs.{needs}
 use Prim.Native.Nat.{ℕ, _+_, _-_, _*_, _≤_}
 use mathlib.Core.Path.{_≡_, sym, ap, subst, _∙_}
 use mathlib.Core.Bool.{true, false}
-use lib.ListN.{length, drop, length-take, length-drop}
+use lib.ListN.{length, take, drop, length-take, length-drop}
 use denote.Ref.{now}
 use Rattle.calls.specs.Record.{byte}
 use Rattle.rules.specs.declared.Supervisor.{Supervisor}
@@ -66,10 +66,10 @@ returns-2 c =
     let b = now (u .before .before .before .before .args .b) in
     let q = filled-end b (u .used-tasks .result) (l .i) (l .s .tasks) (omega arith) (u .used-tasks .ensures) (l .inv .3) in
     let w = c .before .before .before .before .before .word .ensures in
-    let l₁ = c .before .before .before .before .line-from .ensures in
-    let l₂ = c .before .before .before .line-from2 .ensures in
-    let l₃ = c .before .before .line-from3 .ensures in
-    let l₄ = c .before .line-from4 .ensures in
+    let l₁ : c .before .before .before .before .line-from .result ≡ take 31 (drop 315 b) = c .before .before .before .before .line-from .ensures in
+    let l₂ : c .before .before .before .line-from2 .result ≡ take 31 (drop 346 b) = c .before .before .before .line-from2 .ensures in
+    let l₃ : c .before .before .line-from3 .result ≡ take 31 (drop 377 b) = c .before .before .line-from3 .ensures in
+    let l₄ : c .before .line-from4 .result ≡ take 31 (drop 408 b) = c .before .line-from4 .ensures in
     state-tested b _ true (u .before .if1 .left) (tested t ∙ end .before .before .if2 .taken)
     (λ i. record { clock = w i; created = byte b 4; tasks = q i; ready = l₁ i; callers = l₂ i; held = l₃ i; delays = l₄ i })
 
