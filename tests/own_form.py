@@ -14,8 +14,8 @@ FUNCTIONS = [
     "soundness::is_sound",
     "table::dispatch::running",
     "calls::reader::read_record",
-    "card::codec::state_in",
-    "card::codec::store",
+    "codec::state_in",
+    "codec::store",
 ]
 
 # a program that uses the library, so that the compiler gets all of it

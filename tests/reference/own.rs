@@ -19,9 +19,9 @@ pub struct Form([u8; 640]);
 struct Slice(*const u8, usize);
 
 extern "C" {
-    #[link_name = "card::codec::state_in"]
+    #[link_name = "codec::state_in"]
     fn state_in(state: *mut Form, bytes: *const Slice);
-    #[link_name = "card::codec::store"]
+    #[link_name = "codec::store"]
     fn store(state: *const Form, bytes: *const Slice);
     #[link_name = "calls::reader::read_record"]
     fn read_record(read: *mut Form, record: *const Slice);

@@ -4,7 +4,8 @@ use lib.ListN.{length, drop}
 use lib.Dec.{ltb}
 use denote.Ref.{now}
 use borrow.Author.Tests.{lt-ltb, le-ltb}
-use Rattle.card.proofs.CardLaws.{if-true, if-false, one-set}
+use Rattle.codec.proofs.CodecLaws.{if-true, if-false}
+use Rattle.card.proofs.CardLaws.{one-set}
 use borrow.Author.Needs.{needs}
 use Rattle.card.proofs.put_one.Statement.{statement}
 use Rattle.card.proofs.put_one.Tie as tie
