@@ -14,8 +14,8 @@ FUNCTIONS = [
     "soundness::is_sound",
     "table::dispatch::running",
     "calls::reader::read_record",
-    "card::codec::state_in",
-    "card::codec::store",
+    "codec::state_in",
+    "codec::store",
     "card::card_step",
 ]
 

@@ -20,9 +20,9 @@ pub struct Form([u8; 640]);
 struct Slice(*const u8, usize);
 
 extern "C" {
-    #[link_name = "card::codec::state_in"]
+    #[link_name = "codec::state_in"]
     fn state_in(state: *mut Form, bytes: *const Slice);
-    #[link_name = "card::codec::store"]
+    #[link_name = "codec::store"]
     fn store(state: *const Form, bytes: *const Slice);
     #[link_name = "card::card_step"]
     fn card_step(state: *const Slice, record: *const Slice, room: *const Slice, answer: *const Slice) -> u8;

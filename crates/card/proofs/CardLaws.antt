@@ -20,17 +20,9 @@ use Rattle.rules.specs.declared.Answer.{Answer}
 use Rattle.rules.specs.declared.Count.{Count}
 use Rattle.rules.specs.declared.Stepped.{Stepped}
 use Rattle.rules.specs.declared.Supervisor.{Supervisor}
-use Rattle.card.specs.Layout.{stateIn, stored}
+use Rattle.codec.specs.Layout.{stateIn, stored}
+use Rattle.codec.proofs.CodecLaws.{if-true, if-false}
 use Rattle.card.specs.Answers.{stepBy, cardStep, stateAfter, answerBytes, ifRoom, oneAfter, runningRefusal, runningTask}
-
--- the choice of a test that is known
-pub if-true : {A : Type 0} (b : Bool) (x y : A) → b ≡ true → (if b then x else y) ≡ x
-if-true true x y e = refl
-if-true false x y e = let z : _≡_ {A = ℕ} 0 1 = cc in absurd (omega arith)
-
-pub if-false : {A : Type 0} (b : Bool) (x y : A) → b ≡ false → (if b then x else y) ≡ y
-if-false true x y e = let z : _≡_ {A = ℕ} 0 1 = cc in absurd (omega arith)
-if-false false x y e = refl
 
 -- the first byte of lent bytes is set
 pub one-set : (l : List ℕ) (v : ℕ) → 1 ≤ length l → set l 0 v ≡ v ∷ drop 1 l

@@ -1,6 +1,3 @@
-pub mod CodecLaws
-pub mod UsedLaws
 pub mod CardLaws
-pub mod Kept
-pub mod Exact
+pub mod NoEncoding
 pub mod Unique

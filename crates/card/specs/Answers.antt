@@ -13,7 +13,7 @@ use Rattle.rules.specs.Step.{none}
 use Rattle.rules.specs.Whole.{Whole, view, soundWhole, stepWhole}
 use Rattle.rules.specs.declared.Answer.{Answer}
 use Rattle.rules.specs.declared.Supervisor.{Supervisor}
-use Rattle.card.specs.Layout.{stateIn, stored}
+use Rattle.codec.specs.Layout.{stateIn, stored}
 
 -- a record that cannot be read: no step is made, and every number but the refusal is 0
 abbrev pub unread : Supervisor → ℕ → Whole

@@ -1,3 +1,1 @@
-pub mod Layout
-pub mod Used
 pub mod Answers

@@ -10,10 +10,7 @@ ghost use Rattle.rules.specs.State.{empty};
 ghost use Rattle.rules.specs.Step.{roomAfter};
 ghost use Rattle.rules.specs.Whole.{pack, soundWhole, stepWhole, answerOf};
 ghost use Rattle.card.specs.Answers.{cardStep, stateAfter, answerBytes, ifRoom, oneAfter, runningRefusal, runningTask};
-ghost use Rattle.card.specs.Layout.{stateIn, stored};
-
-mod codec;
-
+ghost use Rattle.codec.specs.Layout.{stateIn, stored};
 use calls::Call;
 use calls::Read;
 use codec::put_at;

@@ -5,9 +5,9 @@ use borrow.Author.Tests.{lt-ltb, le-ltb}
 use Rattle.rules.specs.State.{empty}
 use Rattle.rules.specs.Whole.{pack}
 use Rattle.rules.specs.declared.Supervisor.{Supervisor}
-use Rattle.card.specs.Layout.{stored}
-use Rattle.card.proofs.CodecLaws.{stored-short}
-use Rattle.card.proofs.CardLaws.{if-true, if-false}
+use Rattle.codec.specs.Layout.{stored}
+use Rattle.codec.proofs.CodecLaws.{stored-short}
+use Rattle.codec.proofs.CodecLaws.{if-true, if-false}
 use borrow.Author.Needs.{needs}
 use Rattle.card.proofs.card_empty.Statement.{statement}
 use Rattle.card.proofs.card_empty.Tie as tie

@@ -1,7 +1,7 @@
 use mathlib.Core.Path.{_∙_}
 use denote.Ref.{now}
 use Rattle.card.specs.Answers.{answerBytes}
-use Rattle.card.proofs.CodecLaws.{placed-fits}
+use Rattle.codec.proofs.CodecLaws.{placed-fits}
 use borrow.Author.Needs.{needs}
 use Rattle.card.proofs.put_answer.Statement.{statement}
 use Rattle.card.proofs.put_answer.Tie as tie

@@ -1,8 +1,11 @@
 use mathlib.Core.Path.{sym, _∙_}
-use lib.ListN.{length}
+use mathlib.Core.List.{_∷_}
+use lib.ListN.{length, drop}
+use lib.Dec.{ltb}
 use denote.Ref.{now}
 use borrow.Author.Tests.{lt-ltb, le-ltb}
-use Rattle.card.proofs.CardLaws.{if-true, if-false, one-set}
+use Rattle.codec.proofs.CodecLaws.{if-true, if-false}
+use Rattle.card.proofs.CardLaws.{one-set}
 use borrow.Author.Needs.{needs}
 use Rattle.card.proofs.put_one.Statement.{statement}
 use Rattle.card.proofs.put_one.Tie as tie
@@ -14,7 +17,8 @@ returns-2 : tie.Need-returns-2
 returns-2 c =
     let l = now (c .before .args .answer) in
     let f = le-ltb (length l) 1 (c .if1 .left) in
-    (sym (if-false _ _ _ f), one-set l (c .before .args .value) (c .if1 .left) ∙ sym (if-false _ _ _ f))
+    let v = c .before .args .value in
+    (sym (if-false _ _ _ f), one-set l v (c .if1 .left) ∙ sym (if-false (ltb (length l) 1) l (v ∷ drop 1 l) f))
 
 pub put-one-spec : {M : Type 1} → statement M
 put-one-spec = tie.close (tie.spec returns (λ c. search needs) (λ c. search needs) returns-2)

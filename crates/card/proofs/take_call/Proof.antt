@@ -4,7 +4,7 @@ use denote.Ref.{now}
 use Rattle.rules.specs.Step.{roomAfter}
 use Rattle.rules.specs.Whole.{steppedOf, stepWhole}
 use Rattle.rules.specs.declared.Supervisor.{Supervisor}
-use Rattle.card.specs.Layout.{stateIn}
+use Rattle.codec.specs.Layout.{stateIn}
 use Rattle.card.proofs.CardLaws.{did-take, did-refuse}
 use borrow.Author.Needs.{needs}
 use Rattle.card.proofs.take_call.Statement.{statement}

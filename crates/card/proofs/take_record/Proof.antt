@@ -1,7 +1,7 @@
 use mathlib.Core.Path.{refl, ap, _∙_}
 use lib.ListN.{length}
 use denote.Ref.{now}
-use Rattle.card.specs.Layout.{stateIn}
+use Rattle.codec.specs.Layout.{stateIn}
 use Rattle.card.specs.Answers.{stepBy}
 use Rattle.card.proofs.CardLaws.{step-by, did-as}
 use borrow.Author.Needs.{needs}

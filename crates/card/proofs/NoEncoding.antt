@@ -1,0 +1,23 @@
+-- A step on bytes that are no encoding is refused with BAD_STATE. Assumes nothing.
+use Prim.Native.Nat.{ℕ, _≤_}
+use mathlib.Core.Path.{_≡_, sym, ap, _∙_}
+use mathlib.Core.Bool.{true, false, not}
+use mathlib.Core.List.{List}
+use borrow.Author.Tests.{le-ltb}
+use lib.Dec.{ltb}
+use Rattle.calls.specs.Reading.{readOf}
+use Rattle.calls.specs.declared.Call as C
+use Rattle.calls.specs.declared.Read.the-variants.{Record}
+use Rattle.rules.specs.Whole.{soundWhole, stepWhole}
+use Rattle.codec.specs.Layout.{isEncoding, stateIn}
+use Rattle.codec.proofs.CodecLaws.{if-true, if-false}
+use Rattle.codec.proofs.Kept.{no-encoding}
+use Rattle.card.specs.Answers.{cardStep}
+use Rattle.card.proofs.CardLaws.{step-by}
+
+pub no-encoding-refused : (b rec : List ℕ) (n k : ℕ) (c : C.Call) → isEncoding b ≡ false → 124 ≤ n → readOf rec ≡ Record c k → cardStep b rec n .refusal ≡ 2
+unfolding stepWhole
+no-encoding-refused b rec n k c e h r =
+    let p = step-by b rec n (Record c k) (sym r) in
+    let u : not (soundWhole (stateIn b)) ≡ true = ap not (no-encoding b e) in
+    ap (λ w. w .refusal) (p ∙ if-false (ltb n 124) _ _ (le-ltb n 124 h) ∙ if-true (not (soundWhole (stateIn b))) _ _ u)

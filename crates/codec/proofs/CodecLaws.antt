@@ -1,0 +1,190 @@
+-- Pieces put one behind the other, and tasks read one behind the other. Assumes nothing.
+use Prim.Native.Nat.{ℕ, suc, _+_, _-_, _*_, _<_, _≤_}
+use mathlib.Core.Path.{_≡_, refl, sym, ap, _∙_}
+use mathlib.Core.Bool.{Bool, true, false, _&&_}
+use mathlib.Core.List.{List, [], _∷_, _++_, append-assoc, append-nil}
+use native.Mathlib.Numerals.{add-one}
+use native.Mathlib.Omega.{arith}
+use lib.ListN.{length, replicate, getD, set, take, drop, take-append-drop, length-append, length-take, length-drop, drop-of-length-le}
+use lib.Seq.{take-at, drop-at, drop-drop, take-all, take-suc-set, append-snoc, drop-cons, take-length}
+use borrow.Rule.Slice.PartMut.{putMid}
+use borrow.Author.Tests.{le-leb, lt-leb, lt-ltb, le-ltb}
+use Rattle.lists.specs.Lists.{if_then_else_}
+use Rattle.calls.specs.Duration.{bytesOf}
+use Rattle.rules.specs.declared.Task.{Task}
+use Rattle.rules.specs.declared.Supervisor.{Supervisor}
+use Rattle.codec.specs.Layout.{taskBytes, tasksBytes, encode, isTask, taskFrom, areTasks, tasksFrom, isEncoding, decode, lost, stateIn, putAt, placedAt, placedLines, stored}
+
+-- the choice of a test that is known
+pub if-true : {A : Type 0} (b : Bool) (x y : A) → b ≡ true → (if b then x else y) ≡ x
+if-true true x y e = refl
+if-true false x y e = let z : _≡_ {A = ℕ} 0 1 = cc in absurd (omega arith)
+
+pub if-false : {A : Type 0} (b : Bool) (x y : A) → b ≡ false → (if b then x else y) ≡ y
+if-false true x y e = let z : _≡_ {A = ℕ} 0 1 = cc in absurd (omega arith)
+if-false false x y e = refl
+
+-- ── pieces put one behind the other ──
+
+pub rest-all : (b : List ℕ) (k : ℕ) → k ≤ length b → take (length b - k) (drop k b) ≡ drop k b
+rest-all b k h = take-all (length b - k) (drop k b) (simp length-drop (omega arith))
+
+module _ (b : List ℕ) (k : ℕ) (x : List ℕ) (h : k + length x ≤ length b) where
+  pub put-length : length (putAt b k x) ≡ length b
+  put-length = simp (length-append, length-take, length-drop) (omega arith)
+
+  seam : length (take k b ++ x) ≡ k + length x
+  seam = simp (length-append, length-take) (omega arith)
+
+  pub put-put : (y : List ℕ) → putAt b k (x ++ y) ≡ putAt (putAt b k x) (k + length x) y
+  put-put y =
+      let d = drop (k + length x) b in
+      let long : length (x ++ y) ≡ length x + length y = length-append x y in
+      let sum : k + length x + length y ≡ k + length (x ++ y) = omega arith in
+      let over : drop (k + length x + length y) ((take k b ++ x) ++ d) ≡ drop (k + length (x ++ y)) b =
+      sym (drop-drop (length y) (k + length x) ((take k b ++ x) ++ d))
+      ∙ ap (λ (l : List ℕ). drop (length y) l) (drop-at (take k b ++ x) d (k + length x) seam)
+      ∙ drop-drop (length y) (k + length x) b
+      ∙ ap (λ (n : ℕ). drop n b) sum in
+      rw (
+        ← append-assoc (take k b) x d,
+        take-at (take k b ++ x) d (k + length x) seam,
+        over,
+      )
+      (simp append-assoc)
+
+pub put-none : (b : List ℕ) (k : ℕ) → putAt b k [] ≡ b
+put-none b k = rw (plus-zero k) (take-append-drop k b)
+  where
+    plus-zero : (k : ℕ) → k + 0 ≡ k
+    plus-zero k = omega arith
+
+-- the next piece of those put from the start
+pub put-next : (b pre piece : List ℕ) (at : ℕ) → length pre ≡ at → at ≤ length b → putAt (putAt b 0 pre) at piece ≡ putAt b 0 (pre ++ piece)
+put-next b pre piece at e h =
+    let z : at ≡ 0 + length pre = omega arith in
+    rw z (sym (put-put b 0 pre (omega arith) piece))
+
+-- ── tasks ──
+
+pub tasks-long : (l : List Task) → length (tasksBytes l) ≡ length l * 10
+tasks-long [] = refl
+tasks-long (x ∷ xs) = let ih = tasks-long xs in omega arith
+
+-- one turn further: n + 1 turns from k are the one at k and n from k + 10
+pub are-turn : (n k : ℕ) (b : List ℕ) → areTasks (suc n) (drop k b) ≡ (isTask (drop k b) && areTasks n (drop (k + 10) b))
+unfolding areTasks
+are-turn n k b = rw (drop-drop 10 k b)
+
+pub from-turn : (n k : ℕ) (b : List ℕ) → tasksFrom (suc n) (drop k b) ≡ taskFrom (drop k b) ∷ tasksFrom n (drop (k + 10) b)
+unfolding tasksFrom
+from-turn n k b = rw (drop-drop 10 k b)
+
+-- the place of the next task, and the turns left
+pub next-place : (i : ℕ) → 5 + (i + 1) * 10 ≡ 5 + i * 10 + 10
+next-place i = omega arith
+
+pub turns : (n i : ℕ) → i < n → n - i ≡ suc (n - (i + 1))
+turns n i h = omega arith
+
+pub all-turns : (n : ℕ) → n - 0 ≡ n
+all-turns n = omega arith
+
+module _ (b : List ℕ) (n i : ℕ) (h : i < n) where
+  pub are-pass : isTask (drop (5 + i * 10) b) ≡ true → areTasks (n - i) (drop (5 + i * 10) b) ≡ areTasks (n - (i + 1)) (drop (5 + (i + 1) * 10) b)
+  are-pass e = rw (turns n i h, next-place i, are-turn (n - (i + 1)) (5 + i * 10) b, e)
+
+  pub are-fail : isTask (drop (5 + i * 10) b) ≡ false → areTasks (n - i) (drop (5 + i * 10) b) ≡ false
+  are-fail e = rw (turns n i h, are-turn (n - (i + 1)) (5 + i * 10) b, e)
+
+  pub from-next : (tasks : List Task) (x : Task) → i < length tasks → x ≡ taskFrom (drop (5 + i * 10) b)
+      → take i tasks ++ tasksFrom (n - i) (drop (5 + i * 10) b) ≡ take (i + 1) (set tasks i x) ++ tasksFrom (n - (i + 1)) (drop (5 + (i + 1) * 10) b)
+  from-next tasks x fits e =
+      rw (turns n i h, next-place i, from-turn (n - (i + 1)) (5 + i * 10) b, ← e, add-one i, take-suc-set tasks i x fits)
+      (sym (append-snoc (take i tasks) x (tasksFrom (n - suc i) (drop (5 + i * 10 + 10) b))))
+
+-- a copy into a part that is as long
+pub put-mid : (b x last : List ℕ) (k n : ℕ) → n ≡ length x → k + n ≤ length b → last ≡ take (length x) x ++ drop (length x) (take n (drop k b))
+    → putMid k n b last ≡ putAt b k x
+put-mid b x last k n z h e =
+    let short : length (take n (drop k b)) ≤ length x = simp (length-take, length-drop) (omega arith) in
+    let whole : last ≡ x = e ∙ (rw (take-length x, drop-of-length-le (take n (drop k b)) short) (append-nil x)) in
+    rw (whole, drop-drop n k b, z)
+
+-- a copy of a part into a fresh line
+pub line-copied : (b : List ℕ) (k : ℕ) (last : List ℕ) → k + 31 ≤ length b
+    → last ≡ take (length (take (k + 31 - k) (drop k b))) (take (k + 31 - k) (drop k b)) ++ drop (length (take (k + 31 - k) (drop k b))) (replicate 31 0)
+    → last ≡ take 31 (drop k b)
+line-copied b k last h e =
+    let n : k + 31 - k ≡ 31 = omega arith in
+    let long : length (take 31 (drop k b)) ≡ 31 = simp (length-take, length-drop) (omega arith) in
+    e ∙ rw (n, long) (append-nil (take 31 (take 31 (drop k b))) ∙ take-all 31 (take 31 (drop k b)) (omega arith))
+
+pub rest-cons : {A : Type 0} (l : List A) (i : ℕ) (d : A) → i < length l → drop i l ≡ getD l i d ∷ drop (i + 1) l
+rest-cons l i d h = rw (add-one i, drop-cons l i d)
+
+pub put-end : (room : List ℕ) (tasks : List Task) (i : ℕ) → i ≡ 31 → length tasks ≡ 31 → putAt room (5 + i * 10) (tasksBytes (drop i tasks)) ≡ room
+put-end room tasks i z h = rw (drop-of-length-le tasks {i = i} (omega arith)) (put-none room (5 + i * 10))
+
+pub put-turn : (i : ℕ) → i < 31 → (room : List ℕ) (tasks : List Task) (x : Task) → 439 ≤ length room → drop i tasks ≡ x ∷ drop (i + 1) tasks
+    → putAt room (5 + i * 10) (tasksBytes (drop i tasks)) ≡ putAt (putAt room (5 + i * 10) (taskBytes x)) (5 + (i + 1) * 10) (tasksBytes (drop (i + 1) tasks))
+put-turn i h room tasks x r e = rw (e, next-place i) (put-put room (5 + i * 10) (taskBytes x) (omega arith) (tasksBytes (drop (i + 1) tasks)))
+
+-- a piece that has room is placed; one that has none is not
+pub placed-fits : (b : List ℕ) (k : ℕ) (x : List ℕ) → k + length x ≤ length b → placedAt b k x ≡ putAt b k x
+unfolding placedAt
+placed-fits b k x h = rw (le-leb (k + length x) (length b) h)
+
+pub placed-not : (b : List ℕ) (k : ℕ) (x : List ℕ) → length b < k + length x → b ≡ placedAt b k x
+unfolding placedAt
+placed-not b k x h = rw (lt-leb (k + length x) (length b) h)
+
+zero-plus : (n : ℕ) → 0 + n ≡ n
+zero-plus n = omega arith
+
+-- the pieces of a state, one behind the other from the start
+pub placed-next : (b pre piece : List ℕ) (at : ℕ) → length pre ≡ at → at + length piece ≤ length b → placedAt (putAt b 0 pre) at piece ≡ putAt b 0 (pre ++ piece)
+placed-next b pre piece at e h =
+    let long = put-length b 0 pre (omega arith) in
+    placed-fits (putAt b 0 pre) at piece (omega arith) ∙ put-next b pre piece at e (omega arith)
+
+module _ (b head tasks ready callers held delays : List ℕ) (h₀ : length head ≡ 5) (h₁ : length tasks ≡ 310) (h₂ : length ready ≡ 31) (h₃ : length callers ≡ 31) (h₄ : length held ≡ 31) (h₅ : length delays ≡ 31) (h : 439 ≤ length b) where
+  pub store-pieces : placedLines (putAt (placedAt b 0 head) 5 tasks) ready callers held delays ≡ head ++ tasks ++ ready ++ callers ++ held ++ delays ++ drop 439 b
+  store-pieces =
+      let p₁ = head ++ tasks in
+      let p₂ = p₁ ++ ready in
+      let p₃ = p₂ ++ callers in
+      let p₄ = p₃ ++ held in
+      let l₁ : length p₁ ≡ 315 = simp length-append (omega arith) in
+      let l₂ : length p₂ ≡ 346 = simp length-append (omega arith) in
+      let l₃ : length p₃ ≡ 377 = simp length-append (omega arith) in
+      let l₄ : length p₄ ≡ 408 = simp length-append (omega arith) in
+      let l₅ : length (p₄ ++ delays) ≡ 439 = simp length-append (omega arith) in
+      let e₁ = ap (λ (r : List ℕ). putAt r 5 tasks) (placed-fits b 0 head (omega arith)) ∙ put-next b head tasks 5 h₀ (omega arith) in
+      let e₂ = ap (λ (r : List ℕ). placedAt r 315 ready) e₁ ∙ placed-next b p₁ ready 315 l₁ (omega arith) in
+      let e₃ = ap (λ (r : List ℕ). placedAt r 346 callers) e₂ ∙ placed-next b p₂ callers 346 l₂ (omega arith) in
+      let e₄ = ap (λ (r : List ℕ). placedAt r 377 held) e₃ ∙ placed-next b p₃ held 377 l₃ (omega arith) in
+      let last : putAt b 0 (p₄ ++ delays) ≡ (p₄ ++ delays) ++ drop 439 b = rw (zero-plus (length (p₄ ++ delays)), l₅) in
+      ap (λ (r : List ℕ). placedAt r 408 delays) e₄ ∙ placed-next b p₄ delays 408 l₄ (omega arith) ∙ last
+
+-- what putting a state leaves
+pub stored-short : (b : List ℕ) (s : Supervisor) → length b < 439 → b ≡ stored s b
+unfolding stored
+stored-short b s h = rw (lt-ltb (length b) 439 h)
+
+pub stored-long : (b : List ℕ) (s : Supervisor) (r : List ℕ) → 439 ≤ length b → length (s .tasks) ≡ 31 → length (s .ready) ≡ 31 → length (s .callers) ≡ 31 → length (s .held) ≡ 31 → length (s .delays) ≡ 31
+    → r ≡ placedLines (putAt (placedAt b 0 (bytesOf (s .clock) ++ (s .created ∷ []))) 5 (tasksBytes (s .tasks))) (s .ready) (s .callers) (s .held) (s .delays)
+    → r ≡ stored s b
+unfolding stored encode
+stored-long b s r h t₁ t₂ t₃ t₄ t₅ e =
+    let t : length (tasksBytes (s .tasks)) ≡ 310 = omega (arith, tasks-long (s .tasks)) in
+    rw (le-ltb (length b) 439 h) (e ∙ store-pieces b (bytesOf (s .clock) ++ (s .created ∷ [])) (tasksBytes (s .tasks)) (s .ready) (s .callers) (s .held) (s .delays) refl t t₂ t₃ t₄ t₅ h)
+
+-- the state of lent bytes, by what the code has found
+pub state-short : (b : List ℕ) (r : Supervisor) → length b < 439 → r ≡ lost → r ≡ stateIn b
+unfolding stateIn isEncoding
+state-short b r h e = rw (lt-leb 439 (length b) h) e
+
+pub state-tested : (b : List ℕ) (r : Supervisor) (t : Bool) → 439 ≤ length b → areTasks 31 (drop 5 b) ≡ t → r ≡ (if t then decode b else lost) → r ≡ stateIn b
+unfolding stateIn isEncoding
+state-tested b r t h a e = rw (le-leb 439 (length b) h, a) e

@@ -1,0 +1,175 @@
+-- A state put into bytes is read back as that state, whatever bytes follow; bytes that are no encoding are no sound state. Assumes nothing.
+use Prim.Native.Nat.{ℕ, _+_, _/_, _%_, _≤_}
+use mathlib.Core.Path.{_≡_, refl, sym, ap, subst, _∙_}
+use mathlib.Core.Bool.{Bool, true, false, _&&_}
+use mathlib.Core.List.{List, [], _∷_, _++_, append-assoc}
+use native.Mathlib.Omega.{arith}
+use borrow.Author.Tests.{le-leb}
+use lib.ListN.{length, take, drop, length-append}
+use lib.Seq.{take-at, drop-at}
+use lib.Dec.{leb}
+use Rattle.calls.specs.Duration.{four, bytesOf}
+use Rattle.rules.specs.Whole.{soundWhole}
+use Rattle.rules.specs.declared.Task.{Task}
+use Rattle.rules.specs.declared.Timer.{Timer}
+use Rattle.rules.specs.declared.Timer.the-variants.{Off, Due}
+use Rattle.rules.specs.declared.Place.{Place}
+use Rattle.rules.specs.declared.Place.the-variants.{Blank, Ready, Delayed, Queued, Held, Accepting, Completed}
+use Rattle.rules.specs.declared.Supervisor.{Supervisor}
+use Rattle.codec.specs.Layout.{placeTag, placeFirst, placeSecond, timerTag, timerDue, taskBytes, tasksBytes, encode, isPlace, isTimer, placeFrom, timerFrom, isTask, taskFrom, areTasks, tasksFrom, isEncoding, decode, lost, stateIn}
+use Rattle.codec.proofs.CodecLaws.{if-true, if-false, tasks-long}
+
+-- ── a task ──
+
+four-back : (n : ℕ) → four (n / 16777216) (n / 65536 % 256) (n / 256 % 256) (n % 256) ≡ n
+four-back n = omega arith
+
+place-back : (p : Place) → (placeFrom (placeTag p) (placeFirst p) (placeSecond p) ≡ p) × (isPlace (placeTag p) (placeFirst p) (placeSecond p) ≡ true)
+place-back Blank = (refl, refl)
+place-back Ready = (refl, refl)
+place-back Delayed = (refl, refl)
+place-back (Queued q) = (refl, refl)
+place-back (Held m) = (refl, refl)
+place-back (Accepting o) = (refl, refl)
+place-back Completed = (refl, refl)
+
+-- the number of a due time's four bytes
+abbrev due : Timer → ℕ
+due w = let n = timerDue w in four (n / 16777216) (n / 65536 % 256) (n / 256 % 256) (n % 256)
+
+timer-back : (w : Timer) → (timerFrom (timerTag w) (due w) ≡ w) × (isTimer (timerTag w) (due w) ≡ true)
+timer-back Off = (refl, refl)
+timer-back (Due d) = (ap Due (four-back d), refl)
+
+both : (a b : Bool) → a ≡ true → b ≡ true → a && b ≡ true
+both true b e h = h
+both false b e h = e
+
+task-back : (x : Task) (more : List ℕ) → (taskFrom (taskBytes x ++ more) ≡ x) × (isTask (taskBytes x ++ more) ≡ true)
+task-back x more =
+    let p = place-back (x .place) in
+    let w = timer-back (x .timer) in
+    let from : taskFrom (taskBytes x ++ more) ≡ x = λ i. record { priority = x .priority; entries = x .entries; place = p .0 i; timer = w .0 i } in
+    (from, both (isPlace (placeTag (x .place)) (placeFirst (x .place)) (placeSecond (x .place))) (isTimer (timerTag (x .timer)) (due (x .timer))) (p .1) (w .1))
+
+tasks-back : (l : List Task) (more : List ℕ) → (tasksFrom (length l) (tasksBytes l ++ more) ≡ l) × (areTasks (length l) (tasksBytes l ++ more) ≡ true)
+unfolding tasksFrom areTasks
+tasks-back [] more = (refl, refl)
+tasks-back (x ∷ xs) more =
+    let ih = tasks-back xs more in
+    let t = task-back x (tasksBytes xs ++ more) in
+    let from : tasksFrom (length (x ∷ xs)) (tasksBytes (x ∷ xs) ++ more) ≡ x ∷ xs = λ i. t .0 i ∷ ih .0 i in
+    (from, both (isTask (taskBytes x ++ (tasksBytes xs ++ more))) (areTasks (length xs) (tasksBytes xs ++ more)) (t .1) (ih .1))
+
+-- ── a state ──
+
+line-at : (p x q : List ℕ) (k : ℕ) → length p ≡ k → length x ≡ 31 → take 31 (drop k (p ++ (x ++ q))) ≡ x
+line-at p x q k hp hx = rw (drop-at p (x ++ q) k hp) (take-at x q 31 hx)
+
+-- what stands where in the bytes of a state
+record Found (b t r c h d rest : List ℕ) : Type 0 where
+  long : length b ≡ 439 + length rest
+  tasks : drop 5 b ≡ t ++ (r ++ (c ++ (h ++ (d ++ rest))))
+  ready : take 31 (drop 315 b) ≡ r
+  callers : take 31 (drop 346 b) ≡ c
+  held : take 31 (drop 377 b) ≡ h
+  delays : take 31 (drop 408 b) ≡ d
+
+at-least : (n k m : ℕ) → n ≡ k + m → k ≤ n
+at-least n k m e = omega arith
+
+module _ (a t r c h d rest : List ℕ) (ha : length a ≡ 5) (ht : length t ≡ 310) (hr : length r ≡ 31) (hc : length c ≡ 31) (hh : length h ≡ 31) (hd : length d ≡ 31) where
+  abbrev whole : List ℕ
+  whole = a ++ t ++ r ++ c ++ h ++ d ++ rest
+
+  whole-long : length whole ≡ 439 + length rest
+  whole-long = simp length-append (omega arith)
+
+  at-tasks : drop 5 whole ≡ t ++ (r ++ (c ++ (h ++ (d ++ rest))))
+  at-tasks =
+      let e : whole ≡ a ++ (t ++ (r ++ (c ++ (h ++ (d ++ rest))))) = simp append-assoc in
+      rw e (drop-at a (t ++ (r ++ (c ++ (h ++ (d ++ rest))))) 5 ha)
+
+  at-ready : take 31 (drop 315 whole) ≡ r
+  at-ready =
+      let e : whole ≡ (a ++ t) ++ (r ++ (c ++ (h ++ (d ++ rest)))) = simp append-assoc in
+      let l : length (a ++ t) ≡ 315 = simp length-append (omega arith) in
+      rw e (line-at (a ++ t) r (c ++ (h ++ (d ++ rest))) 315 l hr)
+
+  at-callers : take 31 (drop 346 whole) ≡ c
+  at-callers =
+      let e : whole ≡ (a ++ t ++ r) ++ (c ++ (h ++ (d ++ rest))) = simp append-assoc in
+      let l : length (a ++ t ++ r) ≡ 346 = simp length-append (omega arith) in
+      rw e (line-at (a ++ t ++ r) c (h ++ (d ++ rest)) 346 l hc)
+
+  at-held : take 31 (drop 377 whole) ≡ h
+  at-held =
+      let e : whole ≡ (a ++ t ++ r ++ c) ++ (h ++ (d ++ rest)) = simp append-assoc in
+      let l : length (a ++ t ++ r ++ c) ≡ 377 = simp length-append (omega arith) in
+      rw e (line-at (a ++ t ++ r ++ c) h (d ++ rest) 377 l hh)
+
+  at-delays : take 31 (drop 408 whole) ≡ d
+  at-delays =
+      let e : whole ≡ (a ++ t ++ r ++ c ++ h) ++ (d ++ rest) = simp append-assoc in
+      let l : length (a ++ t ++ r ++ c ++ h) ≡ 408 = simp length-append (omega arith) in
+      rw e (line-at (a ++ t ++ r ++ c ++ h) d rest 408 l hd)
+
+  pieces : Found whole t r c h d rest
+  pieces = record { long = whole-long; tasks = at-tasks; ready = at-ready; callers = at-callers; held = at-held; delays = at-delays }
+
+-- what the types of the code say of a state: 31 tasks, and 31 places in each line
+pub record Sized (s : Supervisor) : Type 0 where
+  pub tasks : length (s .tasks) ≡ 31
+  pub ready : length (s .ready) ≡ 31
+  pub callers : length (s .callers) ≡ 31
+  pub held : length (s .held) ≡ 31
+  pub delays : length (s .delays) ≡ 31
+
+module _ (s : Supervisor) (z : Sized s) (rest : List ℕ) where
+  abbrev head : List ℕ
+  head = bytesOf (s .clock) ++ (s .created ∷ [])
+
+  abbrev more : List ℕ
+  more = s .ready ++ (s .callers ++ (s .held ++ (s .delays ++ rest)))
+
+  tasks-there : (tasksFrom 31 (tasksBytes (s .tasks) ++ more) ≡ s .tasks) × (areTasks 31 (tasksBytes (s .tasks) ++ more) ≡ true)
+  tasks-there =
+      subst (λ (n : ℕ). (tasksFrom n (tasksBytes (s .tasks) ++ more) ≡ s .tasks) × (areTasks n (tasksBytes (s .tasks) ++ more) ≡ true)) (z .tasks)
+      (tasks-back (s .tasks) more)
+
+  tasks-room : length (tasksBytes (s .tasks)) ≡ 310
+  tasks-room = let h = z .tasks in omega (arith, tasks-long (s .tasks))
+
+  found : Found (head ++ tasksBytes (s .tasks) ++ s .ready ++ s .callers ++ s .held ++ s .delays ++ rest) (tasksBytes (s .tasks)) (s .ready) (s .callers) (s .held) (s .delays) rest
+  found = pieces head (tasksBytes (s .tasks)) (s .ready) (s .callers) (s .held) (s .delays) rest refl tasks-room (z .ready) (z .callers) (z .held) (z .delays)
+
+  pub encoded : isEncoding (encode s ++ rest) ≡ true
+  unfolding isEncoding encode
+  encoded =
+      both (leb 439 (length (encode s ++ rest))) (areTasks 31 (drop 5 (encode s ++ rest)))
+      (le-leb 439 (length (encode s ++ rest)) (at-least (length (encode s ++ rest)) 439 (length rest) (found .long)))
+      (ap (areTasks 31) (found .tasks) ∙ tasks-there .1)
+
+  pub decode-encode : decode (encode s ++ rest) ≡ s
+  unfolding decode encode
+  decode-encode =
+      let t = ap (tasksFrom 31) (found .tasks) ∙ tasks-there .0 in
+      λ i. record {
+        clock = four-back (s .clock) i;
+        created = s .created;
+        tasks = t i;
+        ready = found .ready i;
+        callers = found .callers i;
+        held = found .held i;
+        delays = found .delays i;
+      }
+
+  -- what was put into lent bytes is found there
+  pub kept : stateIn (encode s ++ rest) ≡ s
+  unfolding stateIn
+  kept = if-true (isEncoding (encode s ++ rest)) (decode (encode s ++ rest)) lost encoded ∙ decode-encode
+
+-- bytes that are no encoding are no sound state
+pub no-encoding : (b : List ℕ) → isEncoding b ≡ false → soundWhole (stateIn b) ≡ false
+unfolding stateIn lost
+no-encoding b e = ap soundWhole (if-false (isEncoding b) (decode b) lost e) ∙ refl

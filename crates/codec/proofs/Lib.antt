@@ -1,0 +1,5 @@
+pub mod CodecLaws
+pub mod UsedLaws
+pub mod Kept
+pub mod Exact
+pub mod Unique

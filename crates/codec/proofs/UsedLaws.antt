@@ -1,0 +1,167 @@
+-- The tasks of the table that are not read are blank: their bytes are 0. Assumes nothing.
+use Prim.Native.Nat.{ℕ, zero, suc, _+_, _-_, _*_, _<_, _≤_}
+use mathlib.Core.Path.{_≡_, refl, sym, ap, _∙_}
+use mathlib.Core.Bool.{Bool, true, false, _&&_}
+use mathlib.Core.List.{List, [], _∷_, _++_, append-nil}
+use native.Mathlib.Omega.{arith}
+use borrow.Author.Tests.{eqb-true, ltb-false, lt-ltb, le-ltb}
+use lib.ListN.{length, replicate, set, take, drop, take-append-drop, length-set}
+use lib.Seq.{getD-take, getD-drop, drop-drop, drop-set-lt}
+use lib.Dec.{eqb, ltb}
+use Rattle.lists.specs.Lists.{if_then_else_}
+use Rattle.lists.proofs.ListLaws.{by-test}
+use Rattle.lists.proofs.Tests.{and-first, and-second}
+use Rattle.calls.specs.Record.{byte}
+use Rattle.rules.specs.State.{blank}
+use Rattle.rules.specs.declared.Task.{Task}
+use Rattle.codec.specs.Layout.{isTask, taskFrom, areTasks, tasksFrom, lost}
+use Rattle.codec.specs.Used.{areZero, tableFrom, usedTasks}
+use Rattle.codec.proofs.CodecLaws.{turns, all-turns, rest-cons, are-turn, from-turn, from-next}
+
+and-true : (a : Bool) → (a && true) ≡ a
+and-true true = refl
+and-true false = refl
+
+-- ── bytes that are 0 ──
+
+-- one turn further over the table, and its end
+pub zero-next : (b : List ℕ) (i : ℕ) (all : Bool) → i < 315 → 315 ≤ length b
+    → (all && areZero (tableFrom b i)) ≡ ((all && eqb (byte b i) 0) && areZero (tableFrom b (i + 1)))
+zero-next b i true h long = rw (turns 315 i h, rest-cons b i 0 (omega arith))
+zero-next b i false h long = refl
+
+pub zero-end : (b : List ℕ) (i : ℕ) (all : Bool) → 315 ≤ i → (all && areZero (tableFrom b i)) ≡ all
+zero-end b i all h = let z : 315 - i ≡ 0 = omega arith in rw z (and-true all)
+
+zero-in : (l : List ℕ) (j : ℕ) → areZero l ≡ true → byte l j ≡ 0
+zero-in [] j e = refl
+zero-in (x ∷ l) zero e = eqb-true x 0 (and-first (eqb x 0) (areZero l) e)
+zero-in (x ∷ l) (suc j) e = zero-in l j (and-second (eqb x 0) (areZero l) e)
+
+zero-at : (b : List ℕ) (from : ℕ) → areZero (tableFrom b from) ≡ true → (j : ℕ) → from ≤ j → j < 315 → byte b j ≡ 0
+zero-at b from e j h k =
+    let sum : j ≡ from + (j - from) = omega arith in
+    ap (λ (n : ℕ). byte b n) sum
+    ∙ sym (getD-drop from b (j - from) 0)
+    ∙ sym (getD-take (315 - from) (drop from b) (j - from) 0 (omega arith))
+    ∙ zero-in (tableFrom b from) (j - from) e
+
+-- ── ten bytes that are 0 are a blank task ──
+
+blank-task : (l : List ℕ) → ((j : ℕ) → j < 10 → byte l j ≡ 0) → (isTask l ≡ true) × (taskFrom l ≡ blank)
+blank-task l h =
+    let z₀ : byte l 0 ≡ 0 = h 0 (omega arith) in
+    let z₁ : byte l 1 ≡ 0 = h 1 (omega arith) in
+    let z₂ : byte l 2 ≡ 0 = h 2 (omega arith) in
+    let z₃ : byte l 3 ≡ 0 = h 3 (omega arith) in
+    let z₄ : byte l 4 ≡ 0 = h 4 (omega arith) in
+    let z₅ : byte l 5 ≡ 0 = h 5 (omega arith) in
+    let z₆ : byte l 6 ≡ 0 = h 6 (omega arith) in
+    let z₇ : byte l 7 ≡ 0 = h 7 (omega arith) in
+    let z₈ : byte l 8 ≡ 0 = h 8 (omega arith) in
+    let z₉ : byte l 9 ≡ 0 = h 9 (omega arith) in
+    (rw (z₂, z₃, z₄, z₅, z₆, z₇, z₈, z₉), rw (z₀, z₁, z₂, z₅))
+
+are-none : (b : List ℕ) → areTasks 0 b ≡ true
+unfolding areTasks
+are-none b = refl
+
+from-none : (b : List ℕ) → tasksFrom 0 b ≡ []
+unfolding tasksFrom
+from-none b = refl
+
+blank-rest : (n k : ℕ) (b : List ℕ) → ((j : ℕ) → k ≤ j → j < k + n * 10 → byte b j ≡ 0)
+    → (areTasks n (drop k b) ≡ true) × (tasksFrom n (drop k b) ≡ replicate n blank)
+blank-rest zero k b h = (are-none (drop k b), from-none (drop k b))
+blank-rest (suc n) k b h =
+    let x = blank-task (drop k b) (λ j e. getD-drop k b j 0 ∙ h (k + j) (omega arith) (omega arith)) in
+    let r = blank-rest n (k + 10) b (λ j e f. h j (omega arith) (omega arith)) in
+    (are-turn n k b ∙ (λ i. x .0 i && r .0 i), from-turn n k b ∙ (λ i. x .1 i ∷ r .1 i))
+
+-- where the bytes behind the first m tasks are 0, these and n blank ones are all
+front : (m n k : ℕ) (b : List ℕ) → ((j : ℕ) → k + m * 10 ≤ j → j < k + (m + n) * 10 → byte b j ≡ 0)
+    → (areTasks (m + n) (drop k b) ≡ areTasks m (drop k b)) × (tasksFrom (m + n) (drop k b) ≡ tasksFrom m (drop k b) ++ replicate n blank)
+front zero n k b h =
+    let p : 0 + n ≡ n = omega arith in
+    let r = blank-rest n k b (λ j l u. h j (omega arith) (omega arith)) in (
+      ap (λ (n : ℕ). areTasks n (drop k b)) p ∙ r .0 ∙ sym (are-none (drop k b)),
+      ap (λ (n : ℕ). tasksFrom n (drop k b)) p ∙ r .1 ∙ ap (λ (l : List Task). l ++ replicate n blank) (sym (from-none (drop k b))),
+    )
+front (suc m) n k b h =
+    let p : suc m + n ≡ suc (m + n) = omega arith in
+    let ih = front m n (k + 10) b (λ j l u. h j (omega arith) (omega arith)) in (
+      ap (λ (n : ℕ). areTasks n (drop k b)) p ∙ are-turn (m + n) k b ∙ ap (λ (r : Bool). isTask (drop k b) && r) (ih .0) ∙ sym (are-turn m k b),
+      ap (λ (n : ℕ). tasksFrom n (drop k b)) p ∙ from-turn (m + n) k b ∙ ap (λ (l : List Task). taskFrom (drop k b) ∷ l) (ih .1) ∙ ap (λ (l : List Task). l ++ replicate n blank) (sym (from-turn m k b)),
+    )
+
+-- ── reading the used tasks is reading all ──
+
+-- so many tasks that every byte of the table behind them is 0
+abbrev Fits : List ℕ → ℕ → Type 0
+Fits b m = (m ≤ 31) × ((j : ℕ) → 5 + m * 10 ≤ j → j < 315 → byte b j ≡ 0)
+
+all-fit : (b : List ℕ) → Fits b 31
+all-fit b = (omega arith, λ j h k. absurd (omega arith))
+
+used-fits : (b : List ℕ) → Fits b (usedTasks b)
+unfolding usedTasks
+used-fits b =
+    by-test (Fits b) (ltb 31 (byte b 4)) (λ e. all-fit b)
+    (λ e. by-test (Fits b) (areZero (tableFrom b (5 + byte b 4 * 10)))
+    (λ f. (ltb-false 31 (byte b 4) e, zero-at b (5 + byte b 4 * 10) f))
+    (λ f. all-fit b))
+
+-- what the code finds
+pub used-over : (b : List ℕ) → 31 < byte b 4 → 31 ≡ usedTasks b
+unfolding usedTasks
+used-over b h = rw (lt-ltb 31 (byte b 4) h)
+
+pub used-tested : (b : List ℕ) (t : Bool) → byte b 4 ≤ 31 → areZero (tableFrom b (5 + byte b 4 * 10)) ≡ t → (if t then byte b 4 else 31) ≡ usedTasks b
+unfolding usedTasks
+used-tested b t h e = rw (le-ltb 31 (byte b 4) h, e)
+
+pub used-small : (b : List ℕ) → usedTasks b ≤ 31
+used-small b = used-fits b .0
+
+used-front : (b : List ℕ) → (areTasks 31 (drop 5 b) ≡ areTasks (usedTasks b) (drop 5 b)) × (tasksFrom 31 (drop 5 b) ≡ tasksFrom (usedTasks b) (drop 5 b) ++ replicate (31 - usedTasks b) blank)
+used-front b =
+    let m = usedTasks b in
+    let f = used-fits b in
+    let small = used-small b in
+    let all : 31 ≡ m + (31 - m) = omega arith in
+    let r = front m (31 - m) 5 b (λ j l u. f .1 j l (omega arith)) in
+    (ap (λ (n : ℕ). areTasks n (drop 5 b)) all ∙ r .0, ap (λ (n : ℕ). tasksFrom n (drop 5 b)) all ∙ r .1)
+
+pub used-are : (b : List ℕ) → areTasks 31 (drop 5 b) ≡ areTasks (usedTasks b) (drop 5 b)
+used-are b = used-front b .0
+
+pub used-from : (b : List ℕ) → tasksFrom 31 (drop 5 b) ≡ tasksFrom (usedTasks b) (drop 5 b) ++ replicate (31 - usedTasks b) blank
+used-from b = used-front b .1
+
+-- ── the table, filled from its front ──
+
+-- of n tasks the first i are made, and blank ones stand behind them
+abbrev pub Filled : List ℕ → ℕ → ℕ → List Task → Type 0
+Filled b n i tasks = (length tasks ≡ 31) × (take i tasks ++ tasksFrom (n - i) (drop (5 + i * 10) b) ≡ tasksFrom n (drop 5 b)) × (drop i tasks ≡ replicate (31 - i) blank)
+
+pub filled-start : (b : List ℕ) (n : ℕ) → Filled b n 0 (lost .tasks)
+unfolding lost
+filled-start b n = (refl, ap (λ (k : ℕ). tasksFrom k (drop 5 b)) (all-turns n), refl)
+
+pub filled-next : (b : List ℕ) (n i : ℕ) (tasks : List Task) (x : Task) → i < n → n ≤ 31 → x ≡ taskFrom (drop (5 + i * 10) b) → Filled b n i tasks → Filled b n (i + 1) (set tasks i x)
+filled-next b n i tasks x h k e f =
+    let long : length tasks ≡ 31 = f .0 in
+    let one : drop (i + 1) tasks ≡ replicate (31 - (i + 1)) blank =
+    sym (drop-drop 1 i tasks) ∙ ap (λ (l : List Task). drop 1 l) (f .2 ∙ ap (λ (n : ℕ). replicate n blank) (turns 31 i (omega arith))) in
+    (length-set tasks i x ∙ long, sym (from-next b n i h tasks x (omega arith) e) ∙ f .1, drop-set-lt (i + 1) tasks i x (omega arith) ∙ one)
+
+pub filled-end : (b : List ℕ) (n i : ℕ) (tasks : List Task) → i ≡ n → n ≡ usedTasks b → Filled b n i tasks → tasks ≡ tasksFrom 31 (drop 5 b)
+filled-end b n i tasks z e f =
+    let none : n - i ≡ 0 = omega arith in
+    let made : take i tasks ≡ tasksFrom n (drop 5 b) =
+    sym (ap (λ (k : ℕ). take i tasks ++ tasksFrom k (drop (5 + i * 10) b)) none ∙ ap (λ (l : List Task). take i tasks ++ l) (from-none (drop (5 + i * 10) b)) ∙ append-nil (take i tasks)) ∙ f .1 in
+    sym (take-append-drop i tasks)
+    ∙ (λ j. made j ++ f .2 j)
+    ∙ ap (λ (k : ℕ). tasksFrom n (drop 5 b) ++ replicate (31 - k) blank) z
+    ∙ ap (λ (m : ℕ). tasksFrom m (drop 5 b) ++ replicate (31 - m) blank) e
+    ∙ sym (used-from b)
