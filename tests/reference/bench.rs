@@ -1,7 +1,8 @@
 //! What a step costs: the proved supervisor against the reference in Rust, both with their soundness check, in one run.
 //! It is measured twice: each on its own form of the state, the supervisor's struct and the reference's vectors; and as
-//! the library's `card_step` does it, from bytes to bytes. Figures are of the fastest of many rounds, so that other work
-//! on the machine disturbs them little.
+//! the library's `card_step` does it, from bytes to bytes. Each line is measured in several passes over the whole table,
+//! and its figure is that of the fastest round in any of them, so that other work on the machine disturbs it little: a slow
+//! phase takes whole seconds, but seldom all passes.
 
 // the modules are those of main.rs, and the benchmark needs a part of them
 #![allow(dead_code)]
@@ -23,9 +24,11 @@ use supervisor::{Answer, Supervisor};
 
 /// States that are stepped in one round: few enough to stay close to the processor.
 const POOL: usize = 32;
-const ROUNDS: usize = 1000;
+/// Rounds of one action in one pass, and passes over the table.
+const ROUNDS: usize = 40;
+const PASSES: usize = 12;
 
-/// The time of one action on one thing of a pool, in nanoseconds: the fastest round.
+/// The time of one action on one thing of a pool, in nanoseconds: the fastest round of one pass.
 fn fastest<T: Clone>(thing: &T, mut act: impl FnMut(&mut T)) -> f64 {
     let mut best = f64::MAX;
     for _ in 0..ROUNDS {
@@ -46,6 +49,14 @@ struct Costs {
 }
 
 impl Costs {
+    const UNKNOWN: Costs = Costs { ours: f64::MAX, reference: f64::MAX };
+
+    /// The less of what was known and of what one more pass found.
+    fn meet(&mut self, found: Costs) {
+        self.ours = self.ours.min(found.ours);
+        self.reference = self.reference.min(found.reference);
+    }
+
     fn ratio(&self) -> f64 {
         self.ours / self.reference
     }
@@ -145,58 +156,86 @@ fn repeat(name: &str, tasks: usize) -> Option<()> {
     Some(())
 }
 
-/// The dearest of the ratios, and the step that has it.
-#[derive(Default)]
-struct Dearest(f64, String);
+/// A line of the table: a step, what it costs on own forms and from bytes, and what its two parts cost.
+struct Line {
+    scene: Scene,
+    own: Costs,
+    bytes: Costs,
+    check: Costs,
+    dispatcher: Costs,
+}
 
-impl Dearest {
-    fn meet(&mut self, costs: &Costs, scene: &Scene) {
-        if costs.ratio() > self.0 {
-            *self = Dearest(costs.ratio(), format!("{} with {}", scene.name, scene.tasks));
-        }
+impl Line {
+    fn new(scene: Scene) -> Line {
+        Line { scene, own: Costs::UNKNOWN, bytes: Costs::UNKNOWN, check: Costs::UNKNOWN, dispatcher: Costs::UNKNOWN }
+    }
+
+    fn measure(&mut self) {
+        self.own.meet(own_step(&self.scene));
+        self.bytes.meet(byte_step(&self.scene));
+        self.check.meet(check(&self.scene.state));
+        self.dispatcher.meet(dispatcher(&self.scene.state));
     }
 }
 
-fn steps() {
-    let copy = fastest(&[0u8; STATE], |state| {
+/// All lines, and what a copy of the bytes of a state costs.
+fn measured() -> (Vec<Line>, f64) {
+    let mut lines: Vec<Line> = [1, 8, 31].into_iter().flat_map(scenes::scenes).map(Line::new).collect();
+    lines.iter().for_each(|line| agree(&line.scene));
+    let mut copy = f64::MAX;
+    for _ in 0..PASSES {
+        copy = copy.min(copied());
+        lines.iter_mut().for_each(Line::measure);
+    }
+    (lines, copy)
+}
+
+fn copied() -> f64 {
+    fastest(&[0u8; STATE], |state| {
         let mut other = [0u8; STATE];
         other.copy_from_slice(black_box(&state[..]));
         black_box(&other);
-    });
+    })
+}
+
+/// The dearest of the ratios, and the step that has it.
+fn dearest(lines: &[Line], costs: fn(&Line) -> &Costs) -> String {
+    let line = lines.iter().max_by(|a, b| costs(a).ratio().total_cmp(&costs(b).ratio())).expect("there are lines");
+    format!("{:.1} ({} with {})", costs(line).ratio(), line.scene.name, line.scene.tasks)
+}
+
+fn steps(lines: &[Line], copy: f64) {
     println!("Copying the {STATE} bytes of a state: {copy:.1} ns. All times are in ns.\n");
     let columns = ["step", "tasks", "own form", "reference's", "ratio", "from bytes", "reference's", "ratio", "copies"];
     println!("| {} |\n|{}", columns.join(" | "), "---|".repeat(columns.len()));
-    let (mut own_form, mut from_bytes) = (Dearest::default(), Dearest::default());
-    for scene in [1, 8, 31].into_iter().flat_map(scenes::scenes) {
-        agree(&scene);
-        let (own, bytes) = (own_step(&scene), byte_step(&scene));
-        let copies = bytes.ours / copy;
-        println!("| {} | {} | {} | {} | {copies:.0} |", scene.name, scene.tasks, own.columns(), bytes.columns());
-        own_form.meet(&own, &scene);
-        from_bytes.meet(&bytes, &scene);
+    for line in lines {
+        let copies = line.bytes.ours / copy;
+        let scene = &line.scene;
+        println!("| {} | {} | {} | {} | {copies:.0} |", scene.name, scene.tasks, line.own.columns(), line.bytes.columns());
     }
     println!(
-        "\nThe highest ratio on own forms is {:.1} ({}), from bytes {:.1} ({}).",
-        own_form.0, own_form.1, from_bytes.0, from_bytes.1
+        "\nThe highest ratio on own forms is {}, from bytes {}.",
+        dearest(lines, |line| &line.own),
+        dearest(lines, |line| &line.bytes)
     );
 }
 
 /// What a part of the step costs in the states of all steps: from the cheapest to the dearest.
-fn range(states: &[Supervisor], cost: impl Fn(&Supervisor) -> Costs) -> String {
-    let costs: Vec<Costs> = states.iter().map(cost).collect();
+fn range(lines: &[&Line], costs: fn(&Line) -> &Costs) -> String {
     let over = |of: fn(&Costs) -> f64| {
-        let (low, high) = costs.iter().map(of).fold((f64::MAX, 0f64), |(low, high), ns| (low.min(ns), high.max(ns)));
+        let times = lines.iter().map(|line| of(costs(line)));
+        let (low, high) = times.fold((f64::MAX, 0f64), |(low, high), ns| (low.min(ns), high.max(ns)));
         format!("{low:.0} to {high:.0}")
     };
     format!("{} | {}", over(|costs| costs.ours), over(|costs| costs.reference))
 }
 
-fn parts() {
+fn parts(lines: &[Line]) {
     println!("\nTwo parts of each step on own forms, from the cheapest to the dearest of the states above:\n");
     println!("| tasks | soundness check | reference's | dispatcher | reference's |\n|---|---|---|---|---|");
     for tasks in [1, 8, 31] {
-        let states: Vec<Supervisor> = scenes::scenes(tasks).into_iter().map(|scene| scene.state).collect();
-        println!("| {tasks} | {} | {} |", range(&states, check), range(&states, dispatcher));
+        let these: Vec<&Line> = lines.iter().filter(|line| line.scene.tasks == tasks).collect();
+        println!("| {tasks} | {} | {} |", range(&these, |line| &line.check), range(&these, |line| &line.dispatcher));
     }
 }
 
@@ -204,8 +243,9 @@ fn main() {
     let words: Vec<String> = std::env::args().skip(1).collect();
     match &words[..] {
         [] => {
-            steps();
-            parts();
+            let (lines, copy) = measured();
+            steps(&lines, copy);
+            parts(&lines);
         }
         [name, tasks] => tasks.parse().ok().and_then(|tasks| repeat(name, tasks)).expect("a step and 1, 8 or 31"),
         _ => panic!("bench, or bench NAME TASKS"),

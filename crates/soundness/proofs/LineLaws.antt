@@ -1,24 +1,24 @@
 -- A walk that meets each task of the line once has seen what the rules count.
 -- Assumes nothing.
-use Prim.Native.Nat.{ℕ, zero, suc, _+_, _≤_, _<_}
+use Prim.Native.Nat.{ℕ, zero, suc, _+_, _-_, _^_, _≤_, _<_}
 use mathlib.Core.Path.{_≡_, refl, sym, ap, _∙_}
 use mathlib.Core.Bool.{Bool, true, false, _&&_}
 use mathlib.Core.List.{List, [], _∷_}
 use native.Mathlib.Omega.{arith}
-use native.Mathlib.Numerals.{add-one}
 use lib.Dec.{eqb, ltb, leb}
-use borrow.Author.Tests.{eq-eqb, ne-eqb, leb-true, leb-false, le-leb, lt-leb, lt-ltb, ltb-true}
-use Rattle.lists.specs.Line.{line, blanks, tidy}
+use borrow.Author.Tests.{eq-eqb, ne-eqb, leb-true, lt-ltb, le-ltb, ltb-true, ltb-false}
+use Rattle.lists.specs.Line.{line, tidy}
 use Rattle.lists.specs.Lists.{if_then_else_, bit, count, every, downFrom}
 use Rattle.lists.proofs.ListLaws.{by-bool, by-eq, clash}
 use Rattle.lists.proofs.Tests.{and-first, and-second}
 use Rattle.rules.specs.State.{taskOf}
 use Rattle.rules.specs.Whole.{view}
 use Rattle.rules.specs.declared.Supervisor.{Supervisor}
-use Rattle.soundness.specs.Marks.{Marks, Whole, hasMark, withMark, withoutMark, isNone}
-use Rattle.soundness.specs.Check.{Line, named, wanted, emptied, lineHas, belongs, arrayOf, standsIn}
+use Rattle.soundness.specs.Marks.{Marks, Whole, noMarks, hasMark, nextMark, withoutMark, isNone}
+use Rattle.soundness.specs.Check.{Line, named, marked, wanted, emptied, lineHas, belongs, arrayOf, standsIn}
 use Rattle.soundness.proofs.TaskLaws.{and-none, named-is}
-use Rattle.soundness.proofs.MarkLaws.{none-whole, with-whole, without-whole, has-none, has-with, has-without, none-has, has-all}
+use Rattle.soundness.proofs.Turns.{and-both}
+use Rattle.soundness.proofs.MarkLaws.{next-whole, next-low, below, without-whole, has-none, has-first, has-next, has-without, none-has, has-all}
 
 -- ── tests that pass at each of 1..n ──
 
@@ -46,28 +46,29 @@ eqb-suc k = by-eq k 0 (λ e. rw e) (λ e. rw (ne-eqb k 0 e, ne-eqb (1 + k) 1 (λ
 
 -- ── who is to be met ──
 
-pub wanted-whole : (f : ℕ → Bool) (n : ℕ) → Whole (wanted f n)
-wanted-whole f zero = none-whole
-wanted-whole f (suc n) = with-whole (wanted f n) (suc n) (f (suc n)) (wanted-whole f n)
+-- the word of the tasks n, n - 1, .., 1 behind the marks m, of which there are j: task 1 is bit 0
+marked-low : (f : ℕ → Bool) (n j : ℕ) (m : Marks) → m < 2 ^ j → n + j ≤ 31 → marked f m (downFrom n) < 2147483648
+marked-low f zero j m l h = below j m l (omega arith)
+marked-low f (suc n) j m l h = marked-low f n (suc j) (nextMark m (f (suc n))) (next-low m (f (suc n)) j l (omega arith)) (omega arith)
 
-pub named-none : (t : ℕ) → named 0 t ≡ false
-named-none zero = refl
-named-none (suc t) = rw (lt-leb (suc t) 0 (omega arith), lt-ltb 0 (suc t) (omega arith))
-
--- below the last, a number is one of 1..suc n exactly where it is one of 1..n
-named-down : (n t : ℕ) → (t ≡ suc n → ⊥) → named n t ≡ named (suc n) t
-named-down n t q =
-    by-bool (leb t n)
-    (λ e. rw (e, le-leb t (suc n) (omega (arith, leb-true t n e))))
-    (λ e. let k = leb-false t n e in rw (e, lt-leb t (suc n) (by-eq t (suc n) (λ z. absurd (q z)) (λ z. omega arith))))
+has-marked : (f : ℕ → Bool) (n j : ℕ) (m : Marks) (t : ℕ) → m < 2 ^ j → n + j ≤ 31 → hasMark (marked f m (downFrom n)) t ≡ (if ltb t n then f (suc t) else hasMark m (t - n))
+has-marked f zero j m t l h = let z : t - 0 ≡ t = omega arith in rw (le-ltb t 0 (omega arith), z)
+has-marked f (suc n) j m t l h =
+    has-marked f n (suc j) (nextMark m (f (suc n))) t (next-low m (f (suc n)) j l (omega arith)) (omega arith)
+    ∙ by-bool (ltb t n)
+    (λ e. let k = ltb-true t n e in rw (e, lt-ltb t (suc n) (omega arith)))
+    (λ e. let k = ltb-false t n e in rw e (by-eq t n
+    (λ q. let z : t - n ≡ 0 = omega arith in rw (z, lt-ltb t (suc n) (omega arith)) (has-first m (f (suc n)) ∙ ap (λ (x : ℕ). f (suc x)) (sym q)))
+    (λ q. let z : t - n ≡ suc (t - suc n) = omega arith in rw (z, le-ltb t (suc n) (omega arith)) (has-next m (f (suc n)) (t - suc n) (below j m l (omega arith))))))
 
 pub has-wanted : (f : ℕ → Bool) (n t : ℕ) → n ≤ 31 → hasMark (wanted f n) t ≡ (named n t && f t)
-has-wanted f zero t h = has-none t ∙ rw (named-none t)
-has-wanted f (suc n) t h =
-    has-with (wanted f n) (suc n) (f (suc n)) t (wanted-whole f n) (omega arith) (has-wanted f n (suc n) (omega arith) ∙ rw (lt-ltb 0 (suc n) (omega arith), lt-leb (suc n) n (omega arith)))
-    ∙ by-eq t (suc n)
-    (λ q. rw (q, eq-eqb (suc n) (suc n) refl, le-leb (suc n) (suc n) (omega arith), lt-ltb 0 (suc n) (omega arith)))
-    (λ q. rw (ne-eqb t (suc n) q, has-wanted f n t (omega arith), named-down n t q))
+has-wanted f n zero h = has-first (marked f noMarks (downFrom n)) false
+has-wanted f n (suc t) h =
+    has-next (marked f noMarks (downFrom n)) false t (marked-low f n 0 noMarks (omega arith) (omega arith))
+    ∙ has-marked f n 0 noMarks t (omega arith) (omega arith)
+    ∙ by-bool (ltb t n)
+    (λ e. let k = ltb-true t n e in rw (e, lt-ltb 0 (suc t) (omega arith)))
+    (λ e. let k = ltb-false t n e in rw (e, has-none (t - n), lt-ltb 0 (suc t) (omega arith)))
 
 -- ── the walk ──
 
@@ -110,44 +111,38 @@ unmet n m x l k e =
     every-miss (λ t. eqb (count t (x ∷ l)) (bit (hasMark m t))) n x (ltb-true 0 x (and-first (ltb 0 x) (leb x n) k)) (leb-true x n (and-second (ltb 0 x) (leb x n) k))
     (rw (e, eq-eqb x x refl) (ne-eqb (1 + count x l) 0 (λ z. omega arith)))
 
-pub emptied-is : (n : ℕ) (m : Marks) (a : List ℕ) → n ≤ 31 → Whole m → Within n m
-    → emptied m a ≡ ((tidy a && every (named n) (line a)) && counts n m (line a))
+pub emptied-is : (n : ℕ) (m : Marks) (l : List ℕ) → n ≤ 31 → Whole m → Within n m → emptied m l ≡ (every (named n) l && counts n m l)
 emptied-is n m [] l w h = none-left n m w h
-emptied-is n m (zero ∷ xs) l w h = by-bool (blanks xs) (λ e. rw e (none-left n m w h)) (λ e. rw e)
-emptied-is n m (suc x ∷ xs) l w h =
-    let ih = emptied-is n (withoutMark m (suc x)) xs l in
-    rw (ne-eqb (suc x) 0 (λ z. omega arith))
-    (by-bool (hasMark m (suc x))
-    (λ e. let k = h (suc x) e in let low : suc x < 32 = omega (arith, leb-true (suc x) n (and-second (ltb 0 (suc x)) (leb (suc x) n) k)) in
-    rw (e, k) (ih (without-whole m (suc x) w) (onward low e) ∙ ap (λ (b : Bool). (tidy xs && every (named n) (line xs)) && b) (met n m (suc x) (line xs) w low e)))
+emptied-is n m (x ∷ xs) l w h =
+    let ih = emptied-is n (withoutMark m x) xs l in
+    by-bool (hasMark m x)
+    (λ e. let k = h x e in let low : x < 32 = omega (arith, leb-true x n (and-second (ltb 0 x) (leb x n) k)) in
+    rw (e, k) (ih (without-whole m x w) (onward low e) ∙ ap (λ (b : Bool). every (named n) xs && b) (met n m x xs w low e)))
     (λ e. rw e
-    (by-bool (named n (suc x))
-    (λ k. rw (unmet n m (suc x) (line xs) k e) (sym (and-none (tidy xs && (named n (suc x) && every (named n) (line xs))))))
-    (λ k. rw (k, and-none (tidy xs))))))
+    (by-bool (named n x)
+    (λ k. rw (unmet n m x xs k e) (sym (and-none (named n x && every (named n) xs))))
+    (λ k. rw k)))
   where
-    onward : suc x < 32 → hasMark m (suc x) ≡ true → Within n (withoutMark m (suc x))
+    onward : x < 32 → hasMark m x ≡ true → Within n (withoutMark m x)
     onward low e t y =
-        let z : (if eqb t (suc x) then false else hasMark m t) ≡ true = sym (has-without m (suc x) t w low e) ∙ y in
-        by-bool (eqb t (suc x)) (λ q. clash y (has-without m (suc x) t w low e ∙ rw q)) (λ q. h t (rw q at z))
+        let z : (if eqb t x then false else hasMark m t) ≡ true = sym (has-without m x t w low e) ∙ y in
+        by-bool (eqb t x) (λ q. clash y (has-without m x t w low e ∙ rw q)) (λ q. h t (rw q at z))
 
--- what the walk over a line answers, begun with those that pass the test
-pub line-is : (n : ℕ) (f : ℕ → Bool) (a : List ℕ) → n ≤ 31 → emptied (wanted f n) a ≡ lineHas n f a
+-- what the code finds of a line, begun with those that pass the test
+pub line-is : (n : ℕ) (f : ℕ → Bool) (a : List ℕ) → n ≤ 31 → (tidy a && emptied (wanted f n) (line a)) ≡ lineHas n f a
 unfolding lineHas
 line-is n f a l =
-    emptied-is n (wanted f n) a l (wanted-whole f n) (λ t e. and-first (named n t) (f t) (sym (has-wanted f n t l) ∙ e))
-    ∙ ap (λ (b : Bool). (tidy a && every (named n) (line a)) && b)
-    (every-same _ _ n (λ t p q. ap (λ (b : Bool). eqb (count t (line a)) (bit b)) (passing t p q)))
+    ap (λ (b : Bool). tidy a && b)
+    (emptied-is n (wanted f n) (line a) l (next-whole _ false) (λ t e. and-first (named n t) (f t) (sym (has-wanted f n t l) ∙ e))
+    ∙ ap (λ (b : Bool). every (named n) (line a) && b)
+    (every-same _ _ n (λ t p q. ap (λ (b : Bool). eqb (count t (line a)) (bit b)) (passing t p q))))
+    ∙ and-both (tidy a) (every (named n) (line a)) (every (λ t. eqb (count t (line a)) (bit (f t))) (downFrom n))
   where
     passing : (t : ℕ) → 0 < t → t ≤ n → hasMark (wanted f n) t ≡ f t
     passing t p q = has-wanted f n t l ∙ ap (λ (b : Bool). b && f t) (named-is n t p q)
 
--- a turn of the table: the next task is to be met if it passes
-pub wanted-on : (f : ℕ → Bool) (m : Marks) (t : ℕ) (b : Bool) → m ≡ wanted f t → b ≡ f (t + 1) → withMark m (t + 1) b ≡ wanted f (t + 1)
-wanted-on f m t b e q = rw (add-one t) (λ i. withMark (e i) (suc t) ((q ∙ ap f (add-one t)) i))
-
 -- what the code answers for the line l
-pub stands-is : (s : Supervisor) (l : Line) (m : Marks) (t : ℕ) (a : List ℕ) (r : Bool) → s .created ≤ 31 → t ≡ s .created → m ≡ wanted (λ u. belongs l (taskOf (view s) u)) t
-    → a ≡ arrayOf s l → r ≡ emptied m a → r ≡ standsIn s l
-stands-is s l m t a r h et em ea er =
-    let f : ℕ → Bool = λ u. belongs l (taskOf (view s) u) in
-    er ∙ (λ i. emptied ((em ∙ ap (wanted f) et) i) (ea i)) ∙ line-is (s .created) f (arrayOf s l) h
+pub stands-is : (s : Supervisor) (l : Line) (m : Marks) (a : List ℕ) (r : Bool) → s .created ≤ 31 → m ≡ marked (λ u. belongs l (taskOf (view s) u)) noMarks (downFrom (s .created))
+    → a ≡ arrayOf s l → r ≡ (tidy a && emptied (nextMark m false) (line a)) → r ≡ standsIn s l
+stands-is s l m a r h em ea er =
+    er ∙ (λ i. tidy (ea i) && emptied (nextMark (em i) false) (line (ea i))) ∙ line-is (s .created) (λ u. belongs l (taskOf (view s) u)) (arrayOf s l) h

@@ -1,22 +1,19 @@
--- Turns of the loops: over the table, down from a number, over the delay queue, and over the full places of an array.
+-- Turns of the loops: over the table, down from a number, over the delay queue, and over a line.
 -- Assumes nothing.
 use Prim.Native.Nat.{ℕ, zero, suc, _+_, _-_, _≤_, _<_}
-use mathlib.Core.Path.{_≡_, refl}
-use mathlib.Core.Bool.{Bool, true, false, not, _&&_}
+use mathlib.Core.Path.{_≡_, refl, sym, ap, _∙_}
+use mathlib.Core.Bool.{Bool, true, false, not, _&&_, _||_}
 use mathlib.Core.List.{List, [], _∷_}
 use native.Mathlib.Omega.{arith}
 use native.Mathlib.Numerals.{add-one, unary-clauses}
 use lib.Dec.{eqb}
 use lib.ListN.{length, getD, drop, drop-of-length-le}
 use lib.Seq.{drop-cons}
-use borrow.Author.Tests.{le-leb, lt-leb, not-true}
-use mir.Val.{boolByte}
-use Rattle.lists.specs.Line.{blanks}
-use Rattle.lists.specs.Lists.{bit, every, downFrom}
-use Rattle.lists.proofs.ListLaws.{by-bool}
-use Rattle.lists.proofs.Tests.{and-first, and-second}
-use Rattle.soundness.specs.Marks.{Marks, hasMark, withoutMark, isNone}
-use Rattle.soundness.specs.Check.{ascending, full, emptied}
+use borrow.Author.Tests.{le-leb, lt-leb, ne-eqb}
+use Rattle.lists.specs.Line.{tidy}
+use Rattle.lists.specs.Lists.{every, downFrom}
+use Rattle.soundness.specs.Marks.{Marks, hasMark, nextMark, withoutMark}
+use Rattle.soundness.specs.Check.{ascending, marked, emptied}
 
 module _ {A : Type 0} (f : A → Bool) (l : List A) (i : ℕ) (d : A) where
   pub every-pass : i < length l → f (getD l i d) ≡ true → every f (drop i l) ≡ every f (drop (i + 1) l)
@@ -28,18 +25,18 @@ module _ {A : Type 0} (f : A → Bool) (l : List A) (i : ℕ) (d : A) where
   pub every-done : length l ≤ i → every f (drop i l) ≡ true
   every-done h = rw (drop-of-length-le l h)
 
-module _ (f : ℕ → Bool) where
-  pub down-pass : (t : ℕ) → 0 < t → f t ≡ true → every f (downFrom t) ≡ every f (downFrom (t - 1))
-  down-pass zero h e = absurd (omega arith)
-  down-pass (suc t) h e = rw e (simp unary-clauses)
+-- task t, and those below it
+pub down-on : (t : ℕ) → 0 < t → downFrom t ≡ t ∷ downFrom (t - 1)
+down-on zero h = absurd (omega arith)
+down-on (suc t) h = simp unary-clauses
 
-  pub down-fail : (t : ℕ) → 0 < t → f t ≡ false → every f (downFrom t) ≡ false
-  down-fail zero h e = absurd (omega arith)
-  down-fail (suc t) h e = rw e
+pub down-end : (t : ℕ) → t ≤ 0 → downFrom t ≡ []
+down-end zero h = refl
+down-end (suc t) h = absurd (omega arith)
 
-  pub down-done : (t : ℕ) → t ≤ 0 → every f (downFrom t) ≡ true
-  down-done zero h = refl
-  down-done (suc t) h = absurd (omega arith)
+-- the word with task t below, if it passes the test, goes on with those below it
+pub mark-on : (f : ℕ → Bool) (m n t : ℕ) (b : Bool) → 0 < t → b ≡ f t → n ≡ nextMark m b → marked f m (downFrom t) ≡ marked f n (downFrom (t - 1))
+mark-on f m n t b h eb en = ap (marked f m) (down-on t h) ∙ (λ i. marked f (sym (en ∙ ap (nextMark m) eb) i) (downFrom (t - 1)))
 
 module _ (k : ℕ → ℕ) (a x : ℕ) (xs ys : List ℕ) (q : xs ≡ x ∷ ys) where
   pub order-pass : a ≤ k x → ascending k a xs ≡ ascending k (k x) ys
@@ -48,60 +45,46 @@ module _ (k : ℕ → ℕ) (a x : ℕ) (xs ys : List ℕ) (q : xs ≡ x ∷ ys) 
   pub order-fail : k x < a → ascending k a xs ≡ false
   order-fail h = rw (q, lt-leb a (k x) h)
 
--- ── the full places of an array ──
+-- ── tests that are taken together ──
 
-byte-bit : (b : Bool) → boolByte b ≡ bit b
-byte-bit true = refl
-byte-bit false = refl
+pub and-both : (a b c : Bool) → (a && (b && c)) ≡ ((a && b) && c)
+and-both true b c = refl
+and-both false b c = refl
 
-pub full-short : (l : List ℕ) → full l ≤ length l
-full-short [] = omega arith
-full-short (x ∷ l) = by-bool (eqb x 0) (λ e. rw e (omega (arith, full-short l))) (λ e. rw e (omega (arith, full-short l)))
+-- a turn: what is found of the next, and the rest
+pub and-turn : (a b c d e : Bool) → b ≡ c → d ≡ (c && e) → (a && d) ≡ ((a && b) && e)
+and-turn a b c d e p q = ap (λ (x : Bool). a && x) (q ∙ ap (λ (x : Bool). x && e) (sym p)) ∙ and-both a b e
 
-pub full-turn : (l : List ℕ) (i : ℕ) → i < length l → full (drop i l) ≡ boolByte (not (eqb (getD l i 0) 0)) + full (drop (i + 1) l)
-full-turn l i h = rw (drop-cons l i 0 h, add-one i, byte-bit (not (eqb (getD l i 0) 0)))
+-- ── a line ──
 
-pub full-done : (l : List ℕ) (i : ℕ) → length l ≤ i → full (drop i l) ≡ 0
-full-done l i h = rw (drop-of-length-le l h)
+module _ (m : Marks) (x : ℕ) (xs ys : List ℕ) (q : xs ≡ x ∷ ys) where
+  pub walk-on : hasMark m x ≡ true → emptied m xs ≡ emptied (withoutMark m x) ys
+  walk-on e = rw (q, e)
 
-full-none : (l : List ℕ) → full l ≡ 0 → blanks l ≡ true
-full-none [] h = refl
-full-none (x ∷ l) h =
-    by-bool (eqb x 0)
-    (λ e. let k : full l ≡ 0 = omega (arith, rw e at h) in rw (e, full-none l k))
-    (λ e. absurd (omega (arith, rw e at h)))
+  pub walk-stop : hasMark m x ≡ false → emptied m xs ≡ false
+  walk-stop e = rw (q, e)
 
-full-some : (l : List ℕ) → 0 < full l → blanks l ≡ false
-full-some [] h = absurd (omega arith)
-full-some (x ∷ l) h =
-    let ih = full-some l in
-    by-bool (eqb x 0)
-    (λ e. rw e (ih (omega (arith, rw e at h))))
-    (λ e. rw e)
+-- y may stand behind x
+abbrev pub goesOn : ℕ → ℕ → Bool
+goesOn x y = not (eqb x 0) || eqb y 0
 
-module _ (m : Marks) (l : List ℕ) (i : ℕ) where
-  pub walk-on : i < length l → (not (eqb (getD l i 0) 0) && hasMark m (getD l i 0)) ≡ true
-      → (full (drop i l) ≡ 1 + full (drop (i + 1) l)) × (emptied m (drop i l) ≡ emptied (withoutMark m (getD l i 0)) (drop (i + 1) l))
-  walk-on h e =
-      let x = getD l i 0 in
-      let z = not-true (eqb x 0) (and-first (not (eqb x 0)) (hasMark m x) e) in
-      let y = and-second (not (eqb x 0)) (hasMark m x) e in
-      (rw (drop-cons l i 0 h, add-one i, z) (omega arith), rw (drop-cons l i 0 h, add-one i, z, y))
+tidy-two : (x y : ℕ) (ys : List ℕ) → tidy (x ∷ y ∷ ys) ≡ (goesOn x y && tidy (y ∷ ys))
+tidy-two zero zero ys = refl
+tidy-two zero (suc y) ys = rw (ne-eqb (suc y) 0 (λ z. omega arith))
+tidy-two (suc x) y ys = rw (ne-eqb (suc x) 0 (λ z. omega arith))
 
-  pub walk-stop : i < length l → 0 < full (drop i l) → (not (eqb (getD l i 0) 0) && hasMark m (getD l i 0)) ≡ false → emptied m (drop i l) ≡ false
-  walk-stop h some e =
-      let x = getD l i 0 in
-      rw (drop-cons l i 0 h)
-      (by-bool (eqb x 0)
-      (λ z. let more : 0 < full (drop (suc i) l) = omega (arith, rw (drop-cons l i 0 h, z) at some) in rw (z, full-some (drop (suc i) l) more))
-      (λ z. let stop : hasMark m x ≡ false = rw z at e in rw (z, stop)))
+pub tidy-on : (l : List ℕ) (i : ℕ) → i + 1 < length l → tidy (drop i l) ≡ (goesOn (getD l i 0) (getD l (i + 1) 0) && tidy (drop (i + 1) l))
+tidy-on l i h =
+    let p : drop i l ≡ getD l i 0 ∷ drop (i + 1) l = rw (add-one i) (drop-cons l i 0 (omega arith)) in
+    let q : drop (i + 1) l ≡ getD l (i + 1) 0 ∷ drop (suc (i + 1)) l = drop-cons l (i + 1) 0 h in
+    rw (p, q) (tidy-two (getD l i 0) (getD l (i + 1) 0) (drop (suc (i + 1)) l))
 
-  pub walk-done : full (drop i l) ≡ 0 → emptied m (drop i l) ≡ isNone m
-  walk-done h = go (drop i l) h
-    where
-      go : (l : List ℕ) → full l ≡ 0 → emptied m l ≡ isNone m
-      go [] h = refl
-      go (x ∷ l) h =
-          by-bool (eqb x 0)
-          (λ e. let k : full l ≡ 0 = omega (arith, rw e at h) in rw (e, full-none l k))
-          (λ e. absurd (omega (arith, rw e at h)))
+-- the last place alone
+pub tidy-end : (l : List ℕ) (i : ℕ) → i < length l → length l ≤ i + 1 → tidy (drop i l) ≡ true
+tidy-end l i h k =
+    let over : drop (suc i) l ≡ [] = drop-of-length-le l {i = suc i} (omega arith) in
+    rw (drop-cons l i 0 h, over) (one (getD l i 0))
+  where
+    one : (x : ℕ) → tidy (x ∷ []) ≡ true
+    one zero = refl
+    one (suc x) = refl

@@ -81,11 +81,11 @@ stand-is s d =
 
 -- the same fourteen tests and the order, in the code's grouping and in the rules'
 regroup : (u t1 t2 t3 t4 g c1 c2 c3 c4 n1 n2 n3 n4 o : Bool)
-    → (((u && g) && (((((t1 && n1) && c1) && ((t2 && n2) && c2)) && ((t3 && n3) && c3)) && ((t4 && n4) && c4))) && o)
+    → ((u && (g && (((((t1 && n1) && c1) && ((t2 && n2) && c2)) && ((t3 && n3) && c3)) && ((t4 && n4) && c4)))) && o)
     ≡ (((((u && t1) && t2) && t3) && t4) && ((((((g && c1) && c2) && c3) && c4) && (((n1 && n2) && n3) && n4)) && o))
 regroup u t1 t2 t3 t4 g c1 c2 c3 c4 n1 n2 n3 n4 o = go u t1 t2 t3 t4 g c1 c2 c3 c4 n1 n2 n3 n4
   where
-    go : (u t1 t2 t3 t4 g c1 c2 c3 c4 n1 n2 n3 n4 : Bool) → (((u && g) && (((((t1 && n1) && c1) && ((t2 && n2) && c2)) && ((t3 && n3) && c3)) && ((t4 && n4) && c4))) && o) ≡ (((((u && t1) && t2) && t3) && t4) && ((((((g && c1) && c2) && c3) && c4) && (((n1 && n2) && n3) && n4)) && o))
+    go : (u t1 t2 t3 t4 g c1 c2 c3 c4 n1 n2 n3 n4 : Bool) → ((u && (g && (((((t1 && n1) && c1) && ((t2 && n2) && c2)) && ((t3 && n3) && c3)) && ((t4 && n4) && c4)))) && o) ≡ (((((u && t1) && t2) && t3) && t4) && ((((((g && c1) && c2) && c3) && c4) && (((n1 && n2) && n3) && n4)) && o))
     go false t1 t2 t3 t4 g c1 c2 c3 c4 n1 n2 n3 n4 = refl
     go true false t2 t3 t4 g c1 c2 c3 c4 n1 n2 n3 n4 = simp and-none
     go true true false t3 t4 g c1 c2 c3 c4 n1 n2 n3 n4 = simp and-none
@@ -105,24 +105,25 @@ regroup u t1 t2 t3 t4 g c1 c2 c3 c4 n1 n2 n3 n4 o = go u t1 t2 t3 t4 g c1 c2 c3 
 pub unsound-many : (s : Supervisor) → 31 < s .created → false ≡ soundWhole s
 unsound-many s h = rw (lt-leb (s .created) 31 h)
 
-pub sound-is : (s : Supervisor) (u g l o : Bool) → s .created ≤ 31 → length (s .tasks) ≡ 31
-    → u ≡ every unused (drop (s .created) (s .tasks)) → g ≡ every (goodIn (view s)) (downFrom (s .created))
-    → l ≡ (((standsIn s Ready && standsIn s Callers) && standsIn s Held) && standsIn s Delays) → o ≡ ascending (leftOf (view s)) 0 (line (s .delays))
-    → (((u && g) && l) && o) ≡ soundWhole s
+pub sound-is : (s : Supervisor) (u r o : Bool) → s .created ≤ 31 → length (s .tasks) ≡ 31
+    → u ≡ every unused (drop (s .created) (s .tasks))
+    → r ≡ (every (goodIn (view s)) (downFrom (s .created)) && (((standsIn s Ready && standsIn s Callers) && standsIn s Held) && standsIn s Delays))
+    → o ≡ ascending (leftOf (view s)) 0 (line (s .delays))
+    → ((u && r) && o) ≡ soundWhole s
 unfolding sound lineHas
-sound-is s u g l o h k eu eg el eo =
+sound-is s u r o h k eu er eo =
     let n : created (view s) ≡ s .created = length-take-le (s .created) (s .tasks) (omega arith) in
     let f : ℕ → Bool = named (s .created) in
-    let r = line (s .ready) in let c = line (s .callers) in let d = line (s .held) in let w = line (s .delays) in
-    let all : every (isTask (view s)) (((r ++ c) ++ d) ++ w) ≡ (((every f r && every f c) && every f d) && every f w) =
-    ap (λ (m : ℕ). every (named m) (((r ++ c) ++ d) ++ w)) n
-    ∙ every-append f ((r ++ c) ++ d) w ∙ ap (λ (b : Bool). b && every f w) (every-append f (r ++ c) d ∙ ap (λ (b : Bool). b && every f d) (every-append f r c)) in
+    let a = line (s .ready) in let c = line (s .callers) in let d = line (s .held) in let w = line (s .delays) in
+    let all : every (isTask (view s)) (((a ++ c) ++ d) ++ w) ≡ (((every f a && every f c) && every f d) && every f w) =
+    ap (λ (m : ℕ). every (named m) (((a ++ c) ++ d) ++ w)) n
+    ∙ every-append f ((a ++ c) ++ d) w ∙ ap (λ (b : Bool). b && every f w) (every-append f (a ++ c) d ∙ ap (λ (b : Bool). b && every f d) (every-append f a c)) in
     let t = downFrom (s .created) in
     let stand = ap (λ (m : ℕ). every (standsRight (view s)) (downFrom m)) n ∙ stand-is s t in
     let order = sym (order-whole (leftOf (view s)) w) in
     let p = le-leb (s .created) 31 h in
     let q : leb (created (view s)) 31 ≡ true = le-leb (created (view s)) 31 (omega arith) in
-    rw (eu, eg, el, eo, p, q, stand, all, order)
+    rw (eu, er, eo, p, q, stand, all, order)
     (regroup (every unused (drop (s .created) (s .tasks))) (tidy (s .ready)) (tidy (s .callers)) (tidy (s .held)) (tidy (s .delays))
     (every (goodIn (view s)) t) (every (right s Ready) t) (every (right s Callers) t) (every (right s Held) t) (every (right s Delays) t)
-    (every f r) (every f c) (every f d) (every f w) (ascending (leftOf (view s)) 0 w))
+    (every f a) (every f c) (every f d) (every f w) (ascending (leftOf (view s)) 0 w))

@@ -1,17 +1,17 @@
 -- What the parts of the soundness check answer.
 -- Assumes nothing.
-use Prim.Native.Nat.{ℕ, zero, suc, _+_}
-use mathlib.Core.Bool.{Bool, true, not, _&&_}
+use Prim.Native.Nat.{ℕ, _-_}
+use mathlib.Core.Bool.{Bool, true, false, _&&_}
 use mathlib.Core.List.{List, [], _∷_}
 use lib.Dec.{eqb, ltb, leb}
-use Rattle.lists.specs.Line.{line, blanks, tidy}
+use Rattle.lists.specs.Line.{line, tidy}
 use Rattle.lists.specs.Lists.{if_then_else_, bit, count, every, downFrom}
 use Rattle.rules.specs.Sound.{goodTask}
 use Rattle.rules.specs.State.{State, taskOf, placeOf, timerOf, partnerOf, isReady, isQueued, isHeld, hasTime, ticksLeft}
 use Rattle.rules.specs.Whole.{view}
 use Rattle.rules.specs.declared.Supervisor.{Supervisor}
 use Rattle.rules.specs.declared.Task.{Task}
-use Rattle.soundness.specs.Marks.{Marks, noMarks, hasMark, withMark, withoutMark, isNone}
+use Rattle.soundness.specs.Marks.{Marks, noMarks, hasMark, nextMark, withoutMark, isNone}
 
 -- x is one of 1..most
 abbrev pub named : ℕ → ℕ → Bool
@@ -65,17 +65,20 @@ standsIn s l = lineHas (s .created) (λ t. belongs l (taskOf (view s) t)) (array
 
 -- ── how the code finds out ──
 
--- how many places of an array are not blank
-abbrev pub full : List ℕ → ℕ
-full [] = 0
-full (x ∷ xs) = bit (not (eqb x 0)) + full xs
+-- where task u of n stands in the table; 0 where u is none of them
+abbrev pub indexIn : ℕ → ℕ → ℕ
+indexIn n u = if named n u then u - 1 else 0
+
+-- the word goes on with the tasks of the list: those that pass the test are to be met
+abbrev pub marked : (ℕ → Bool) → Marks → List ℕ → Marks
+marked f m [] = m
+marked f m (t ∷ ts) = marked f (nextMark m (f t)) ts
 
 -- of 1..n those that pass the test are to be met
 abbrev pub wanted : (ℕ → Bool) → ℕ → Marks
-wanted f zero = noMarks
-wanted f (suc n) = withMark (wanted f n) (suc n) (f (suc n))
+wanted f n = nextMark (marked f noMarks (downFrom n)) false
 
--- each in the array, up to the blanks, is still to be met as the walk comes to it, and at the end none is
+-- each in the list is still to be met as the walk comes to it, and at the end none is
 abbrev pub emptied : Marks → List ℕ → Bool
 emptied m [] = isNone m
-emptied m (x ∷ xs) = if eqb x 0 then blanks xs && isNone m else (hasMark m x && emptied (withoutMark m x) xs)
+emptied m (x ∷ xs) = hasMark m x && emptied (withoutMark m x) xs

@@ -1,8 +1,8 @@
 -- The word of the check: bit t says that task t is still to be met in a line.
 -- Assumes nothing.
-use Prim.Native.Nat.{ℕ, _*_, _^_, _/_, _%_, _<_}
-use mathlib.Core.Bool.{Bool, _&&_}
-use lib.Bits.{bitOr, bitXor}
+use Prim.Native.Nat.{ℕ, _+_, _*_, _^_, _/_, _%_, _<_}
+use mathlib.Core.Bool.{Bool}
+use lib.Bits.{bitXor}
 use lib.Dec.{eqb, ltb}
 use Rattle.lists.specs.Lists.{if_then_else_, bit}
 
@@ -20,11 +20,11 @@ noMarks = 0
 
 -- t is still to be met
 unfoldable pub hasMark : Marks → ℕ → Bool
-hasMark m t = ltb t 32 && eqb (m / 2 ^ t % 2) 1
+hasMark m t = eqb (m / 2 ^ t % 2) 1
 
--- t, which was not to be met, is now, if so said; the others as before
-unfoldable pub withMark : Marks → ℕ → Bool → Marks
-withMark m t here = if ltb t 32 then bitOr m (bit here * 2 ^ t) else m
+-- each mark one place on, and below them one more, which is to be met if so said
+unfoldable pub nextMark : Marks → Bool → Marks
+nextMark m here = m % 2147483648 * 2 + bit here
 
 -- t, which was to be met, is no longer; the others as before
 unfoldable pub withoutMark : Marks → ℕ → Marks

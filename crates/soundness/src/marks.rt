@@ -1,6 +1,6 @@
 // One 32-bit word: bit t says that task t is still to be met in a line. Bit 0 is no task's.
 ghost use mathlib.Core.Path.{_≡_};
-ghost use Rattle.soundness.specs.Marks.{hasMark, isNone, withMark, withoutMark};
+ghost use Rattle.soundness.specs.Marks.{hasMark, isNone, nextMark, withoutMark};
 
 // Whether task t is still to be met.
 pub fn has(word: u32, t: u8) -> bool
@@ -9,15 +9,11 @@ pub fn has(word: u32, t: u8) -> bool
     if t < 32 { (word >> t) % 2 == 1 } else { false }
 }
 
-// The word where task t is to be met, if it is so said; t was not to be met before.
-pub fn with(word: u32, t: u8, here: bool) -> u32
-    ensures { λ r. ⌜ r ≡ withMark word t here ⌝ }
+// The word with one more task below those that it has, which is to be met, if it is so said.
+pub fn next(word: u32, here: bool) -> u32
+    ensures { λ r. ⌜ r ≡ nextMark word here ⌝ }
 {
-    if t < 32 {
-        word | ((here as u32) << t)
-    } else {
-        word
-    }
+    (word % 2147483648) * 2 + (here as u32)
 }
 
 // The word where task t, which was to be met, is no longer.

@@ -1,5 +1,7 @@
 use native.Mathlib.Omega.{arith}
 use borrow.Author.Needs.{needs}
+use mathlib.Core.Path.{ap}
+use lib.Bits.{bitXor}
 use borrow.Author.Tests.{lt-ltb, le-ltb}
 use Rattle.soundness.specs.Marks.{withoutMark}
 use Rattle.soundness.proofs.MarkLaws.{shifted}
@@ -8,7 +10,7 @@ use Rattle.soundness.proofs.marks.without.Tie as tie
 
 returns : tie.Need-returns
 unfolding withoutMark
-returns c = rw (lt-ltb (c .before .args .t) 32 (omega arith), shifted (c .before .args .t) (omega arith))
+returns c = rw (lt-ltb (c .before .args .t) 32 (omega arith)) (ap (bitXor (c .before .args .word)) (shifted (c .before .args .t) (omega arith)))
 
 returns-2 : tie.Need-returns-2
 unfolding withoutMark

@@ -1,0 +1,107 @@
+-- The invariant: of the tasks above t it is known whether they are good and who belongs where; what is left of each answer is
+-- the answer for the tasks t, t - 1, .., 1.
+use native.Mathlib.Omega.{arith}
+use borrow.Author.Needs.{needs}
+use Prim.Native.Nat.{ℕ, _-_, _≤_, _<_}
+use mathlib.Core.Bool.{Bool, _&&_}
+use mathlib.Core.Path.{_≡_, refl, sym, ap, _∙_}
+use mathlib.Core.List.{[]}
+use lib.ListN.{length, getD}
+use Rattle.lists.specs.Lists.{every, downFrom}
+use Rattle.rules.specs.State.{blank, taskOf}
+use Rattle.rules.specs.Whole.{view}
+use Rattle.rules.specs.declared.Supervisor.{Supervisor}
+use Rattle.table.proofs.LeafLaws.{mapped-long, task-in}
+use Rattle.soundness.specs.Check.{Line, Ready, Callers, Held, Delays, belongs, goodIn, marked}
+use Rattle.soundness.specs.Marks.{noMarks, nextMark}
+use Rattle.soundness.proofs.TaskLaws.{and-last, called-is, good-is}
+use Rattle.soundness.proofs.Turns.{and-turn, down-on, down-end, mark-on}
+use Rattle.soundness.proofs.LineLaws.{stands-is}
+use Rattle.soundness.proofs.all_stand.Statement.{statement}
+use Rattle.soundness.proofs.all_stand.Tie as tie
+
+-- the word m goes on with who of the tasks t, t - 1, .., 1 belongs into line l
+abbrev due : Supervisor → Line → ℕ → ℕ → ℕ
+due s l m t = marked (λ u. belongs l (taskOf (view s) u)) m (downFrom t)
+
+abbrev Inv-loop : tie.InvT-loop
+Inv-loop s good₀ ready₀ callers₀ held₀ delays₀ t₀ good ready callers held delays t =
+    (s .created ≤ 31) × (t ≤ s .created) × (length (s .tasks) ≡ 31)
+    × (every (goodIn (view s)) (downFrom (s .created)) ≡ (good && every (goodIn (view s)) (downFrom t)))
+    × (due s Ready noMarks (s .created) ≡ due s Ready ready t) × (due s Callers noMarks (s .created) ≡ due s Callers callers t)
+    × (due s Held noMarks (s .created) ≡ due s Held held t) × (due s Delays noMarks (s .created) ≡ due s Delays delays t)
+
+abbrev μ-loop : tie.MeasureT-loop
+μ-loop s good₀ ready₀ callers₀ held₀ delays₀ t₀ good ready callers held delays t = t
+
+loop-holds : tie.Need-loop-holds Inv-loop μ-loop
+loop-holds c = (c .pre, omega arith, search (needs, mapped-long), refl, refl, refl, refl, refl)
+
+-- what the test of task t answered, in the rules' words
+answered : (c : tie.After-is-good Inv-loop μ-loop) →
+    let l = c .before .before .before .before .before .before .before in
+    c .is-good .result ≡ goodIn (view (l .before .args .t1)) (l .loop .t)
+answered c =
+    let ix = c .before .before .before in
+    let pt = ix .before in
+    let l = pt .before .before .before in
+    let s = l .before .args .t1 in
+    good-is s (l .loop .t) (pt .partner-of .result) (getD (s .tasks) (l .loop .t - 1) blank) (c .before .called .result) (c .is-good .result)
+    (task-in (s .tasks) (s .created) (l .loop .t) (λ z. omega arith) (l .loop .inv .1)) (pt .partner-of .ensures)
+    (called-is s (pt .partner-of .result) (ix .index-in .result) (c .before .called .result) (ix .index-in .ensures .0) (c .before .called .ensures)) (c .is-good .ensures)
+
+-- one line's turn: its word with task t below, if that belongs there
+turn : (s : Supervisor) (l : Line) (t m n : ℕ) (b : Bool) → 0 < t → t ≤ s .created → b ≡ belongs l (getD (s .tasks) (t - 1) blank) → n ≡ nextMark m b → due s l m t ≡ due s l n (t - 1)
+turn s l t m n b z k eb en =
+    mark-on (λ u. belongs l (taskOf (view s) u)) m n t b z (eb ∙ ap (belongs l) (task-in (s .tasks) (s .created) t (λ q. omega arith) k)) en
+
+loop-again : tie.Need-loop-again Inv-loop μ-loop
+loop-again c =
+    let n3 = c .before .before in
+    let n2 = n3 .before .before in
+    let n1 = n2 .before .before in
+    let g = n1 .before .before in
+    let i = g .before .before .before .before .before .before in
+    let l = i .before in
+    let s = l .before .args .t1 in
+    let v = l .loop .inv in
+    let t = l .loop .t in
+    let z : 0 < t = i .loop-test .taken in
+    let k : t ≤ s .created = v .1 in
+    let goods = ap (every (goodIn (view s))) (down-on t z) in (
+      v .0,
+      omega arith,
+      v .2,
+      v .3 ∙ and-turn (l .loop .good) _ _ _ _ (answered g) goods,
+      v .4 ∙ turn s Ready t _ _ _ z k (n1 .before .is-ready .ensures) (n1 .next .ensures),
+      v .5 ∙ turn s Callers t _ _ _ z k (n2 .before .is-queued .ensures) (n2 .next2 .ensures),
+      v .6 ∙ turn s Held t _ _ _ z k (n3 .before .is-held .ensures) (n3 .next3 .ensures),
+      v .7 ∙ turn s Delays t _ _ _ z k (c .before .has-time .ensures) (c .next4 .ensures),
+    )
+
+returns : tie.Need-returns Inv-loop μ-loop
+returns c =
+    let h3 = c .before .before .before in
+    let h2 = h3 .before .before .before in
+    let h1 = h2 .before .before .before in
+    let l = h1 .before .before .before .before in
+    let s = l .before .args .t1 in
+    let v = l .loop .inv in
+    let end : downFrom (l .loop .t) ≡ [] = down-end (l .loop .t) (omega arith) in
+    let g = sym (v .3 ∙ and-last (l .loop .good) _ (ap (every (goodIn (view s))) end)) in
+    let word : (d : Line) (m : ℕ) → due s d noMarks (s .created) ≡ due s d m (l .loop .t) → m ≡ due s d noMarks (s .created)
+    = λ d m e. sym (e ∙ ap (marked (λ u. belongs d (taskOf (view s) u)) m) end) in
+    let r = stands-is s Ready _ _ _ (v .0) (word Ready _ (v .4)) refl (h1 .holds .ensures) in
+    let q = stands-is s Callers _ _ _ (v .0) (word Callers _ (v .5)) refl (h2 .holds2 .ensures) in
+    let h = stands-is s Held _ _ _ (v .0) (word Held _ (v .6)) refl (h3 .holds3 .ensures) in
+    let d = stands-is s Delays _ _ _ (v .0) (word Delays _ (v .7)) refl (c .holds4 .ensures) in
+    λ i. g i && (((r i && q i) && h i) && d i)
+
+pub all-stand-spec : {M : Type 1} → statement M
+all-stand-spec =
+    tie.close
+    (tie.spec Inv-loop μ-loop loop-holds (λ c. omega arith) (λ c. search needs) (λ c. omega arith) (λ c. omega arith)
+    (λ c κs. search needs) (λ c κs. c .before .before .before .loop .inv .0) (λ c. search needs) (λ c. search needs) (λ c κs. search needs) (λ c κs. search needs)
+    (λ c κs. search needs) (λ c κs. search needs) (λ c κs. search needs) (λ c κs. search needs) (λ c κs. search needs) (λ c κs. search needs)
+    (λ c κs. search needs) (λ c κs. search needs) (λ c. omega arith) (λ c. omega arith) loop-again
+    (λ c κs. search needs) (λ c κs. search needs) (λ c κs. search needs) (λ c κs. search needs) returns)
