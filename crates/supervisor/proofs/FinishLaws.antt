@@ -2,15 +2,18 @@
 -- Assumes nothing.
 use Prim.Native.Nat.{ℕ, zero, suc, _+_, _-_, _≤_, _<_}
 use mathlib.Core.Path.{_≡_, refl, sym, ap, _∙_}
+use mathlib.Core.Bool.{Bool, true, false}
+use mir.Val.{boolByte}
 use mathlib.Core.List.{List, [], _∷_, _++_, map, append-assoc, append-nil, tail-eq-of-cons-eq, nil≢cons}
 use native.Mathlib.Omega.{arith}
 use native.Mathlib.Numerals.{add-one}
 use lib.Dec.{eqb, ltb}
-use lib.ListN.{length, List·getD-eq-default}
-use borrow.Author.Tests.{ltb-true, lt-ltb, le-ltb, ltb-false, ne-eqb}
+use lib.ListN.{length, drop, getD, drop-of-length-le, List·getD-eq-default}
+use lib.Seq.{drop-cons}
+use borrow.Author.Tests.{ltb-true, lt-ltb, le-ltb, ltb-false, eq-eqb, ne-eqb}
 use Rattle.lists.proofs.LineLaws.{line-line, line-append, line-pad}
 use Rattle.lists.specs.Line.{line, pad, padTo}
-use Rattle.lists.specs.Lists.{if_then_else_, count, first}
+use Rattle.lists.specs.Lists.{if_then_else_, bit, count, first}
 use Rattle.lists.specs.Marks.{noMarks, markOf, marked, withMark}
 use Rattle.lists.proofs.MarkLaws.{filter-same, mark-in, marked-length}
 use Rattle.rules.specs.State.{State, move, running, queue, heldBy, wakeAll}
@@ -49,6 +52,42 @@ pad-again xs ys h = padTo-again 31 xs ys h
 
 pub pad-none : (xs : List ℕ) → pad (xs ++ []) ≡ pad xs
 pad-none xs = ap pad (append-nil xs)
+
+-- ---- how many have a mark
+
+byte-bit : (b : Bool) → boolByte b ≡ bit b
+byte-bit true = refl
+byte-bit false = refl
+
+-- the mark at place i, and the rest
+pub times-turn : (k : ℕ) (m : List ℕ) (i : ℕ) → i < length m → count k (drop i m) ≡ boolByte (eqb (getD m i 0) k) + count k (drop (i + 1) m)
+times-turn k m i h = rw (drop-cons m i 0 h, add-one i, byte-bit (eqb (getD m i 0) k))
+
+pub times-done : (k : ℕ) (m : List ℕ) (i : ℕ) → length m ≤ i → count k (drop i m) ≡ 0
+times-done k m i h = rw (drop-of-length-le m h)
+
+pub times-short : (k : ℕ) (m : List ℕ) → count k m ≤ length m
+times-short k [] = omega arith
+times-short k (x ∷ m) = by-bool (eqb x k) (λ e. rw e (omega (arith, times-short k m))) (λ e. rw e (omega (arith, times-short k m)))
+
+-- a mark stands among the marks
+times-at : (m : List ℕ) (i : ℕ) → i < length m → 0 < count (getD m i 0) m
+times-at [] i h = absurd (omega arith)
+times-at (x ∷ m) zero h = rw (eq-eqb x x refl) (omega arith)
+times-at (x ∷ m) (suc i) h = omega (arith, times-at m i (omega arith))
+
+-- where k is not among the marks nobody has it
+pub none-has : (m : List ℕ) (k : ℕ) (l : List ℕ) → count k m ≡ 0 → 0 < k → withMark m k l ≡ []
+none-has m k [] z h = refl
+none-has m k (x ∷ xs) z h = rw (ne-eqb (markOf m x) k other, none-has m k xs z h)
+  where
+    other : markOf m x ≡ k → ⊥
+    other e =
+        by-bool (ltb x (length m))
+        (λ b. omega (arith, z, rw e at (times-at m x (ltb-true x (length m) b))))
+        (λ b. omega (arith, e, List·getD-eq-default m 0 {n = x} (ltb-false x (length m) b)))
+
+-- ---- the queues by marks
 
 -- the queues of the entries e, e + 1, .., k of them, by the marks of the callers
 pub byMarks : List ℕ → List ℕ → ℕ → ℕ → List ℕ

@@ -3,8 +3,8 @@ ghost use lib.Dec.{eqb};
 ghost use mathlib.Core.List.{_++_};
 ghost use mathlib.Core.Path.{_≡_};
 ghost use Rattle.lists.specs.Line.{line, pad};
-ghost use Rattle.lists.specs.Lists.{if_then_else_, first};
-ghost use Rattle.lists.specs.Marks.{noMarks, marked};
+ghost use Rattle.lists.specs.Lists.{if_then_else_, count, first};
+ghost use Rattle.lists.specs.Marks.{noMarks, marked, withMark};
 ghost use Rattle.rules.specs.Step.{queuedOn};
 ghost use Rattle.rules.specs.Whole.{view};
 ghost use Rattle.supervisor.specs.Lowest.{openCall, callOf, nobody, lowerOf, lowestOf};
@@ -88,6 +88,29 @@ fn entries_called(s: Supervisor, t: u8) -> [u8; 32]
     marks
 }
 
+// How many have the mark k.
+fn times(marks: [u8; 32], k: u8) -> u8
+    ensures { λ r. ⌜ r ≡ count k marks ⌝ }
+{
+    let mut n: u8 = 0;
+    let mut i: usize = 0;
+    while i < 32 {
+        n += (marks[i] == k) as u8;
+        i += 1;
+    }
+    n
+}
+
+// The callers with the mark of entry e. Where none has it, which is seen at once, the line is not walked.
+fn queue_of(callers: [u8; 31], marks: [u8; 32], e: u8) -> [u8; 31]
+    ensures { λ r. ⌜ r ≡ pad (withMark marks e (line callers)) ⌝ }
+{
+    if (0 < e) & (times(marks, e) == 0) {
+        return [0u8; 31];
+    }
+    lines::picked(callers, marks, e)
+}
+
 // Line q behind line r, where there is anything in it.
 fn behind(r: [u8; 31], q: [u8; 31]) -> [u8; 31]
     ensures { λ n. ⌜ n ≡ (if eqb (first (line q)) 0 then r else pad (line r ++ line q)) ⌝ }
@@ -107,7 +130,7 @@ fn each_queue(s: Supervisor, t: u8) -> [u8; 31]
     let mut r = [0u8; 31];
     let mut e: u8 = 1;
     while e < 9 {
-        let q = lines::picked(callers, marks, e);
+        let q = queue_of(callers, marks, e);
         let next = behind(r, q);
         r = next;
         e += 1;

@@ -27,11 +27,11 @@ unfolding pad padTo
 loop-holds c = (omega arith, omega arith, search (needs, mapped-long), refl, refl)
 
 -- what is picked by the mark e
-picked-here : (c : tie.After-picked Inv-loop μ-loop) → let l = c .before .before .loop in let m = c .before .before .before .entries-called .result in line (c .picked .result) ≡ withMark m (l .e) (line (c .before .before .before .before .before .args .s .callers))
+picked-here : (c : tie.After-queue-of Inv-loop μ-loop) → let l = c .before .before .loop in let m = c .before .before .before .entries-called .result in line (c .queue-of .result) ≡ withMark m (l .e) (line (c .before .before .before .before .before .args .s .callers))
 picked-here c =
     let l = c .before .before .loop in
     let m = c .before .before .before .entries-called .result in
-    ap line (c .picked .ensures) ∙ line-picked (λ t. eqb (markOf m t) (l .e)) (c .before .before .before .before .before .args .s .callers) (l .inv .2)
+    ap line (c .queue-of .ensures) ∙ line-picked (λ t. eqb (markOf m t) (l .e)) (c .before .before .before .before .before .args .s .callers) (l .inv .2)
 
 loop-again : tie.Need-loop-again Inv-loop μ-loop
 loop-again c =
@@ -39,7 +39,7 @@ loop-again c =
     let l = p .before .before .loop in
     let m = p .before .before .before .entries-called .result in
     let a = line (p .before .before .before .before .before .args .s .callers) in
-    let q = p .picked .result in (
+    let q = p .queue-of .result in (
       omega arith,
       omega arith,
       l .inv .2,
