@@ -2,6 +2,7 @@
 // room that is too short cuts it off.
 ghost use mathlib.Core.Path.{_≡_};
 ghost use mathlib.Core.Bool.{cond};
+ghost use mathlib.Core.List.{_++_};
 ghost use Rattle.calls.specs.Record.{encode};
 ghost use Rattle.text.specs.Text.{Put};
 ghost use Rattle.script.specs.CallText.{spaced, spacedTime, entry, entries, openText, callModeText, selectModeText, textOf};
@@ -33,6 +34,14 @@ fn put_time(d: i32, out: &mut [u8], at: usize) -> usize
         return put_number(ticks(!d) as u64 + 1, out, k);
     }
     put_spaced(ticks(d) as u64, out, at)
+}
+
+// A word and a duration.
+fn put_timed(word: &[u8], d: i32, out: &mut [u8], at: usize) -> usize
+    ensures { λ r. ⌜ Put (now (out .entry)) at (now (word .entry) ++ spacedTime d) (now (out .exit)) r ⌝ }
+{
+    let k = put_bytes(word, out, at);
+    put_time(d, out, k)
 }
 
 // An entry of an open set, where it is open.
@@ -86,10 +95,7 @@ fn put_call_mode(mode: CallMode, out: &mut [u8], at: usize) -> usize
 {
     match mode {
         CallMode::Simple => least(at, out.len()),
-        CallMode::Timed(d) => {
-            let k = put_bytes(b" timed", out, at);
-            put_time(d, out, k)
-        }
+        CallMode::Timed(d) => put_timed(b" timed", d, out, at),
         CallMode::Conditional => put_bytes(b" conditional", out, at),
     }
 }
@@ -100,10 +106,7 @@ fn put_select_mode(mode: SelectMode, out: &mut [u8], at: usize) -> usize
 {
     match mode {
         SelectMode::Plain => least(at, out.len()),
-        SelectMode::Delay(d) => {
-            let k = put_bytes(b" delay", out, at);
-            put_time(d, out, k)
-        }
+        SelectMode::Delay(d) => put_timed(b" delay", d, out, at),
         SelectMode::Else => put_bytes(b" else", out, at),
     }
 }
@@ -114,13 +117,6 @@ fn put_create(priority: u8, entries: u8, out: &mut [u8], at: usize) -> usize
     let k = put_bytes(b"CREATE", out, at);
     let l = put_spaced(priority as u64, out, k);
     put_spaced(entries as u64, out, l)
-}
-
-fn put_delay(d: i32, out: &mut [u8], at: usize) -> usize
-    ensures { λ r. ⌜ Put (now (out .entry)) at (textOf (Call.Delay d)) (now (out .exit)) r ⌝ }
-{
-    let k = put_bytes(b"DELAY", out, at);
-    put_time(d, out, k)
 }
 
 fn put_entry_call(target: u8, entry: u8, mode: CallMode, out: &mut [u8], at: usize) -> usize
@@ -153,7 +149,7 @@ pub fn put_call(c: Call, out: &mut [u8], at: usize) -> usize
 {
     match c {
         Call::Create { priority, entries } => put_create(priority, entries, out, at),
-        Call::Delay(d) => put_delay(d, out, at),
+        Call::Delay(d) => put_timed(b"DELAY", d, out, at),
         Call::Call {
             target,
             entry,

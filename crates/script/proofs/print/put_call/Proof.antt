@@ -10,10 +10,11 @@ returns : tie.Need-returns
 returns c = rw (c .before .before .before .before .before .c .given .1) (c .before .before .put-create .ensures)
 
 returns-2 : tie.Need-returns-2
+unfolding textOf
 returns-2 c =
-    let k = c .before .before .before .before .before .c2 .given in
+    let k = c .before .before .before .before .before .before .c2 .given in
     let e : toZ w32 (ofZ w32 (k .0 .0)) ≡ k .0 .0 = search needs in
-    rw (k .1) (rw e at (c .before .before .put-delay .ensures))
+    rw (k .1) (rw e at (c .before .before .put-timed .ensures))
 
 returns-3 : tie.Need-returns-3
 returns-3 c = rw (c .before .before .before .before .before .c3 .given .1) (c .before .before .put-entry-call .ensures)
@@ -42,6 +43,7 @@ put-call-spec =
     (tie.spec
     (λ c. search needs)
     (λ c κs. search needs)
+    (λ c. search needs)
     (λ c. search needs)
     (λ c κs. search needs)
     (λ c. search needs)

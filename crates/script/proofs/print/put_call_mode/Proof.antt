@@ -1,5 +1,5 @@
 use Rattle.script.specs.CallText.{callModeText}
-use Rattle.text.proofs.Puts.{then-put, put-none}
+use Rattle.text.proofs.Puts.{put-none}
 use mir.Val.{toZ, ofZ}
 use mir.Syntax.{w32}
 use mathlib.Core.Path.{_≡_}
@@ -14,13 +14,13 @@ returns c = rw (c .before .enum-told .given .1) (put-none (c .least .ensures))
 returns-2 : tie.Need-returns-2
 unfolding callModeText
 returns-2 c =
-    let k = c .before .before .before .before .before .before .before .before .before .before .mode .given in
+    let k = c .before .before .before .before .before .before .mode .given in
     let e : toZ w32 (ofZ w32 (k .0 .0)) ≡ k .0 .0 = search needs in
-    rw (k .1) (then-put (c .before .before .before .before .before .before .put-bytes .ensures) (rw e at (c .before .before .put-time .ensures)))
+    rw (k .1) (rw e at (c .before .before .put-timed .ensures))
 
 returns-3 : tie.Need-returns-3
 unfolding callModeText
-returns-3 c = rw (c .before .before .before .before .before .enum-told2 .given .1) (c .before .before .put-bytes2 .ensures)
+returns-3 c = rw (c .before .before .before .before .before .enum-told2 .given .1) (c .before .before .put-bytes .ensures)
 
 pub put-call-mode-spec : {M : Type 1} → statement M
 put-call-mode-spec =
@@ -30,7 +30,6 @@ put-call-mode-spec =
     (λ c κs. search needs)
     (λ c. search needs)
     (λ c. search needs)
-    (λ c κs. search needs)
     (λ c κs. search needs)
     (λ c. search needs)
     (λ c. search needs)
