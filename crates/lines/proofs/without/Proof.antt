@@ -5,7 +5,7 @@ use mathlib.Core.Path.{_≡_, refl, sym, _∙_, ap}
 use mathlib.Core.Bool.{Bool, not}
 use mathlib.Core.List.{_++_}
 use lib.Dec.{eqb}
-use lib.ListN.{drop, take, length}
+use lib.ListN.{drop, take, length, getD}
 use borrow.Author.Tests.{eq-eqb, ne-eqb}
 use Rattle.lists.specs.Line.{line, pad}
 use Rattle.lists.proofs.Tests.{ways}
@@ -43,7 +43,7 @@ loop-again c =
       omega arith,
       omega arith,
       simp (w .1, w .2) (fill (s .r) (s .j) _ room (s .inv .2)),
-      rw (w .1, w .2) (s .inv .3 ∙ pick-on p (s .r) (s .j) _ _ _ room (s .inv .2) rest (ap not (ne-eqb _ _ (w .0 .taken)))),
+      rw (w .1, w .2) (s .inv .3 ∙ pick-on p (s .r) (s .j) _ _ _ room (s .inv .2) rest (ap not (ne-eqb (getD (a .t1) (s .i) 0) (a .t) (w .0 .taken)))),
     ))
     (λ w. (
       omega arith,
