@@ -59,9 +59,8 @@ pub fn fresh(area: Tables) -> Tables
 pub fn request(area: Tables, size: u32) -> Tables
     ensures { λ r. ⌜ r ≡ ownedAfter area (requestOf (area .blocks) (area .free) (area .answer .used) size) ⌝ }
 {
-    let last = area.answer;
     let seen = looked(area, size);
-    let taken = requested(seen, last.used, size);
+    let taken = requested(seen, area.answer.used, size);
     left(taken.blocks, taken.free, taken.answer)
 }
 
@@ -69,8 +68,7 @@ pub fn request(area: Tables, size: u32) -> Tables
 pub fn release(area: Tables, start: u32) -> Tables
     ensures { λ r. ⌜ r ≡ ownedAfter area (releaseOf (area .blocks) (area .free) (area .answer .used) start) ⌝ }
 {
-    let last = area.answer;
     let seen = looked(area, 0);
-    let given = released(seen, last.used, start);
+    let given = released(seen, area.answer.used, start);
     left(given.blocks, given.free, given.answer)
 }

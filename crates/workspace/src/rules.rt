@@ -96,23 +96,20 @@ pub fn tiles(b: [Stretch; 32], m: usize, f: [Stretch; 32], n: usize) -> bool
 pub fn has_seen(seen: Look) -> bool
     ensures { λ r. ⌜ r ≡ hasSeen seen ⌝ }
 {
-    let p = seen.places;
-    (31 <= p.blocks) & (32 <= p.free)
+    (31 <= seen.places.blocks) & (32 <= seen.places.free)
 }
 
 // The tables keep the rules.
 pub fn keeps(seen: Look, used: Used) -> bool
     ensures { λ r. ⌜ r ≡ keepsSeen seen used ⌝ }
 {
-    let b = seen.blocks;
-    let f = seen.free;
-    let bs = b.places;
-    let fs = f.places;
+    let bs = seen.blocks.places;
+    let fs = seen.free.places;
     let m = at_most_32(used.blocks);
     let n = at_most_32(used.free);
     let h = has_seen(seen);
     let x = all_none(bs, m);
     let y = all_none(fs, n);
     let t = tiles(bs, m, fs, n);
-    h & (used.blocks <= 31) & (used.free <= 32) & b.clear & f.clear & x & y & t
+    h & (used.blocks <= 31) & (used.free <= 32) & seen.blocks.clear & seen.free.clear & x & y & t
 }

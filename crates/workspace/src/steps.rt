@@ -105,10 +105,8 @@ pub fn request_refusal(seen: Look, used: Used, size: u32) -> u8
 pub fn granted(seen: Look, used: Used, size: u32) -> Done
     ensures { λ r. ⌜ r ≡ grantSeen seen used size ⌝ }
 {
-    let b = seen.blocks;
-    let f = seen.free;
-    let bs = b.places;
-    let fs = f.places;
+    let bs = seen.blocks.places;
+    let fs = seen.free.places;
     let p = seen.place;
     let s = nth(fs, p);
     let m = at_most_32(used.blocks);
@@ -143,8 +141,7 @@ pub fn requested(seen: Look, used: Used, size: u32) -> Done
 pub fn block_at(seen: Look, used: Used, start: u32) -> usize
     ensures { λ r. ⌜ r ≡ blockAt seen used start ⌝ }
 {
-    let b = seen.blocks;
-    let bs = b.places;
+    let bs = seen.blocks.places;
     let m = at_most_32(used.blocks);
     place_of(bs, m, Test::StartsAt, start)
 }
@@ -230,10 +227,8 @@ pub fn count_back(b: Stretch, k: usize, n: usize, l: [Stretch; 32]) -> usize
 pub fn freed(seen: Look, used: Used, p: usize) -> Done
     ensures { λ r. ⌜ r ≡ freeSeen seen used p ⌝ }
 {
-    let t = seen.blocks;
-    let f = seen.free;
-    let bs = t.places;
-    let fs = f.places;
+    let bs = seen.blocks.places;
+    let fs = seen.free.places;
     let b = nth(bs, p);
     let n = at_most_32(used.free);
     let k = place_of(fs, n, Test::StartsBehind, b.start);

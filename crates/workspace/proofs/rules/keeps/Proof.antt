@@ -11,7 +11,7 @@ returns c =
     let h = x .before in
     let n = h .before in
     let m = n .before in
-    let a = m .before .before .before .before .before .args in
+    let a = m .before .before .before .args in
     keep-law (a .seen) (a .used) (h .has-seen .ensures) (m .at-most-32 .ensures) (n .at-most-322 .ensures) (x .all-none .ensures) (y .all-none2 .ensures) (t .tiles .ensures)
 
 pub keeps-spec : {M : Type 1} → statement M

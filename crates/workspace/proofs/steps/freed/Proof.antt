@@ -12,7 +12,7 @@ returns c =
     let k = blocks .before in
     let n = k .before in
     let b = n .before in
-    let a = b .before .before .before .before .before .args in
+    let a = b .before .before .before .args in
     free-law (a .seen) (a .used) (a .p) (b .nth .ensures) (n .at-most-32 .ensures) (k .place-of .ensures) (blocks .closed .ensures) (free .give-back .ensures) (fewer .down .ensures) (left .count-back .ensures) (c .done-as .ensures)
 
 pub freed-spec : {M : Type 1} → statement M

@@ -17,7 +17,7 @@ returns c =
     let k = blocks .before in
     let m = k .before in
     let s = m .before in
-    let a = s .before .before .before .before .before .args in
+    let a = s .before .before .before .args in
     grant-law (a .seen) (a .used) (a .size) (s .nth .ensures) (m .at-most-32 .ensures) (k .place-of .ensures) (blocks .opened .ensures) (start .wrapping-add-u32 .ensures) (length .less .ensures) (whole .closed .ensures) (part .with-at .ensures) (free .pick-places .ensures) (more .up .ensures) (fewer .down .ensures) (left .pick-usize .ensures) (c .done-as .ensures)
 
 pub granted-spec : {M : Type 1} → statement M
