@@ -48,6 +48,7 @@ pub extern "C" fn card_sound(state: &[u8]) -> u8
     flag(supervisor::sound(s))
 }
 
+// A record that cannot be read: every number but the refusal is 0.
 fn unread(refusal: u8) -> Answer
     ensures { λ r. ⌜ r ≡ record { refusal = refusal; result = 0; task = 0; entry = 0; partner = 0; ended = 0; next = 0 } ⌝ }
 {

@@ -16,6 +16,7 @@ use rules::Timer;
 use rules::Waiting;
 use table::tasks::blank_task;
 
+// A place's tag.
 fn place_tag(p: Place) -> u8
     ensures { λ r. ⌜ r ≡ placeTag p ⌝ }
 {
@@ -30,6 +31,7 @@ fn place_tag(p: Place) -> u8
     }
 }
 
+// The first byte of a place: the called task, the holder or the open set.
 fn place_first(p: Place) -> u8
     ensures { λ r. ⌜ r ≡ placeFirst p ⌝ }
 {
@@ -44,6 +46,7 @@ fn place_first(p: Place) -> u8
     }
 }
 
+// The second byte of a place: the called entry.
 fn place_second(p: Place) -> u8
     ensures { λ r. ⌜ r ≡ placeSecond p ⌝ }
 {
@@ -58,6 +61,7 @@ fn place_second(p: Place) -> u8
     }
 }
 
+// A time's tag.
 fn timer_tag(w: Timer) -> u8
     ensures { λ r. ⌜ r ≡ timerTag w ⌝ }
 {
@@ -67,6 +71,7 @@ fn timer_tag(w: Timer) -> u8
     }
 }
 
+// The clock reading at which a time is due, 0 if there is none.
 fn timer_due(w: Timer) -> u32
     ensures { λ r. ⌜ r ≡ timerDue w ⌝ }
 {
@@ -101,18 +106,21 @@ fn task_bytes(x: Task) -> [u8; 10]
     ]
 }
 
+// Whether bytes are a place: a tag up to 6, and 0 in each byte that its place does not use.
 fn is_place(tag: u8, a: u8, b: u8) -> bool
     ensures { λ r. ⌜ r ≡ isPlace tag a b ⌝ }
 {
     (tag <= 6) & (((3 <= tag) & (tag <= 5)) | (a == 0)) & (((3 <= tag) & (tag <= 4)) | (b == 0))
 }
 
+// Whether bytes are a time: off with 0, or due at a reading.
 fn is_timer(tag: u8, due: u32) -> bool
     ensures { λ r. ⌜ r ≡ isTimer tag due ⌝ }
 {
     ((tag == 0) & (due == 0)) | (tag == 1)
 }
 
+// The place of a tag and its two bytes.
 fn place_from(tag: u8, a: u8, b: u8) -> Place
     ensures { λ r. ⌜ r ≡ placeFrom tag a b ⌝ }
 {
@@ -133,6 +141,7 @@ fn place_from(tag: u8, a: u8, b: u8) -> Place
     }
 }
 
+// The time of a tag and a reading.
 fn timer_from(tag: u8, due: u32) -> Timer
     ensures { λ r. ⌜ r ≡ timerFrom tag due ⌝ }
 {
