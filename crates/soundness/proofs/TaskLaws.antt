@@ -1,6 +1,6 @@
 -- Tests on one task, on the task that it has called, and where a task stands in the table.
 -- Assumes nothing.
-use Prim.Native.Nat.{ℕ, _≤_, _<_}
+use Prim.Native.Nat.{ℕ, _-_, _≤_, _<_}
 use mathlib.Core.Path.{_≡_, refl, sym, ap, _∙_}
 use mathlib.Core.Bool.{Bool, true, false, not, _&&_}
 use mathlib.Core.List.{List}
@@ -8,8 +8,7 @@ use native.Mathlib.Omega.{arith}
 use lib.Dec.{ltb, leb}
 use lib.ListN.{getD, take}
 use borrow.Author.Tests.{lt-ltb, le-ltb, le-leb, leb-true, leb-false, ltb-true, ltb-false}
-use Rattle.lists.specs.Lists.{if_then_else_}
-use Rattle.lists.proofs.ListLaws.{by-bool}
+use Rattle.lists.proofs.ListLaws.{by-bool, clash}
 use Rattle.lists.proofs.Tests.{and-first, and-second}
 use Rattle.rules.specs.State.{blank, nth, taskOf, partnerOf, left}
 use Rattle.rules.specs.Sound.{timeInRange, goodTask}
@@ -18,7 +17,7 @@ use Rattle.rules.specs.declared.Supervisor.{Supervisor}
 use Rattle.rules.specs.declared.Task.{Task}
 use Rattle.rules.specs.declared.Timer.the-variants.{Due}
 use Rattle.table.proofs.LeafLaws.{task-in, task-past}
-use Rattle.soundness.specs.Check.{named, goodIn, indexIn}
+use Rattle.soundness.specs.Check.{named, goodIn}
 
 pub and-last : (a b : Bool) → b ≡ true → (a && b) ≡ a
 and-last true b e = e
@@ -42,17 +41,17 @@ named-is n t a b = rw (lt-ltb 0 t a, le-leb t n b)
 pub named-range : (n t : ℕ) → named n t ≡ true → (0 < t) × (t ≤ n)
 named-range n t e = (ltb-true 0 t (and-first (ltb 0 t) (leb t n) e), leb-true t n (and-second (ltb 0 t) (leb t n) e))
 
--- what the code looks up for the number u is task u
-called-in : (ts : List Task) (n u : ℕ) → (if named n u then getD ts (indexIn n u) blank else blank) ≡ nth (take n ts) u
-called-in ts n u =
-    by-bool (ltb 0 u)
-    (λ p. by-bool (leb u n)
-    (λ q. rw (p, q) (task-in ts n u (λ z. omega (arith, ltb-true 0 u p)) (leb-true u n q)))
-    (λ q. rw (p, q) (task-past ts n u (leb-false u n q))))
-    (λ p. let z : u ≡ 0 = omega (arith, ltb-false 0 u p) in rw (p, z))
+-- the task of the number u, where one has it, and where none has
+pub called-one : (s : Supervisor) (u : ℕ) → named (s .created) u ≡ true → getD (s .tasks) (u - 1) blank ≡ taskOf (view s) u
+called-one s u e = let r = named-range (s .created) u e in task-in (s .tasks) (s .created) u (λ z. omega arith) (r .1)
 
-pub called-is : (s : Supervisor) (u i : ℕ) (g : Task) → i ≡ indexIn (s .created) u → g ≡ (if named (s .created) u then getD (s .tasks) i blank else blank) → g ≡ taskOf (view s) u
-called-is s u i g ei eg = eg ∙ ap (λ (k : ℕ). if named (s .created) u then getD (s .tasks) k blank else blank) ei ∙ called-in (s .tasks) (s .created) u
+pub called-none : (s : Supervisor) (u : ℕ) → named (s .created) u ≡ false → blank ≡ taskOf (view s) u
+called-none s u e =
+    by-bool (leb u (s .created))
+    (λ q. by-bool (ltb 0 u)
+    (λ p. clash (rw (p, q)) e)
+    (λ p. let z : u ≡ 0 = omega (arith, ltb-false 0 u p) in rw z))
+    (λ q. task-past (s .tasks) (s .created) u (leb-false u (s .created) q))
 
 -- what the code finds good is good in the rules' view: x is task t, and g the task that it has called
 pub good-is : (s : Supervisor) (t u : ℕ) (x g : Task) (r : Bool) → x ≡ taskOf (view s) t → u ≡ partnerOf (x .place) → g ≡ taskOf (view s) u → r ≡ goodTask (s .clock) x g → r ≡ goodIn (view s) t

@@ -1,6 +1,6 @@
 -- What the parts of the soundness check answer.
 -- Assumes nothing.
-use Prim.Native.Nat.{ℕ, _-_}
+use Prim.Native.Nat.{ℕ}
 use mathlib.Core.Bool.{Bool, true, false, _&&_}
 use mathlib.Core.List.{List, [], _∷_}
 use lib.Dec.{eqb, ltb, leb}
@@ -64,10 +64,6 @@ abbrev pub standsIn : Supervisor → Line → Bool
 standsIn s l = lineHas (s .created) (λ t. belongs l (taskOf (view s) t)) (arrayOf s l)
 
 -- ── how the code finds out ──
-
--- where task u of n stands in the table; 0 where u is none of them
-abbrev pub indexIn : ℕ → ℕ → ℕ
-indexIn n u = if named n u then u - 1 else 0
 
 -- the word goes on with the tasks of the list: those that pass the test are to be met
 abbrev pub marked : (ℕ → Bool) → Marks → List ℕ → Marks

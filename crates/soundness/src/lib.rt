@@ -10,10 +10,12 @@ ghost use Rattle.rules.specs.Whole.{view, unused, soundWhole};
 ghost use Rattle.soundness.specs.Check.{Ready, Callers, Held, Delays, standsIn, goodIn};
 use rules::Supervisor;
 use table::place::has_time;
+use table::place::is_between;
 use table::place::is_held;
 use table::place::is_queued;
 use table::place::is_ready;
 use table::place::partner_of;
+use table::tasks::blank_task;
 
 mod marks;
 mod order;
@@ -54,9 +56,11 @@ fn all_stand(s: Supervisor) -> bool
         let p = x.place;
         let w = x.timer;
         let u = partner_of(p);
-        let at = task::index_in(s.created, u);
-        let k = s.tasks[at];
-        let g = task::called(s.created, u, k);
+        let mut g = blank_task();
+        if is_between(u, s.created) {
+            let at = (u - 1) as usize;
+            g = s.tasks[at];
+        }
         good = good & task::is_good(s.clock, x, g);
         ready = marks::next(ready, is_ready(p));
         callers = marks::next(callers, is_queued(p));

@@ -1,22 +1,15 @@
 // Tests on one task, and on the task that it has called.
-ghost use Prim.Native.Nat.{_≤_, _<_};
 ghost use mathlib.Core.Path.{_≡_};
-ghost use Rattle.lists.specs.Lists.{if_then_else_};
-ghost use Rattle.rules.specs.State.{blank};
 ghost use Rattle.rules.specs.Sound.{calls, fits, timeInRange, goodTask};
 ghost use Rattle.rules.specs.Whole.{isBlank, isOff, unused};
-ghost use Rattle.soundness.specs.Check.{named, indexIn};
 use rules::Place;
 use rules::Task;
 use rules::Timer;
 use table::place::accepts_at;
 use table::place::has_time;
 use table::place::in_range;
-use table::place::is_between;
 use table::place::is_completed;
 use table::place::is_too_wide;
-use table::tasks::blank_task;
-use table::tasks::pick_task;
 
 fn is_blank(p: Place) -> bool
     ensures { λ r. ⌜ r ≡ isBlank p ⌝ }
@@ -47,25 +40,6 @@ pub fn is_unused(x: Task) -> bool
     let p = x.place;
     let w = x.timer;
     (x.priority == 0) & (x.entries == 0) & is_blank(p) & is_off(w)
-}
-
-// Where task u of n stands in the table; 0 where u is none of them.
-pub fn index_in(n: u8, u: u8) -> usize
-    requires { ⌜ n ≤ 31 ⌝ }
-    ensures { λ r. ⌜ (r ≡ indexIn n u) × (r < 31) ⌝ }
-{
-    if is_between(u, n) {
-        (u - 1) as usize
-    } else {
-        0
-    }
-}
-
-// Of n tasks, task u, where k is what stands at its place; a blank one where u is none of them.
-pub fn called(n: u8, u: u8, k: Task) -> Task
-    ensures { λ r. ⌜ r ≡ (if named n u then k else blank) ⌝ }
-{
-    pick_task(is_between(u, n), k, blank_task())
 }
 
 // Whether e is an entry of the called task g.

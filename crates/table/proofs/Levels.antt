@@ -1,17 +1,21 @@
 -- One pass that keeps the first task of the highest priority finds the head of the highest ready queue.
 -- Assumes nothing.
-use Prim.Native.Nat.{ℕ, zero, suc, _≤_, _<_}
-use mathlib.Core.Path.{_≡_, refl, sym, _∙_}
+use Prim.Native.Nat.{ℕ, zero, suc, _-_, _≤_, _<_}
+use mathlib.Core.Path.{_≡_, refl, sym, ap, _∙_}
 use mathlib.Core.Bool.{Bool, true, false, _&&_, true≢false}
 use mathlib.Core.List.{List, [], _∷_}
 use native.Mathlib.Omega.{arith}
 use lib.Dec.{ltb, leb, eqb}
-use borrow.Author.Tests.{ne-eqb, eqb-true, eqb-false, le-leb, lt-leb, lt-ltb, leb-true, leb-false, ltb-true}
+use lib.ListN.{length, getD, take}
+use borrow.Author.Tests.{ne-eqb, eqb-true, eqb-false, le-leb, lt-leb, lt-ltb, le-ltb, leb-true, leb-false, ltb-true}
 use Rattle.lists.specs.Lists.{if_then_else_, filter}
+use Rattle.lists.proofs.ListLaws.{by-bool}
 use Rattle.lists.proofs.Tests.{and-first, and-second}
-use Rattle.rules.specs.State.{State, taskOf, level, headUpTo, running}
-use Rattle.table.specs.Best.{bestOf, betterOf}
-use Rattle.rules.specs.State.{priorityOf}
+use Rattle.rules.specs.State.{State, blank, nth, level, headUpTo, priorityOf, running}
+use Rattle.rules.specs.Whole.{view}
+use Rattle.rules.specs.declared.Supervisor.{Supervisor}
+use Rattle.table.specs.Best.{bestOf, betterOf, lastOf, levelOf}
+use Rattle.table.proofs.LeafLaws.{task-in, task-past, task-out}
 use Rattle.table.specs.declared.dispatch.Best.{Best}
 use Rattle.rules.specs.declared.Task.{Task}
 
@@ -82,6 +86,35 @@ pub one-pass-running : (s : State) → running s ≡ bestOf (priorityOf s) (reco
 unfolding running
 one-pass-running s = sym (one-pass (priorityOf s) (s .ready) (record { task = 0; priority = 0 }) ∙ from-zero s 15)
 
--- one turn
-pub best-turn : (s : State) (b c : Best) (x : Task) (t : ℕ) (xs ys : List ℕ) → xs ≡ t ∷ ys → x ≡ taskOf s t → c ≡ betterOf b t (x .priority) → bestOf (priorityOf s) b xs .task ≡ bestOf (priorityOf s) c ys .task
-best-turn s b c x t xs ys q ex ec = rw (q, ec, ex)
+-- ── one turn ──
+
+pub last-low : (n : ℕ) → (lastOf n ≤ n) × (lastOf n ≤ 31)
+last-low n = by-bool (leb n 31) (λ e. rw e (omega arith, leb-true n 31 e)) (λ e. rw e (omega (arith, leb-false n 31 e), omega arith))
+
+-- a priority that is no level makes nobody better
+better-level : (b : Best) (t p : ℕ) → betterOf b t (levelOf p) ≡ betterOf b t p
+better-level b t p = by-bool (leb p 15) (λ e. rw (e, e)) (λ e. rw (e, le-ltb (b .priority) 0 (omega arith)) (go (ltb (b .priority) p)))
+  where
+    go : (y : Bool) → b ≡ (if y && false then record { task = t; priority = p } else b)
+    go true = refl
+    go false = refl
+
+module _ (s : Supervisor) (b : Best) (t n : ℕ) (xs ys : List ℕ) (q : xs ≡ t ∷ ys) where
+  -- a task of the table
+  pub best-turn : (c : Best) (p : ℕ) → (t ≡ 0 → ⊥) → n ≡ lastOf (s .created) → t ≤ n → p ≡ levelOf (getD (s .tasks) (t - 1) blank .priority) → c ≡ betterOf b t p
+      → bestOf (priorityOf (view s)) b xs .task ≡ bestOf (priorityOf (view s)) c ys .task
+  best-turn c p z en h ep ec =
+      let k = last-low (s .created) in
+      let x = task-in (s .tasks) (s .created) t z (omega arith) in
+      let e : betterOf b t (priorityOf (view s) t) ≡ c = sym (ec ∙ ap (betterOf b t) ep ∙ better-level b t _ ∙ ap (λ (y : Task). betterOf b t (y .priority)) x) in
+      rw q (ap (λ (a : Best). bestOf (priorityOf (view s)) a ys .task) e)
+
+  -- a number that no task has
+  pub best-skip : length (s .tasks) ≡ 31 → n ≡ lastOf (s .created) → n < t → bestOf (priorityOf (view s)) b xs .task ≡ bestOf (priorityOf (view s)) b ys .task
+  best-skip l en h =
+      let x : blank ≡ nth (take (s .created) (s .tasks)) t =
+      by-bool (leb (s .created) 31)
+      (λ e. task-past (s .tasks) (s .created) t (omega (arith, rw e at en)))
+      (λ e. task-out (s .tasks) (s .created) t (omega (arith, rw e at en, l))) in
+      let e : betterOf b t (priorityOf (view s) t) ≡ b = ap (λ (y : Task). betterOf b t (y .priority)) (sym x) ∙ rw (le-ltb (b .priority) 0 (omega arith)) in
+      rw q (ap (λ (a : Best). bestOf (priorityOf (view s)) a ys .task) e)

@@ -1,11 +1,19 @@
 -- The running task, found in one pass over the ready line.
 -- Assumes nothing.
 use Prim.Native.Nat.{ℕ}
-use mathlib.Core.Bool.{Bool, true, false, _&&_}
+use mathlib.Core.Bool.{_&&_}
 use mathlib.Core.List.{List, [], _∷_}
 use lib.Dec.{ltb, leb}
 use Rattle.lists.specs.Lists.{if_then_else_}
 use Rattle.table.specs.declared.dispatch.Best.{Best}
+
+-- the last task that has a place in the table, where n are created
+abbrev pub lastOf : ℕ → ℕ
+lastOf n = if leb n 31 then n else 31
+
+-- the level of the priority p; 0 where it is none
+abbrev pub levelOf : ℕ → ℕ
+levelOf p = if leb p 15 then p else 0
 
 -- one pass for the running task: the first of the highest priority seen
 abbrev pub betterOf : Best → ℕ → ℕ → Best

@@ -2,15 +2,27 @@
 ghost use mathlib.Core.Path.{_≡_};
 ghost use Rattle.rules.specs.State as state;
 ghost use Rattle.rules.specs.Whole.{view};
-ghost use Rattle.table.specs.Best.{betterOf};
-use super::tasks::index_of;
-use super::tasks::shown;
+ghost use Rattle.table.specs.Best.{betterOf, levelOf, lastOf};
 use rules::Supervisor;
 
 // A task and its priority.
 pub struct Best {
     pub task: u8,
     pub priority: u8,
+}
+
+// The last task that has a place in the table, where n are created.
+fn last_of(n: u8) -> u8
+    ensures { λ r. ⌜ r ≡ lastOf n ⌝ }
+{
+    if n <= 31 { n } else { 31 }
+}
+
+// The level of the priority p; 0 where it is none.
+fn level(p: u8) -> u8
+    ensures { λ r. ⌜ r ≡ levelOf p ⌝ }
+{
+    if p <= 15 { p } else { 0 }
 }
 
 // The better of one and the next: the first of the highest priority.
@@ -31,6 +43,7 @@ fn better(b: Best, t: u8, p: u8) -> Best
 pub fn running(s: Supervisor) -> u8
     ensures { λ r. ⌜ r ≡ state.running (view s) ⌝ }
 {
+    let n = last_of(s.created);
     let mut b = Best {
         task: 0,
         priority: 0,
@@ -40,10 +53,11 @@ pub fn running(s: Supervisor) -> u8
         if t == 0 {
             return b.task;
         }
-        let at = index_of(t);
-        let k = s.tasks[at];
-        let x = shown(s.created, t, k);
-        b = better(b, t, x.priority);
+        if t <= n {
+            let at = (t - 1) as usize;
+            let k = s.tasks[at];
+            b = better(b, t, level(k.priority));
+        }
     }
     b.task
 }

@@ -8,13 +8,14 @@ use mathlib.Core.Path.{_≡_, refl, sym, ap, _∙_}
 use mathlib.Core.List.{[]}
 use lib.ListN.{length, getD}
 use Rattle.lists.specs.Lists.{every, downFrom}
+use Rattle.lists.proofs.Tests.{ways}
 use Rattle.rules.specs.State.{blank, taskOf}
 use Rattle.rules.specs.Whole.{view}
 use Rattle.rules.specs.declared.Supervisor.{Supervisor}
 use Rattle.table.proofs.LeafLaws.{mapped-long, task-in}
 use Rattle.soundness.specs.Check.{Line, Ready, Callers, Held, Delays, belongs, goodIn, marked}
 use Rattle.soundness.specs.Marks.{noMarks, nextMark}
-use Rattle.soundness.proofs.TaskLaws.{and-last, called-is, good-is}
+use Rattle.soundness.proofs.TaskLaws.{and-last, named-range, called-one, called-none, good-is}
 use Rattle.soundness.proofs.Turns.{and-turn, down-on, down-end, mark-on}
 use Rattle.soundness.proofs.LineLaws.{stands-is}
 use Rattle.soundness.proofs.all_stand.Statement.{statement}
@@ -37,18 +38,38 @@ abbrev μ-loop : tie.MeasureT-loop
 loop-holds : tie.Need-loop-holds Inv-loop μ-loop
 loop-holds c = (c .pre, omega arith, search (needs, mapped-long), refl, refl, refl, refl, refl)
 
+-- the called task has a number of 1..created
+in-range : (c : tie.Then1 Inv-loop μ-loop) →
+    let p = c .before .before .before in
+    (0 < p .partner-of .result) × (p .partner-of .result ≤ p .before .before .before .before .args .t1 .created) × (p .before .before .before .before .args .t1 .created ≤ 31)
+in-range c =
+    let p = c .before .before .before in
+    let l = p .before .before .before in
+    let r = named-range (l .before .args .t1 .created) (p .partner-of .result) (sym (c .before .is-between .ensures) ∙ c .if1 .taken) in
+    (r .0, r .1, l .loop .inv .0)
+
+-- what stands beside task t is the task that it has called
+called : (c : tie.Joined1 Inv-loop μ-loop) →
+    let p = c .before .before .before in
+    c .if1 .g ≡ taskOf (view (p .before .before .before .before .args .t1)) (p .partner-of .result)
+called c =
+    let p = c .before .before .before in
+    let s = p .before .before .before .before .args .t1 in
+    let test = sym (c .before .is-between .ensures) in
+    ways (c .if1 .came)
+    (λ w. w .2 ∙ called-one s (p .partner-of .result) (test ∙ w .0 .taken))
+    (λ w. w .1 ∙ c .before .before .blank-task .ensures ∙ called-none s (p .partner-of .result) (test ∙ w .0 .left))
+
 -- what the test of task t answered, in the rules' words
 answered : (c : tie.After-is-good Inv-loop μ-loop) →
     let l = c .before .before .before .before .before .before .before in
     c .is-good .result ≡ goodIn (view (l .before .args .t1)) (l .loop .t)
 answered c =
-    let ix = c .before .before .before in
-    let pt = ix .before in
-    let l = pt .before .before .before in
+    let p = c .before .before .before .before in
+    let l = p .before .before .before in
     let s = l .before .args .t1 in
-    good-is s (l .loop .t) (pt .partner-of .result) (getD (s .tasks) (l .loop .t - 1) blank) (c .before .called .result) (c .is-good .result)
-    (task-in (s .tasks) (s .created) (l .loop .t) (λ z. omega arith) (l .loop .inv .1)) (pt .partner-of .ensures)
-    (called-is s (pt .partner-of .result) (ix .index-in .result) (c .before .called .result) (ix .index-in .ensures .0) (c .before .called .ensures)) (c .is-good .ensures)
+    good-is s (l .loop .t) (p .partner-of .result) (getD (s .tasks) (l .loop .t - 1) blank) (c .before .if1 .g) (c .is-good .result)
+    (task-in (s .tasks) (s .created) (l .loop .t) (λ z. omega arith) (l .loop .inv .1)) (p .partner-of .ensures) (called (c .before)) (c .is-good .ensures)
 
 -- one line's turn: its word with task t below, if that belongs there
 turn : (s : Supervisor) (l : Line) (t m n : ℕ) (b : Bool) → 0 < t → t ≤ s .created → b ≡ belongs l (getD (s .tasks) (t - 1) blank) → n ≡ nextMark m b → due s l m t ≡ due s l n (t - 1)
@@ -101,7 +122,7 @@ pub all-stand-spec : {M : Type 1} → statement M
 all-stand-spec =
     tie.close
     (tie.spec Inv-loop μ-loop loop-holds (λ c. omega arith) (λ c. search needs) (λ c. omega arith) (λ c. omega arith)
-    (λ c κs. search needs) (λ c κs. c .before .before .before .loop .inv .0) (λ c. search needs) (λ c. search needs) (λ c κs. search needs) (λ c κs. search needs)
+    (λ c κs. search needs) (λ c κs. search needs) (λ c κs. search needs) (λ c. in-range c .0) (λ c. search needs) (λ c. omega (arith, in-range c)) (λ c. omega (arith, in-range c)) (λ c κs. search needs)
     (λ c κs. search needs) (λ c κs. search needs) (λ c κs. search needs) (λ c κs. search needs) (λ c κs. search needs) (λ c κs. search needs)
     (λ c κs. search needs) (λ c κs. search needs) (λ c. omega arith) (λ c. omega arith) loop-again
     (λ c κs. search needs) (λ c κs. search needs) (λ c κs. search needs) (λ c κs. search needs) returns)

@@ -1,6 +1,5 @@
 use native.Mathlib.Omega.{arith}
 use borrow.Author.Needs.{needs}
-use Rattle.lists.specs.Lists.{bit}
 use Rattle.soundness.specs.Marks.{nextMark}
 use Rattle.soundness.proofs.MarkLaws.{byte-bit, bit-low}
 use Rattle.soundness.proofs.marks.next.Statement.{statement}
