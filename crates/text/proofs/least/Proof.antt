@@ -1,8 +1,0 @@
--- `text::least` meets its contract.
--- Assumes nothing.
-use borrow.Author.Needs.{needs}
-use Rattle.text.proofs.least.Statement.{statement}
-use Rattle.text.proofs.least.Tie as tie
-
-pub least-spec : {M : Type 1} → statement M
-least-spec = tie.close (tie.spec (λ c. search needs) (λ c. search needs))
