@@ -17,7 +17,7 @@ use Rattle.workspace.specs.Seen.{tableOf}
 use Rattle.workspace.specs.declared.Test.the-variants.{StartsAt, StartsBehind}
 use Rattle.workspace.specs.Places.{placeOf, passesOf, removeAt, insertAt}
 use Rattle.workspace.specs.Check.{tiled}
-use Rattle.workspace.specs.Steps.{hasSeen, keepsSeen, unlessRefused, doneAs, freshSeen, requestRefusal, grantSeen, requestSeen, blockAt, releaseRefusal, touchesLow, touchesHigh, wholeAs, wholeOf, give, giveBack, countBack, freeSeen, releaseSeen}
+use Rattle.workspace.specs.Steps.{hasSeen, keepsSeen, unlessRefused, doneAs, freshSeen, requestRefusal, grantSeen, requestSeen, blockAt, releaseRefusal, touchesLow, touchesHigh, wholeAs, wholeAt, give, giveAt, giveBack, countAs, countBack, freeSeen, releaseSeen}
 
 pub keep-law : (s : Look) (u : Used) {m n : ℕ} {h x y t : Bool} → h ≡ hasSeen s → m ≡ min (u .blocks) 32 → n ≡ min (u .free) 32
     → x ≡ every isNone (drop m (s .blocks .places)) → y ≡ every isNone (drop n (s .free .places)) → t ≡ tiled 64 false 0 (take m (s .blocks .places)) (take n (s .free .places))
@@ -84,38 +84,40 @@ low-law b k l ej ex ee es = (λ i. ltb 0 k && eqb (ee i) (es i)) ∙ (λ i. ltb 
 pub high-law : (b : Stretch) (k : ℕ) (l : List Stretch) {e s : ℕ} {x : Stretch} → x ≡ getD l k none → e ≡ end b → s ≡ x .start → eqb e s ≡ touchesHigh b k l
 high-law b k l ex ee es = (λ i. eqb (ee i) (es i)) ∙ (λ i. eqb (end b) (ex i .start))
 
-pub whole-law : (b : Stretch) (k : ℕ) (l : List Stretch) {low high : Bool} {j : ℕ} {x y : Stretch} {start ahead behind front length : ℕ}
-    → low ≡ touchesLow b k l → high ≡ touchesHigh b k l → j ≡ k - 1 → x ≡ getD l j none → y ≡ getD l k none → start ≡ (if low then x .start else b .start) → ahead ≡ (if low then x .length else 0) → behind ≡ (if high then y .length else 0)
-    → front ≡ (ahead + b .length) % 4294967296 → length ≡ (front + behind) % 4294967296 → stretch start length ≡ wholeOf b k l
-whole-law b k l {low = low} {j = j} {x = x} {front = front} el eh ej ex ey es ea eb ef e =
-    let xx : x ≡ getD l (k - 1) none = ex ∙ (λ i. getD l (ej i) none) in
-    let ff : front ≡ ((if low then x .length else 0) + b .length) % 4294967296 = ef ∙ (λ i. (ea i + b .length) % 4294967296) in
-    (λ i. stretch (es i) ((e ∙ (λ j. (ff j + eb j) % 4294967296)) i)) ∙ (λ i. wholeAs (el i) (eh i) (xx i) (ey i) b)
+pub whole-law : (low high : Bool) (b : Stretch) (k : ℕ) (l : List Stretch) {j : ℕ} {x y : Stretch} {start ahead behind front length : ℕ}
+    → j ≡ k - 1 → x ≡ getD l j none → y ≡ getD l k none → start ≡ (if low then x .start else b .start) → ahead ≡ (if low then x .length else 0) → behind ≡ (if high then y .length else 0)
+    → front ≡ (ahead + b .length) % 4294967296 → length ≡ (front + behind) % 4294967296 → stretch start length ≡ wholeAt low high b k l
+whole-law low high b k l ej ex ey es ea eb ef e =
+    let xx = ex ∙ (λ i. getD l (ej i) none) in
+    let ff = ef ∙ (λ i. (ea i + b .length) % 4294967296) in
+    let ee = e ∙ (λ i. (ff i + eb i) % 4294967296) in
+    (λ i. stretch (es i) (ee i)) ∙ (λ i. wholeAs low high (xx i) (ey i) b)
 
-pub give-law : (b : Stretch) (k : ℕ) (l : List Stretch) {w : Stretch} {low high : Bool} {j : ℕ} {fewer rest alone x y r : List Stretch}
-    → w ≡ wholeOf b k l → low ≡ touchesLow b k l → high ≡ touchesHigh b k l → j ≡ k - 1 → fewer ≡ removeAt k l → rest ≡ (if high then fewer else l) → alone ≡ removeAt j rest → x ≡ insertAt j w alone → y ≡ insertAt k w rest
-    → r ≡ (if low then x else y) → r ≡ giveBack b k l
-unfolding giveBack
-give-law b k l {w = w} {low = low} {high = high} {j = j} {rest = rest} {x = x} {y = y} ew el eh ej ef er ea ex ey e =
-    let rr : rest ≡ (if high then removeAt k l else l) = er ∙ (λ i. if high then ef i else l) in
-    let xx : x ≡ insertAt j w (removeAt j (if high then removeAt k l else l)) = ex ∙ (λ i. insertAt j w (ea i)) ∙ (λ i. insertAt j w (removeAt j (rr i))) in
-    let yy : y ≡ insertAt k w (if high then removeAt k l else l) = ey ∙ (λ i. insertAt k w (rr i)) in
-    e ∙ (λ i. if low then xx i else yy i) ∙ (λ i. give (el i) (eh i) (ej i) k (ew i) l)
+pub give-law : (low high : Bool) (b : Stretch) (k : ℕ) (l : List Stretch) {w : Stretch} {j : ℕ} {fewer rest alone x y r : List Stretch}
+    → w ≡ wholeAt low high b k l → j ≡ k - 1 → fewer ≡ removeAt k l → rest ≡ (if high then fewer else l) → alone ≡ removeAt j rest → x ≡ insertAt j w alone → y ≡ insertAt k w rest
+    → r ≡ (if low then x else y) → r ≡ giveAt low high b k l
+give-law low high b k l {w = w} {j = j} ew ej ef er ea ex ey e =
+    let rr = er ∙ (λ i. if high then ef i else l) in
+    let xx = ex ∙ (λ i. insertAt j w (ea i)) ∙ (λ i. insertAt j w (removeAt j (rr i))) in
+    let yy = ey ∙ (λ i. insertAt k w (rr i)) in
+    e ∙ (λ i. if low then xx i else yy i) ∙ (λ i. give low high (ej i) k (ew i) l)
 
-pub count-law : (b : Stretch) (k n : ℕ) (l : List Stretch) {low high : Bool} {fewer m least rest r : ℕ}
-    → low ≡ touchesLow b k l → high ≡ touchesHigh b k l → fewer ≡ n - 1 → m ≡ (if low then fewer else n) → least ≡ m - 1 → rest ≡ (if high then least else m) → r ≡ min rest 32 + 1 → r ≡ countBack b k n l
-unfolding countBack
-count-law b k n l {m = m} el eh ef em e er e′ =
-    let mm : m ≡ (if touchesLow b k l then n - 1 else n) = em ∙ (λ i. if el i then ef i else n) in
-    e′ ∙ (λ i. min (er i) 32 + 1) ∙ (λ i. min (if eh i then e i else m) 32 + 1) ∙ (λ i. min (if touchesHigh b k l then mm i - 1 else mm i) 32 + 1)
+pub count-law : (low high : Bool) (n : ℕ) {fewer m least rest r : ℕ}
+    → fewer ≡ n - 1 → m ≡ (if low then fewer else n) → least ≡ m - 1 → rest ≡ (if high then least else m) → r ≡ min rest 32 + 1 → r ≡ countAs low high n
+count-law low high n {m = m} ef em e er e′ =
+    let mm = em ∙ (λ i. if low then ef i else n) in
+    e′ ∙ (λ i. min (er i) 32 + 1) ∙ (λ i. min (if high then e i else m) 32 + 1) ∙ (λ i. min (if high then mm i - 1 else mm i) 32 + 1)
 
-pub free-law : (s : Look) (u : Used) (p : ℕ) {b : Stretch} {n k : ℕ} {bs fs : List Stretch} {fewer left : ℕ} {r : Done} → b ≡ getD (s .blocks .places) p none → n ≡ min (u .free) 32 → k ≡ placeOf (passesOf StartsBehind (b .start)) (take n (s .free .places))
-    → bs ≡ removeAt p (s .blocks .places) → fs ≡ giveBack b k (s .free .places) → fewer ≡ u .blocks - 1 → left ≡ countBack b k (u .free) (s .free .places) → r ≡ doneAs bs fs (b .length) fewer left → r ≡ freeSeen s u p
-unfolding freeSeen
-free-law s u p {b = b} eb en ek e₁ e₂ e₃ e₄ er =
+pub free-law : (s : Look) (u : Used) (p : ℕ) {b : Stretch} {n k : ℕ} {low high : Bool} {bs fs : List Stretch} {fewer left : ℕ} {r : Done}
+    → b ≡ getD (s .blocks .places) p none → n ≡ min (u .free) 32 → k ≡ placeOf (passesOf StartsBehind (b .start)) (take n (s .free .places)) → low ≡ touchesLow b k (s .free .places) → high ≡ touchesHigh b k (s .free .places)
+    → bs ≡ removeAt p (s .blocks .places) → fs ≡ giveAt low high b k (s .free .places) → fewer ≡ u .blocks - 1 → left ≡ countAs low high (u .free) → r ≡ doneAs bs fs (b .length) fewer left → r ≡ freeSeen s u p
+unfolding freeSeen giveBack countBack
+free-law s u p {b = b} {k = k} eb en ek el eh e₁ e₂ e₃ e₄ er =
     let kk = ek ∙ (λ i. placeOf (passesOf StartsBehind (eb i .start)) (take (en i) (s .free .places))) in
+    let ff = e₂ ∙ (λ i. giveAt (el i) (eh i) b k (s .free .places)) in
+    let ll = e₄ ∙ (λ i. countAs (el i) (eh i) (u .free)) in
     er
-    ∙ (λ i. doneAs (e₁ i) (e₂ i) (b .length) (e₃ i) (e₄ i))
+    ∙ (λ i. doneAs (e₁ i) (ff i) (b .length) (e₃ i) (ll i))
     ∙ (λ i. doneAs (removeAt p (s .blocks .places)) (giveBack (eb i) (kk i) (s .free .places)) (eb i .length) (u .blocks - 1) (countBack (eb i) (kk i) (u .free) (s .free .places)))
 
 pub release-law : (s : Look) (u : Used) (a : ℕ) {k p : ℕ} {d r : Done} → k ≡ releaseRefusal s u a → p ≡ blockAt s u a → d ≡ freeSeen s u p → r ≡ unlessRefused k s u d → r ≡ releaseSeen s u a

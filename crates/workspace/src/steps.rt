@@ -26,7 +26,7 @@ use crate::places::with_at;
 use crate::rules::has_seen;
 use crate::rules::keeps;
 ghost use mathlib.Core.Path.{_≡_};
-ghost use Rattle.workspace.specs.Steps.{unlessRefused, doneAs, freshSeen, requestRefusal, grantSeen, requestSeen, blockAt, releaseRefusal, touchesLow, touchesHigh, wholeOf, giveBack, countBack, freeSeen, releaseSeen};
+ghost use Rattle.workspace.specs.Steps.{unlessRefused, doneAs, freshSeen, requestRefusal, grantSeen, requestSeen, blockAt, releaseRefusal, touchesLow, touchesHigh, wholeAt, giveAt, countAs, freeSeen, releaseSeen};
 
 // The parts of what is done: the places of both tables, the answer, and the number of places used.
 pub fn done_as(bs: [Stretch; 32], fs: [Stretch; 32], value: u32, m: usize, n: usize) -> Done
@@ -177,12 +177,10 @@ pub fn touches_high(b: Stretch, k: usize, l: [Stretch; 32]) -> bool
     e == s
 }
 
-// b with the neighbours that touch it.
-pub fn whole_of(b: Stretch, k: usize, l: [Stretch; 32]) -> Stretch
-    ensures { λ r. ⌜ r ≡ wholeOf b k l ⌝ }
+// b, which goes to the place k, with the neighbours that touch it.
+pub fn whole_of(low: bool, high: bool, b: Stretch, k: usize, l: [Stretch; 32]) -> Stretch
+    ensures { λ r. ⌜ r ≡ wholeAt low high b k l ⌝ }
 {
-    let low = touches_low(b, k, l);
-    let high = touches_high(b, k, l);
     let j = down(k);
     let x = nth(l, j);
     let y = nth(l, k);
@@ -195,12 +193,10 @@ pub fn whole_of(b: Stretch, k: usize, l: [Stretch; 32]) -> Stretch
 }
 
 // The neighbours that touch b are taken out, and the whole is put in.
-pub fn give_back(b: Stretch, k: usize, l: [Stretch; 32]) -> [Stretch; 32]
-    ensures { λ r. ⌜ r ≡ giveBack b k l ⌝ }
+pub fn give_back(low: bool, high: bool, b: Stretch, k: usize, l: [Stretch; 32]) -> [Stretch; 32]
+    ensures { λ r. ⌜ r ≡ giveAt low high b k l ⌝ }
 {
-    let whole = whole_of(b, k, l);
-    let low = touches_low(b, k, l);
-    let high = touches_high(b, k, l);
+    let whole = whole_of(low, high, b, k, l);
     let j = down(k);
     let fewer = closed(l, k);
     let rest = pick_places(high, fewer, l);
@@ -210,12 +206,10 @@ pub fn give_back(b: Stretch, k: usize, l: [Stretch; 32]) -> [Stretch; 32]
     pick_places(low, x, y)
 }
 
-// How many free stretches there are then.
-pub fn count_back(b: Stretch, k: usize, n: usize, l: [Stretch; 32]) -> usize
-    ensures { λ r. ⌜ r ≡ countBack b k n l ⌝ }
+// How many free stretches there are then, of n.
+pub fn count_back(low: bool, high: bool, n: usize) -> usize
+    ensures { λ r. ⌜ r ≡ countAs low high n ⌝ }
 {
-    let low = touches_low(b, k, l);
-    let high = touches_high(b, k, l);
     let fewer = down(n);
     let m = pick_usize(low, fewer, n);
     let least = down(m);
@@ -232,10 +226,12 @@ pub fn freed(seen: Look, used: Used, p: usize) -> Done
     let b = nth(bs, p);
     let n = at_most_32(used.free);
     let k = place_of(fs, n, Test::StartsBehind, b.start);
+    let low = touches_low(b, k, fs);
+    let high = touches_high(b, k, fs);
     let blocks = closed(bs, p);
-    let free = give_back(b, k, fs);
+    let free = give_back(low, high, b, k, fs);
     let fewer = down(used.blocks);
-    let left = count_back(b, k, used.free, fs);
+    let left = count_back(low, high, used.free);
     done_as(blocks, free, b.length, fewer, left)
 }
 

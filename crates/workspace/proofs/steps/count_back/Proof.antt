@@ -9,17 +9,13 @@ returns c =
     let least = rest .before in
     let m = least .before in
     let fewer = m .before in
-    let high = fewer .before in
-    let low = high .before in
-    let a = low .before .args in
-    count-law (a .b) (a .k) (a .n) (a .l) (low .touches-low .ensures) (high .touches-high .ensures) (fewer .down .ensures) (m .pick-usize .ensures) (least .down2 .ensures) (rest .pick-usize2 .ensures) (c .up .ensures)
+    let a = fewer .before .args in
+    count-law (a .low) (a .high) (a .n) (fewer .down .ensures) (m .pick-usize .ensures) (least .down2 .ensures) (rest .pick-usize2 .ensures) (c .up .ensures)
 
 pub count-back-spec : {M : Type 1} → statement M
 count-back-spec =
     tie.close
     (tie.spec
-    (λ c κs. search needs)
-    (λ c κs. search needs)
     (λ c κs. search needs)
     (λ c κs. search needs)
     (λ c κs. search needs)

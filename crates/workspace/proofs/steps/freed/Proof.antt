@@ -9,16 +9,20 @@ returns c =
     let fewer = left .before in
     let free = fewer .before in
     let blocks = free .before in
-    let k = blocks .before in
+    let high = blocks .before in
+    let low = high .before in
+    let k = low .before in
     let n = k .before in
     let b = n .before in
     let a = b .before .before .before .args in
-    free-law (a .seen) (a .used) (a .p) (b .nth .ensures) (n .at-most-32 .ensures) (k .place-of .ensures) (blocks .closed .ensures) (free .give-back .ensures) (fewer .down .ensures) (left .count-back .ensures) (c .done-as .ensures)
+    free-law (a .seen) (a .used) (a .p) (b .nth .ensures) (n .at-most-32 .ensures) (k .place-of .ensures) (low .touches-low .ensures) (high .touches-high .ensures) (blocks .closed .ensures) (free .give-back .ensures) (fewer .down .ensures) (left .count-back .ensures) (c .done-as .ensures)
 
 pub freed-spec : {M : Type 1} → statement M
 freed-spec =
     tie.close
     (tie.spec
+    (λ c κs. search needs)
+    (λ c κs. search needs)
     (λ c κs. search needs)
     (λ c κs. search needs)
     (λ c κs. search needs)

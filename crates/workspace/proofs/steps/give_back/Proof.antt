@@ -11,18 +11,14 @@ returns c =
     let rest = alone .before in
     let fewer = rest .before in
     let j = fewer .before in
-    let high = j .before in
-    let low = high .before in
-    let whole = low .before in
+    let whole = j .before in
     let a = whole .before .args in
-    give-law (a .b) (a .k) (a .l) (whole .whole-of .ensures) (low .touches-low .ensures) (high .touches-high .ensures) (j .down .ensures) (fewer .closed .ensures) (rest .pick-places .ensures) (alone .closed2 .ensures) (x .opened .ensures) (y .opened2 .ensures) (c .pick-places2 .ensures)
+    give-law (a .low) (a .high) (a .b) (a .k) (a .l) (whole .whole-of .ensures) (j .down .ensures) (fewer .closed .ensures) (rest .pick-places .ensures) (alone .closed2 .ensures) (x .opened .ensures) (y .opened2 .ensures) (c .pick-places2 .ensures)
 
 pub give-back-spec : {M : Type 1} → statement M
 give-back-spec =
     tie.close
     (tie.spec
-    (λ c κs. search needs)
-    (λ c κs. search needs)
     (λ c κs. search needs)
     (λ c κs. search needs)
     (λ c κs. search needs)

@@ -12,17 +12,13 @@ returns c =
     let y = start .before in
     let x = y .before in
     let j = x .before in
-    let high = j .before in
-    let low = high .before in
-    let a = low .before .args in
-    whole-law (a .b) (a .k) (a .l) (low .touches-low .ensures) (high .touches-high .ensures) (j .down .ensures) (x .nth .ensures) (y .nth2 .ensures) (start .pick-u32 .ensures) (ahead .pick-u322 .ensures) (behind .pick-u323 .ensures) (front .wrapping-add-u32 .ensures) (c .wrapping-add-u322 .ensures)
+    let a = j .before .args in
+    whole-law (a .low) (a .high) (a .b) (a .k) (a .l) (j .down .ensures) (x .nth .ensures) (y .nth2 .ensures) (start .pick-u32 .ensures) (ahead .pick-u322 .ensures) (behind .pick-u323 .ensures) (front .wrapping-add-u32 .ensures) (c .wrapping-add-u322 .ensures)
 
 pub whole-of-spec : {M : Type 1} → statement M
 whole-of-spec =
     tie.close
     (tie.spec
-    (λ c κs. search needs)
-    (λ c κs. search needs)
     (λ c κs. search needs)
     (λ c κs. search needs)
     (λ c κs. search needs)
