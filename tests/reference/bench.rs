@@ -146,11 +146,11 @@ fn agree(scene: &Scene) {
     assert!(own::sound(&state) && own::running(&state) == scene.state.running(), "{}", scene.name);
 }
 
-/// Makes one step over and over, for a profiler: `bench NAME TASKS`.
-fn repeat(name: &str, tasks: usize) -> Option<()> {
+/// Makes one step over and over, for a profiler: `bench NAME TASKS TIMES`.
+fn repeat(name: &str, tasks: usize, times: usize) -> Option<()> {
     let scene = scenes::scenes(tasks).into_iter().find(|scene| scene.name == name)?;
     let (bytes, record) = (bytes_of(&scene.state), calls::record(&scene.call));
-    for _ in 0..2_000_000 {
+    for _ in 0..times {
         black_box(own::byte_step(&mut bytes.clone(), &record, &mut [0; ROOM]));
     }
     Some(())
@@ -247,7 +247,10 @@ fn main() {
             steps(&lines, copy);
             parts(&lines);
         }
-        [name, tasks] => tasks.parse().ok().and_then(|tasks| repeat(name, tasks)).expect("a step and 1, 8 or 31"),
-        _ => panic!("bench, or bench NAME TASKS"),
+        [name, tasks, times] => {
+            let number = |word: &String| word.parse().expect("a number");
+            repeat(name, number(tasks), number(times)).expect("a step of the table, with 1, 8 or 31 tasks");
+        }
+        _ => panic!("bench, or bench NAME TASKS TIMES"),
     }
 }
