@@ -7,14 +7,16 @@ use mathlib.Core.List.{List, [], _∷_, map}
 use lib.Dec.{ltb, leb}
 use lib.ListN.{length}
 use Rattle.lists.specs.Lists.{if_then_else_, count}
-use Rattle.rules.specs.State.{State, taskOf, placeOf, entryOf, partnerOf, wakeAll, setClock}
+use Rattle.rules.specs.State.{State, taskOf, placeOf, entryOf, partnerOf, move, wakeAll, setClock, offer}
 use Rattle.rules.specs.State as clock
 use Rattle.rules.specs.Advance.{jumped, jumpEnds, jumps}
-use Rattle.rules.specs.Step.{Outcome, refused, took, number, none, item, expiry, roomAfter, TASKING-ERROR, tickTo, endsAt}
+use Rattle.rules.specs.Step.{Outcome, refused, took, number, none, item, expiry, roomAfter, WAITS, TASKING-ERROR, tickTo, endsAt}
 use Rattle.rules.specs.Whole.{Whole, view, pack}
 use Rattle.rules.specs.declared.Item.{Item}
 use Rattle.rules.specs.declared.Place.{Place}
+use Rattle.rules.specs.declared.Place.the-variants.{Accepting}
 use Rattle.rules.specs.declared.Supervisor.{Supervisor}
+use Rattle.rules.specs.declared.Timer.{Timer}
 use Rattle.rules.proofs.Invariant.{Sound}
 use Rattle.supervisor.specs.declared.answers.Taken.{Taken}
 
@@ -30,6 +32,10 @@ takenOf s (took st a l) = record { state = pack st; refusal = 0; answer = a; end
 abbrev pub endedBy : Outcome → List Item
 endedBy (refused r) = []
 endedBy (took st a l) = l
+
+-- task t waits to accept a caller of the open set o, with the time w
+abbrev pub awaiting : State → ℕ → ℕ → Timer → Outcome
+awaiting s t o w = took (move s t (Accepting (offer o)) w) (item t WAITS 0 0) []
 
 -- why the wait of a task in place p ends, by FINISH or by TICK; its item
 abbrev pub reasonOf : Bool → Place → ℕ

@@ -5,7 +5,7 @@ ghost use mathlib.Core.Path.{_≡_};
 ghost use Rattle.calls.specs.declared.Call.the-variants.{Select};
 ghost use Rattle.rules.specs.Step.{takeCall, selectNone};
 ghost use Rattle.rules.specs.Whole.{view};
-ghost use Rattle.supervisor.specs.Taken.{Stands, takenOf};
+ghost use Rattle.supervisor.specs.Taken.{Stands, takenOf, awaiting};
 use super::answers::Taken;
 use super::answers::answered;
 use super::answers::refused_by;
@@ -29,6 +29,15 @@ use table::moves::moved;
 use table::place::is_too_wide;
 use table::tasks::task_of;
 
+// Task t, which is running, waits to accept a caller of the open set o.
+fn accepting(s: Supervisor, t: u8, o: u8, w: Timer) -> Taken
+    requires { ⌜ Stands s × (t ≤ length (view s .tasks)) ⌝ }
+    ensures { λ r. ⌜ r ≡ takenOf s (awaiting (view s) t o w) ⌝ }
+{
+    let n = moved(s, t, Place::Accepting(Offer { opens: o }), w);
+    answered(n, t, WAITS, 0, 0, 0)
+}
+
 // No open entry has a caller: the task waits, or not, as the mode says.
 fn select_none(s: Supervisor, t: u8, o: u8, m: SelectMode) -> Taken
     requires { ⌜ Stands s × (t ≤ length (view s .tasks)) ⌝ }
@@ -39,8 +48,7 @@ fn select_none(s: Supervisor, t: u8, o: u8, m: SelectMode) -> Taken
             if o == 0 {
                 return answered(s, t, PROGRAM_ERROR, 0, 0, 0);
             }
-            let n = moved(s, t, Place::Accepting(Offer { opens: o }), Timer::Off);
-            answered(n, t, WAITS, 0, 0, 0)
+            accepting(s, t, o, Timer::Off)
         }
         SelectMode::Delay(d) => {
             let k = ticks(d);
@@ -48,8 +56,7 @@ fn select_none(s: Supervisor, t: u8, o: u8, m: SelectMode) -> Taken
                 return answered(s, t, DELAY_TAKEN, 0, 0, 0);
             }
             let w = Timer::Due(std::num::wrapping_add_u32(s.clock, k));
-            let n = moved(s, t, Place::Accepting(Offer { opens: o }), w);
-            answered(n, t, WAITS, 0, 0, 0)
+            accepting(s, t, o, w)
         }
         SelectMode::Else => answered(s, t, ELSE_TAKEN, 0, 0, 0),
     }

@@ -6,7 +6,7 @@ use mir.Syntax.{w32}
 use borrow.Author.Tests.{eq-eqb, ne-eqb}
 use Rattle.rules.specs.Step.{ticks}
 use Rattle.rules.specs.Whole.{view}
-use Rattle.supervisor.proofs.AnswerLaws.{by-outcome, stay-answers, move-answers}
+use Rattle.supervisor.proofs.AnswerLaws.{by-outcome, stay-answers}
 use Rattle.supervisor.proofs.SelectLaws.{select-now, select-later}
 use Rattle.supervisor.proofs.select.select_none.Statement.{statement}
 use Rattle.supervisor.proofs.select.select_none.Tie as tie
@@ -28,28 +28,26 @@ returns-2 c =
     let n = c .before .before in
     let a = c .before .before .before .before .before .before .args in
     let k = c .before .before .before .before .m .given in
-    rw (k .1) (by-outcome (a .s) (select-now (view (a .s)) (a .t) (a .o) (k .0 .0) (n .ticks .result) (ticks-here n) (c .before .if2 .taken)) (stay-answers (a .s) _ [] (c .before .before .before .before .before .before .pre .0) (c .answered3 .ensures)))
+    rw (k .1) (by-outcome (a .s) (select-now (view (a .s)) (a .t) (a .o) (k .0 .0) (n .ticks .result) (ticks-here n) (c .before .if2 .taken)) (stay-answers (a .s) _ [] (c .before .before .before .before .before .before .pre .0) (c .answered2 .ensures)))
 
 returns-3 : tie.Need-returns-3
 returns-3 c =
-    let z = ne-eqb _ _ (c .before .before .if1 .left) in
-    rw (c .before .before .before .enum-told .given .1, z) (move-answers (c .before .before .before .before .before .args .s) _ _ _ _ _ [] (c .before .before .before .before .before .pre .0) (c .before .before .before .before .before .pre .1) (c .answered2 .ensures) (c .before .moved .ensures))
+    let z = ne-eqb _ _ (c .before .if1 .left) in
+    rw (c .before .before .enum-told .given .1, z) (c .accepting .ensures)
 
 returns-4 : tie.Need-returns-4
 returns-4 c =
-    let n = c .before .before .before .before in
-    let a = c .before .before .before .before .before .before .before .before .args in
-    let k = c .before .before .before .before .before .before .m .given in
-    rw (k .1) (by-outcome (a .s) (select-later (view (a .s)) (a .t) (a .o) (k .0 .0) (n .ticks .result) (ticks-here n) _ (c .before .before .before .if2 .left) (c .before .before .wrapping-add-u32 .ensures))
-    (move-answers (a .s) _ _ _ _ _ [] (c .before .before .before .before .before .before .before .before .pre .0) (c .before .before .before .before .before .before .before .before .pre .1) (c .answered4 .ensures) (c .before .moved2 .ensures)))
+    let n = c .before .before .before in
+    let a = c .before .before .before .before .before .before .before .args in
+    let k = c .before .before .before .before .before .m .given in
+    rw (k .1) (by-outcome (a .s) (select-later (view (a .s)) (a .t) (a .o) (k .0 .0) (n .ticks .result) (ticks-here n) _ (c .before .before .if2 .left) (c .before .wrapping-add-u32 .ensures)) (c .accepting2 .ensures))
 
 returns-5 : tie.Need-returns-5
-returns-5 c = rw (c .before .enum-told2 .given .1) (stay-answers (c .before .before .before .args .s) _ [] (c .before .before .before .pre .0) (c .answered5 .ensures))
+returns-5 c = rw (c .before .enum-told2 .given .1) (stay-answers (c .before .before .before .args .s) _ [] (c .before .before .before .pre .0) (c .answered3 .ensures))
 
 pub select-none-spec : {M : Type 1} → statement M
 select-none-spec =
     tie.close
-    (tie.spec (λ c. search needs) (λ c κs. search needs) returns (λ c κs. search needs) (λ c κs. search needs)
-    (λ c. search needs) (λ c κs. search needs) (λ c κs. search needs) returns-2 (λ c κs. search needs)
-    (λ c κs. search needs) (λ c κs. search needs) (λ c. search needs) (λ c κs. search needs) returns-3 returns-4
-    returns-5)
+    (tie.spec (λ c. search needs) (λ c κs. search needs) returns (λ c κs. search needs) (λ c. search needs)
+    (λ c κs. search needs) (λ c κs. search needs) returns-2 (λ c κs. search needs) (λ c κs. search needs)
+    (λ c. search needs) (λ c κs. search needs) returns-3 returns-4 returns-5)
