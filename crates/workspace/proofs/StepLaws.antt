@@ -17,7 +17,7 @@ use Rattle.workspace.specs.Seen.{tableOf}
 use Rattle.workspace.specs.declared.Test.the-variants.{StartsAt, StartsBehind}
 use Rattle.workspace.specs.Places.{placeOf, passesOf, removeAt, insertAt}
 use Rattle.workspace.specs.Check.{tiled}
-use Rattle.workspace.specs.Steps.{hasSeen, keepsSeen, unlessRefused, doneAs, freshSeen, requestRefusal, grantSeen, requestSeen, blockAt, releaseRefusal, touchesLow, touchesHigh, wholeAs, wholeAt, give, giveAt, giveBack, countAs, countBack, freeSeen, releaseSeen}
+use Rattle.workspace.specs.Steps.{hasSeen, keepsSeen, unlessRefused, doneAs, freshSeen, requestRefusal, cutAt, grantSeen, requestSeen, blockAt, releaseRefusal, touchesLow, touchesHigh, wholeAs, wholeAt, give, giveAt, giveBack, countAs, countBack, freeSeen, releaseSeen}
 
 pub keep-law : (s : Look) (u : Used) {m n : ℕ} {h x y t : Bool} → h ≡ hasSeen s → m ≡ min (u .blocks) 32 → n ≡ min (u .free) 32
     → x ≡ every isNone (drop m (s .blocks .places)) → y ≡ every isNone (drop n (s .free .places)) → t ≡ tiled 64 false 0 (take m (s .blocks .places)) (take n (s .free .places))
@@ -48,20 +48,24 @@ ask-law s u n {b = b} {c = c} ea eb ec ek er =
     let dd : c ≡ (if leb 1 n && leb n 65535 then (if ltb (u .blocks) 31 then (if ltb (s .place) (u .free) then 0 else 15) else 14) else 13) = ec ∙ (λ i. if leb 1 n && leb n 65535 then bb i else 13) in
     er ∙ (λ i. if ek i then dd i else 2)
 
-pub grant-law : (s : Look) (u : Used) (n : ℕ) {f : Stretch} {m k : ℕ} {bs fs ws ps : List Stretch} {start length more fewer left : ℕ} {r : Done}
+pub cut-law : (l : List Stretch) (p n : ℕ) {f : Stretch} {start length : ℕ} {ws ps r : List Stretch} → f ≡ getD l p none → start ≡ (f .start + n) % 4294967296 → length ≡ f .length - n
+    → ws ≡ removeAt p l → ps ≡ set l p (stretch start length) → r ≡ (if eqb n (f .length) then ws else ps) → r ≡ cutAt p n l
+cut-law l p n {f = f} ef es el ew ep er =
+    let pp = ep ∙ (λ i. set l p (stretch (es i) (el i))) in
+    er ∙ (λ i. if eqb n (f .length) then ew i else pp i) ∙ (λ i. if eqb n (ef i .length) then removeAt p l else set l p (stretch ((ef i .start + n) % 4294967296) (ef i .length - n)))
+
+pub grant-law : (s : Look) (u : Used) (n : ℕ) {f : Stretch} {m k : ℕ} {bs fs : List Stretch} {more fewer left : ℕ} {r : Done}
     → f ≡ getD (s .free .places) (s .place) none → m ≡ min (u .blocks) 32 → k ≡ placeOf (passesOf StartsBehind (f .start)) (take m (s .blocks .places)) → bs ≡ insertAt k (stretch (f .start) n) (s .blocks .places)
-    → start ≡ (f .start + n) % 4294967296 → length ≡ f .length - n → ws ≡ removeAt (s .place) (s .free .places) → ps ≡ set (s .free .places) (s .place) (stretch start length) → fs ≡ (if eqb n (f .length) then ws else ps)
-    → more ≡ min (u .blocks) 32 + 1 → fewer ≡ u .free - 1 → left ≡ (if eqb n (f .length) then fewer else u .free) → r ≡ doneAs bs fs (f .start) more left → r ≡ grantSeen s u n
+    → fs ≡ cutAt (s .place) n (s .free .places) → more ≡ min (u .blocks) 32 + 1 → fewer ≡ u .free - 1 → left ≡ (if eqb n (f .length) then fewer else u .free) → r ≡ doneAs bs fs (f .start) more left → r ≡ grantSeen s u n
 unfolding grantSeen
-grant-law s u n {f = f} ef em ek eb es el ew ep e e1 e2 e3 er =
+grant-law s u n {f = f} ef em ek eb e e1 e2 e3 er =
     let kk = ek ∙ (λ i. placeOf (passesOf StartsBehind (f .start)) (take (em i) (s .blocks .places))) in
     let bb = eb ∙ (λ i. insertAt (kk i) (stretch (f .start) n) (s .blocks .places)) in
-    let pp = ep ∙ (λ i. set (s .free .places) (s .place) (stretch (es i) (el i))) in
-    let ff = e ∙ (λ i. if eqb n (f .length) then ew i else pp i) in
     let ll = e3 ∙ (λ i. if eqb n (f .length) then e2 i else u .free) in
-    er ∙ (λ i. doneAs (bb i) (ff i) (f .start) (e1 i) (ll i))
-    ∙ (λ i. doneAs (insertAt (placeOf (passesOf StartsBehind (ef i .start)) (take (min (u .blocks) 32) (s .blocks .places))) (stretch (ef i .start) n) (s .blocks .places))
-    (if eqb n (ef i .length) then removeAt (s .place) (s .free .places) else set (s .free .places) (s .place) (stretch ((ef i .start + n) % 4294967296) (ef i .length - n))) (ef i .start) (min (u .blocks) 32 + 1) (if eqb n (ef i .length) then u .free - 1 else u .free))
+    er
+    ∙ (λ i. doneAs (bb i) (e i) (f .start) (e1 i) (ll i))
+    ∙ (λ i. doneAs (insertAt (placeOf (passesOf StartsBehind (ef i .start)) (take (min (u .blocks) 32) (s .blocks .places))) (stretch (ef i .start) n) (s .blocks .places)) (cutAt (s .place) n (s .free .places)) (ef i .start) (min (u .blocks) 32 + 1)
+    (if eqb n (ef i .length) then u .free - 1 else u .free))
 
 pub request-law : (s : Look) (u : Used) (n : ℕ) {k : ℕ} {d r : Done} → k ≡ requestRefusal s u n → d ≡ grantSeen s u n → r ≡ unlessRefused k s u d → r ≡ requestSeen s u n
 unfolding requestSeen

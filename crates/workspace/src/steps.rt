@@ -26,7 +26,7 @@ use crate::places::with_at;
 use crate::rules::has_seen;
 use crate::rules::keeps;
 ghost use mathlib.Core.Path.{_≡_};
-ghost use Rattle.workspace.specs.Steps.{unlessRefused, doneAs, freshSeen, requestRefusal, grantSeen, requestSeen, blockAt, releaseRefusal, touchesLow, touchesHigh, wholeAt, giveAt, countAs, freeSeen, releaseSeen};
+ghost use Rattle.workspace.specs.Steps.{unlessRefused, doneAs, freshSeen, requestRefusal, cutAt, grantSeen, requestSeen, blockAt, releaseRefusal, touchesLow, touchesHigh, wholeAt, giveAt, countAs, freeSeen, releaseSeen};
 
 // The parts of what is done: the places of both tables, the answer, and the number of places used.
 pub fn done_as(bs: [Stretch; 32], fs: [Stretch; 32], value: u32, m: usize, n: usize) -> Done
@@ -101,6 +101,19 @@ pub fn request_refusal(seen: Look, used: Used, size: u32) -> u8
     pick_u8(k, c, 2)
 }
 
+// The free stretches once `size` units are taken off the front of the one at place p.
+pub fn cut_at(l: [Stretch; 32], p: usize, size: u32) -> [Stretch; 32]
+    ensures { λ r. ⌜ r ≡ cutAt p size l ⌝ }
+{
+    let s = nth(l, p);
+    let start = std::num::wrapping_add_u32(s.start, size);
+    let length = less(s.length, size);
+    let rest = Stretch { start, length };
+    let whole = closed(l, p);
+    let part = with_at(l, p, rest);
+    pick_places(size == s.length, whole, part)
+}
+
 // The front of the stretch found becomes a block.
 pub fn granted(seen: Look, used: Used, size: u32) -> Done
     ensures { λ r. ⌜ r ≡ grantSeen seen used size ⌝ }
@@ -116,16 +129,10 @@ pub fn granted(seen: Look, used: Used, size: u32) -> Done
         length: size,
     };
     let blocks = opened(bs, k, block);
-    let start = std::num::wrapping_add_u32(s.start, size);
-    let length = less(s.length, size);
-    let rest = Stretch { start, length };
-    let whole = closed(fs, p);
-    let part = with_at(fs, p, rest);
-    let all = size == s.length;
-    let free = pick_places(all, whole, part);
+    let free = cut_at(fs, p, size);
     let more = up(used.blocks);
     let fewer = down(used.free);
-    let left = pick_usize(all, fewer, used.free);
+    let left = pick_usize(size == s.length, fewer, used.free);
     done_as(blocks, free, s.start, more, left)
 }
 
