@@ -1,7 +1,6 @@
 -- What the functions of the card answer, and what they leave in lent bytes.
 use Prim.Native.Nat.{ℕ}
-use mathlib.Core.Bool.{Bool}
-use mathlib.Core.List.{List, [], _∷_, _++_}
+use mathlib.Core.List.{List, [], _∷_}
 use lib.ListN.{length, drop}
 use lib.Dec.{eqb, ltb}
 use Rattle.lists.specs.Lists.{if_then_else_}

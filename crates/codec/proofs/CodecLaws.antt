@@ -172,12 +172,13 @@ pub stored-short : (b : List ℕ) (s : Supervisor) → length b < 439 → b ≡ 
 unfolding stored
 stored-short b s h = rw (lt-ltb (length b) 439 h)
 
-pub stored-long : (b : List ℕ) (s : Supervisor) (r : List ℕ) → 439 ≤ length b → length (s .tasks) ≡ 31 → length (s .ready) ≡ 31 → length (s .callers) ≡ 31 → length (s .held) ≡ 31 → length (s .delays) ≡ 31
-    → r ≡ placedLines (putAt (placedAt b 0 (bytesOf (s .clock) ++ (s .created ∷ []))) 5 (tasksBytes (s .tasks))) (s .ready) (s .callers) (s .held) (s .delays)
+pub stored-long : (b : List ℕ) (s : Supervisor) (headed filled r : List ℕ) → 439 ≤ length b → length (s .tasks) ≡ 31 → length (s .ready) ≡ 31 → length (s .callers) ≡ 31 → length (s .held) ≡ 31 → length (s .delays) ≡ 31
+    → headed ≡ placedAt b 0 (bytesOf (s .clock) ++ (s .created ∷ [])) → filled ≡ putAt headed 5 (tasksBytes (s .tasks)) → r ≡ placedLines filled (s .ready) (s .callers) (s .held) (s .delays)
     → r ≡ stored s b
 unfolding stored encode
-stored-long b s r h t₁ t₂ t₃ t₄ t₅ e =
+stored-long b s headed filled r h t₁ t₂ t₃ t₄ t₅ e₁ e₂ e₃ =
     let t : length (tasksBytes (s .tasks)) ≡ 310 = omega (arith, tasks-long (s .tasks)) in
+    let e = e₃ ∙ ap (λ (l : List ℕ). placedLines l (s .ready) (s .callers) (s .held) (s .delays)) (e₂ ∙ ap (λ (l : List ℕ). putAt l 5 (tasksBytes (s .tasks))) e₁) in
     rw (le-ltb (length b) 439 h) (e ∙ store-pieces b (bytesOf (s .clock) ++ (s .created ∷ [])) (tasksBytes (s .tasks)) (s .ready) (s .callers) (s .held) (s .delays) refl t t₂ t₃ t₄ t₅ h)
 
 -- the state of lent bytes, by what the code has found

@@ -1,6 +1,4 @@
 // A supervisor in lent bytes: reading it, and putting it there.
-ghost use mathlib.Core.Bool.{_&&_, _||_};
-ghost use mathlib.Core.List.{_++_};
 ghost use mathlib.Core.Path.{_≡_};
 ghost use Prim.Native.Nat.{_+_, _≤_};
 ghost use lib.ListN.{length, take, drop};

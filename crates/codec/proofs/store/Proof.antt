@@ -1,10 +1,7 @@
-use Prim.Native.Nat.{ℕ}
-use mathlib.Core.Path.{_≡_, ap, _∙_}
-use mathlib.Core.List.{List}
+use mathlib.Core.Path.{_≡_}
 use lib.ListN.{length}
 use denote.Ref.{now}
 use Rattle.table.proofs.LeafLaws.{mapped-long}
-use Rattle.codec.specs.Layout.{tasksBytes, putAt, placedLines}
 use Rattle.codec.proofs.CodecLaws.{stored-short, stored-long}
 use borrow.Author.Needs.{needs}
 use Rattle.codec.proofs.store.Statement.{statement}
@@ -21,9 +18,11 @@ returns-2 c =
     let l₂ : length (s .callers) ≡ 31 = search needs in
     let l₃ : length (s .held) ≡ 31 = search needs in
     let l₄ : length (s .delays) ≡ 31 = search needs in
-    stored-long (now (c .before .before .before .before .before .before .before .before .before .before .before .before .before .before .before .before .before .before .before .before .args .room)) s _ (c .before .before .before .before .before .before .before .before .before .before .before .before .before .before .before .before .before .before .if1 .left) t l₁ l₂ l₃ l₄
-    (c .before .before .put-lines .ensures
-    ∙ ap (λ (r : List ℕ). placedLines r (s .ready) (s .callers) (s .held) (s .delays)) (c .before .before .before .before .before .before .before .before .before .before .put-tasks .ensures ∙ ap (λ (r : List ℕ). putAt r 5 (tasksBytes (s .tasks))) (c .before .before .before .before .before .before .before .before .before .before .before .before .before .before .before .put-at .ensures)))
+    let lined = c .before .before in
+    let filled = lined .before .before .before .before .before .before .before .before in
+    let headed = filled .before .before .before .before .before in
+    stored-long (now (c .before .before .before .before .before .before .before .before .before .before .before .before .before .before .before .before .before .before .before .before .args .room)) s (headed .put-at .last .0) (filled .put-tasks .last .0) (lined .put-lines .last .0) (headed .before .before .before .if1 .left) t l₁ l₂ l₃ l₄
+    (headed .put-at .ensures) (filled .put-tasks .ensures) (lined .put-lines .ensures)
 
 pub store-spec : {M : Type 1} → statement M
 store-spec =
