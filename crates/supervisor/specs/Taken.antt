@@ -7,9 +7,7 @@ use mathlib.Core.List.{List, [], _∷_, map}
 use lib.Dec.{ltb, leb}
 use lib.ListN.{length}
 use Rattle.lists.specs.Lists.{if_then_else_, count}
-use Rattle.rules.specs.State.{State, taskOf, placeOf, entryOf, partnerOf, wakeAll, setClock}
-use Rattle.rules.specs.State as clock
-use Rattle.rules.specs.Advance.{jumped, jumpEnds, jumps}
+use Rattle.rules.specs.State.{State, taskOf, placeOf, entryOf, partnerOf, wakeAll}
 use Rattle.rules.specs.Step.{Outcome, refused, took, number, none, item, expiry, roomAfter, TASKING-ERROR, tickTo, endsAt}
 use Rattle.rules.specs.Whole.{Whole, view, pack}
 use Rattle.rules.specs.declared.Item.{Item}
@@ -60,11 +58,3 @@ pub record PassedTo (v : State) (reading : ℕ) (s : Supervisor) (n : ℕ) (room
   pub state : s ≡ pack (tickTo v reading)
   pub number : n ≡ length (endsAt v reading)
   pub written : after ≡ roomAfter room (endsAt v reading)
-
--- from due moment to due moment: the struct at the last of them, the ticks that are left, the ended waits, the moments
-pub record CrossedTo (v : State) (n : ℕ) (s : Supervisor) (rest ended moments : ℕ) (room after : List ℕ) : Type 0 where
-  pub stands : Stands s
-  pub state : jumped 31 n v ≡ setClock (view s) (clock.after (s .clock) rest)
-  pub number : ended ≡ length (jumpEnds 31 n v)
-  pub count : moments ≡ jumps 31 n v
-  pub written : after ≡ roomAfter room (jumpEnds 31 n v)
