@@ -1,4 +1,4 @@
--- ADVANCE by the largest n: worked out by due moments, and carried over by `crossed`.
+-- ADVANCE by the largest n: worked out for all waits at once, and carried over by `at-once`.
 -- Assumes nothing.
 use Prim.Native.Nat.{ℕ}
 use mathlib.Core.Path.{_≡_, refl, _∙_}
@@ -16,9 +16,9 @@ use Rattle.cases.specs.Cases.{lastOf, sleepers}
 -- both waits end, at two readings
 pub large-readings : readings 4294967295 (view (lastOf (pack (empty 4294967290)) sleepers .state)) ≡ 2
 unfolding sleepers sound stepWhole running openEntry queuedOn pad padTo
-large-readings = advances .crossed (view (lastOf (pack (empty 4294967290)) sleepers .state)) 4294967295 (omega arith) refl .count
+large-readings = advances .at-once (view (lastOf (pack (empty 4294967290)) sleepers .state)) 4294967295 (omega arith) refl .count
 
 -- the shorter one first
 pub large-ends : advanceEnds 4294967295 (view (lastOf (pack (empty 4294967290)) sleepers .state)) ≡ item 2 1 0 0 ∷ item 1 1 0 0 ∷ []
 unfolding sleepers sound stepWhole running openEntry queuedOn pad padTo
-large-ends = advances .crossed (view (lastOf (pack (empty 4294967290)) sleepers .state)) 4294967295 (omega arith) refl .ends
+large-ends = advances .at-once (view (lastOf (pack (empty 4294967290)) sleepers .state)) 4294967295 (omega arith) refl .ends

@@ -1,9 +1,11 @@
 -- What holds of ADVANCE.
 -- Assumes nothing.
-use Prim.Native.Nat.{ℕ, _+_}
+use Prim.Native.Nat.{ℕ, zero, suc, _+_}
 use mathlib.Core.Path.{_≡_, refl, sym, ap, subst}
-use Rattle.rules.specs.State.{running}
-use Rattle.rules.specs.Step.{advanced}
+use mathlib.Core.List.{_++_, append-assoc}
+use native.Mathlib.Omega.{arith}
+use Rattle.rules.specs.State.{State, running, after}
+use Rattle.rules.specs.Step.{tickTo, endsAt, advanced, advanceEnds, readings}
 use Rattle.rules.specs.Whole.{Typed, Whole, pack, stepWhole}
 use Rattle.rules.specs.Advance.{Cut, Nothing, Advances}
 use Rattle.rules.specs.declared.Supervisor.{Supervisor}
@@ -12,12 +14,25 @@ use Rattle.rules.proofs.StepSound.{advance-kept}
 use Rattle.rules.proofs.SoundTest.{sound-props}
 use Rattle.rules.proofs.AdvanceFits.{fits}
 use Rattle.rules.proofs.AsTicks.{as-ticks, expanded}
-use Rattle.rules.proofs.WholeLaws.{delays-fit}
 use Rattle.rules.proofs.EveryStruct.{by-struct, step-taken}
-use Rattle.rules.proofs.Quiet.{cut-state, cut-ends, cut-readings}
-use Rattle.rules.proofs.Jumps.{crosses}
+use Rattle.rules.proofs.AtOnce.{at-once}
 
 -- ── cutting ──
+
+cut-state : (a b : ℕ) (s : State) → advanced (a + b) s ≡ advanced b (advanced a s)
+cut-state zero b s = let e : 0 + b ≡ b = omega arith in rw e
+cut-state (suc a) b s = let e : suc a + b ≡ suc (a + b) = omega arith in rw e (cut-state a b (tickTo s (after (s .clock) 1)))
+
+cut-ends : (a b : ℕ) (s : State) → advanceEnds (a + b) s ≡ advanceEnds a s ++ advanceEnds b (advanced a s)
+cut-ends zero b s = let e : 0 + b ≡ b = omega arith in rw e
+cut-ends (suc a) b s =
+    let e : suc a + b ≡ suc (a + b) = omega arith in
+    let s1 = tickTo s (after (s .clock) 1) in
+    rw (e, cut-ends a b s1) (sym (append-assoc (endsAt s (after (s .clock) 1)) (advanceEnds a s1) (advanceEnds b (advanced a s1))))
+
+cut-readings : (a b : ℕ) (s : State) → readings (a + b) s ≡ readings a s + readings b (advanced a s)
+cut-readings zero b s = let e : 0 + b ≡ b = omega arith in rw e (omega arith)
+cut-readings (suc a) b s = let e : suc a + b ≡ suc (a + b) = omega arith in rw e (omega (arith, cut-readings a b (tickTo s (after (s .clock) 1))))
 
 -- three steps as they are known to go
 from : (s : Supervisor) (a b room : ℕ) {x y z : Whole} → stepWhole s (Advance a) room ≡ x → stepWhole (x .state) (Advance b) room ≡ y → stepWhole s (Advance (a + b)) room ≡ z → Cut x y z
@@ -47,6 +62,6 @@ advances = record {
   expanded = λ s t run. expanded run s t;
   cut = cut;
   nothing = nothing;
-  crossed = λ s n c e. let h = sound-props s c e in let k = crosses 31 n s h (delays-fit s h) in record { state = k .0; ends = k .1; count = k .2 };
+  at-once = λ s n c e. at-once n s (sound-props s c e);
   fits = λ s n c e. fits s n (sound-props s c e);
 }

@@ -17,8 +17,7 @@ pub mod Bounds
 pub mod Dispatch
 pub mod WholeRuns
 pub mod Uses
-pub mod Quiet
-pub mod Jumps
+pub mod AtOnce
 pub mod AdvanceFits
 pub mod AsTicks
 pub mod Advances

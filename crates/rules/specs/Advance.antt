@@ -1,46 +1,41 @@
--- ADVANCE: that it is n ticks, for every n; the way over due moments, which the code goes; what holds of it.
+-- ADVANCE: that it is n ticks, for every n; that these wake all whose time comes at once, which is what the code does; what holds of it.
 -- Assumes nothing.
-use Prim.Native.Nat.{ℕ, zero, suc, _+_, _-_, _≤_, _<_}
+use Prim.Native.Nat.{ℕ, zero, suc, _+_, _≤_, _<_}
 use mathlib.Core.Path.{_≡_}
-use mathlib.Core.Bool.{Bool, true, _&&_}
-use mathlib.Core.List.{List, [], _∷_, _++_}
+use mathlib.Core.Bool.{Bool, true, not, _&&_}
+use mathlib.Core.List.{List, [], _∷_, _++_, map}
 use lib.ListN.{length}
-use lib.Dec.{ltb, leb}
-use Rattle.lists.specs.Lists.{if_then_else_, count, first}
-use Rattle.rules.specs.State.{State, timerOf, ticksLeft, after, setClock}
+use lib.Dec.{eqb, ltb, leb}
+use Rattle.lists.specs.Lists.{if_then_else_, bit, count, filter}
+use Rattle.rules.specs.State.{State, timerOf, ticksLeft, after, wakeAll, setClock}
 use Rattle.rules.specs.Sound.{sound}
-use Rattle.rules.specs.Step.{tickTo, endsAt, advanced, advanceEnds, readings}
+use Rattle.rules.specs.Step.{expired, advanced, advanceEnds, readings}
 use Rattle.rules.specs.Whole.{Typed, Whole, stepWhole}
 use Rattle.rules.specs.Runs.{Ask, Entry, logWhole, reachWhole, reasons, tickCount}
 use Rattle.rules.specs.declared.Item.{Item}
 use Rattle.rules.specs.declared.Supervisor.{Supervisor}
+use Rattle.rules.specs.declared.Timer.{Timer}
 use Rattle.calls.specs.declared.Call as C
 use Rattle.calls.specs.declared.Call.the-variants.{Create, Delay, Call, Select, End, Finish, Tick, Advance}
 
--- ── by due moments ──
+-- ── all at once ──
 
--- the ticks to the next time that comes, 0 if nobody waits with a time
-abbrev pub till : State → ℕ
-till s = ticksLeft (s .clock) (timerOf s (first (s .delays)))
+-- a time comes within n ticks from now
+abbrev pub comesIn : ℕ → ℕ → Timer → Bool
+comesIn now n w = ltb 0 (ticksLeft now w) && leb (ticksLeft now w) n
 
--- it comes within n ticks
-abbrev pub comesIn : State → ℕ → Bool
-comesIn s n = ltb 0 (till s) && leb (till s) n
+-- those whose time comes within n ticks, in delay-queue order
+abbrev pub dueWithin : State → ℕ → List ℕ
+dueWithin s n = filter (λ t. comesIn (s .clock) n (timerOf s t)) (s .delays)
 
--- the clock jumps from one due moment to the next, over at most f of them, and then to its last reading
-abbrev pub jumped : ℕ → ℕ → State → State
-jumped zero n s = setClock s (after (s .clock) n)
-jumped (suc f) n s = if comesIn s n then jumped f (n - till s) (tickTo s (after (s .clock) (till s))) else setClock s (after (s .clock) n)
+-- how many of a list have another number than the one before them; before the first stands k
+abbrev pub changes : (ℕ → ℕ) → ℕ → List ℕ → ℕ
+changes f k [] = 0
+changes f k (t ∷ ts) = bit (not (eqb (f t) k)) + changes f (f t) ts
 
--- the waits that end on the way
-abbrev pub jumpEnds : ℕ → ℕ → State → List Item
-jumpEnds zero n s = []
-jumpEnds (suc f) n s = if comesIn s n then endsAt s (after (s .clock) (till s)) ++ jumpEnds f (n - till s) (tickTo s (after (s .clock) (till s))) else []
-
--- the number of due moments on the way
-abbrev pub jumps : ℕ → ℕ → State → ℕ
-jumps zero n s = 0
-jumps (suc f) n s = if comesIn s n then suc (jumps f (n - till s) (tickTo s (after (s .clock) (till s)))) else 0
+-- how many different numbers of ticks are left to those whose time comes within n ticks; all of them are above 0
+abbrev pub dueMoments : State → ℕ → ℕ
+dueMoments s n = changes (λ t. ticksLeft (s .clock) (timerOf s t)) 0 (dueWithin s n)
 
 -- ── as ticks ──
 
@@ -106,11 +101,11 @@ pub record Nothing (s : Supervisor) (w : Whole) : Type 0 where
   pub ends : w .ended ≡ []
   pub count : w .answer .entry ≡ 0
 
--- n ticks are 31 jumps at most: for every n, and across the clock's last reading
-pub record Crossed (s : State) (n : ℕ) : Type 0 where
-  pub state : advanced n s ≡ jumped 31 n s
-  pub ends : advanceEnds n s ≡ jumpEnds 31 n s
-  pub count : readings n s ≡ jumps 31 n s
+-- n ticks wake those whose time comes within n ticks and set the clock, and nothing else: for every n, and across the clock's last reading
+pub record AtOnce (s : State) (n : ℕ) : Type 0 where
+  pub state : advanced n s ≡ setClock (wakeAll s (dueWithin s n)) (after (s .clock) n)
+  pub ends : advanceEnds n s ≡ map (expired s) (dueWithin s n)
+  pub count : readings n s ≡ dueMoments s n
 
 -- no wait ends twice: no task in two items, at most 31 items, so 124 bytes suffice, and no more readings than items
 pub record Fits (s : State) (n : ℕ) : Type 0 where
@@ -126,5 +121,5 @@ pub record Advances : Type 0 where
       → let x = stepWhole s (Advance a) room in Cut x (stepWhole (x .state) (Advance b) room) (stepWhole s (Advance (a + b)) room)
   pub nothing : (s : Supervisor) → Typed s → (room : ℕ) → Nothing s (stepWhole s (Advance 0) room)
   -- of every sound state
-  pub crossed : (s : State) (n : ℕ) → s .clock < 4294967296 → sound s ≡ true → Crossed s n
+  pub at-once : (s : State) (n : ℕ) → s .clock < 4294967296 → sound s ≡ true → AtOnce s n
   pub fits : (s : State) (n : ℕ) → s .clock < 4294967296 → sound s ≡ true → Fits s n

@@ -18,7 +18,7 @@ pub mod EachStep
 pub mod Runs
 -- statement 3: what holds of every run
 pub mod OverRuns
--- ADVANCE: that it is n ticks, and the way over due moments
+-- ADVANCE: that it is n ticks, and that these wake all whose time comes at once
 pub mod Advance
 -- the same log, read off what the code's `step` answered and wrote
 pub mod Uses

@@ -55,7 +55,7 @@ pad-none xs = ap pad (append-nil xs)
 
 -- ---- how many have a mark
 
-byte-bit : (b : Bool) → boolByte b ≡ bit b
+pub byte-bit : (b : Bool) → boolByte b ≡ bit b
 byte-bit true = refl
 byte-bit false = refl
 

@@ -25,7 +25,7 @@ use Rattle.table.specs.Moved.{movedOf, metOf, partedOf, passesOf}
 use Rattle.table.specs.declared.queues.Test.{Test}
 use Rattle.supervisor.specs.Taken.{Stands}
 
-pub stands-pack : (st : State) → Sound st → Stands (pack st)
+stands-pack : (st : State) → Sound st → Stands (pack st)
 stands-pack st h = record { packs = ap pack (sym (view-pack st h)); sound = subst Sound (sym (view-pack st h)) h }
 
 pub set-first : (xs ys : List Task) (t : ℕ) (x : Task) → t ≤ length xs → setNth (xs ++ ys) t x ≡ setNth xs t x ++ ys

@@ -1,6 +1,6 @@
 -- The lent room, and the loop that writes an item for each of a list.
 -- Assumes nothing.
-use Prim.Native.Nat.{ℕ, suc, _+_, _-_, _*_, _≤_}
+use Prim.Native.Nat.{ℕ, _+_, _-_, _*_, _≤_}
 use mathlib.Core.Path.{_≡_, refl, sym, ap, _∙_}
 use mathlib.Core.Bool.{Bool}
 use mathlib.Core.List.{List, [], _∷_, _++_, map, append-assoc, append-nil}
@@ -34,27 +34,16 @@ pub from-none : (room : List ℕ) (k : ℕ) → roomFrom room k [] ≡ room
 unfolding roomFrom
 from-none room k = take-append-drop k room
 
--- from the front
-pub from-start : (room : List ℕ) (is : List Item) → roomAfter room is ≡ roomFrom room 0 is
-unfolding roomFrom
-from-start room is = refl
-
--- the rest of the room from k on is lent, and items written at its front
-pub put-items : (room last : List ℕ) (k : ℕ) (is : List Item) → k ≤ length room → last ≡ roomAfter (take (length room - k) (drop k room)) is
-    → putMid k (length room - k) room last ≡ roomFrom room k is
-unfolding roomFrom
-put-items room last k is h e =
+-- the rest of the room from k on is lent, and an item written at its front
+pub put-part : (room last : List ℕ) (k : ℕ) (w : Item) → k ≤ length room → last ≡ roomAfter (take (length room - k) (drop k room)) (w ∷ [])
+    → putMid k (length room - k) room last ≡ take k room ++ (bytes w ++ drop 4 (drop k room))
+put-part room last k w h e =
     let l : length (drop k room) ≤ length room - k = simp length-drop (omega arith) in
+    let is = w ∷ [] in
     let t : last ≡ roomAfter (drop k room) is = e ∙ ap (λ (r : List ℕ). roomAfter r is) (take-all (length room - k) (drop k room) l) in
     ap (λ (x : List ℕ). take k room ++ (x ++ drop (length room - k) (drop k room))) t
     ∙ ap (λ (x : List ℕ). take k room ++ (roomAfter (drop k room) is ++ x)) (drop-of-length-le (drop k room) l)
     ∙ ap (λ (x : List ℕ). take k room ++ x) (append-nil (roomAfter (drop k room) is))
-
--- and one item
-pub put-part : (room last : List ℕ) (k : ℕ) (w : Item) → k ≤ length room → last ≡ roomAfter (take (length room - k) (drop k room)) (w ∷ [])
-    → putMid k (length room - k) room last ≡ take k room ++ (bytes w ++ drop 4 (drop k room))
-unfolding roomFrom
-put-part room last k w h e = put-items room last k (w ∷ []) h e
 
 module _ (room : List ℕ) (k : ℕ) (w : Item) (h : k + 4 ≤ length room) where
   four-on : length (take k room ++ bytes w) ≡ k + 4
@@ -72,25 +61,6 @@ module _ (room : List ℕ) (k : ℕ) (w : Item) (h : k + 4 ≤ length room) wher
 
   pub put-length : length (take k room ++ (bytes w ++ drop 4 (drop k room))) ≡ length room
   put-length = simp (length-append, length-take, length-drop) (omega arith)
-
--- items written behind those before them
-pub from-length : (is : List Item) (room : List ℕ) (k : ℕ) → k + length is * 4 ≤ length room → length (roomFrom room k is) ≡ length room
-from-length [] room k h = ap length (from-none room k)
-from-length (w ∷ is) room k h =
-    let fit : k + 4 ≤ length room = omega arith in
-    let p = put-length room k w fit in
-    ap length (put-on room k w fit is) ∙ from-length is (take k room ++ (bytes w ++ drop 4 (drop k room))) (k + 4) (omega (arith, h, p)) ∙ p
-
-pub from-append : (is js : List Item) (room : List ℕ) (k : ℕ) → k + length is * 4 ≤ length room → roomFrom room k (is ++ js) ≡ roomFrom (roomFrom room k is) (k + length is * 4) js
-from-append [] js room k h = let z : k + 0 * 4 ≡ k = omega arith in rw (from-none room k, z)
-from-append (w ∷ is) js room k h =
-    let fit : k + 4 ≤ length room = omega arith in
-    let p = put-length room k w fit in
-    let z : k + 4 + length is * 4 ≡ k + suc (length is) * 4 = omega arith in
-    put-on room k w fit (is ++ js)
-    ∙ from-append is js (take k room ++ (bytes w ++ drop 4 (drop k room))) (k + 4) (omega (arith, h, p))
-    ∙ ap (λ (r : List ℕ). roomFrom r (k + 4 + length is * 4) js) (sym (put-on room k w fit is))
-    ∙ ap (λ (j : ℕ). roomFrom (roomFrom room k (w ∷ is)) j js) z
 
 -- the items of the first i of the list are written, and the rest is to do
 pub record Going (v : State) (failed : Bool) (l : List ℕ) (room₀ : List ℕ) (room : List ℕ) (i : ℕ) (rest : List ℕ) : Type 0 where

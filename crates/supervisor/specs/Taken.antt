@@ -6,9 +6,7 @@ use mathlib.Core.Bool.{Bool}
 use mathlib.Core.List.{List, [], map}
 use lib.ListN.{length}
 use Rattle.lists.specs.Lists.{if_then_else_, count}
-use Rattle.rules.specs.State.{State, placeOf, entryOf, partnerOf, move, wakeAll, setClock, offer}
-use Rattle.rules.specs.State as clock
-use Rattle.rules.specs.Advance.{jumped, jumpEnds, jumps}
+use Rattle.rules.specs.State.{State, placeOf, entryOf, partnerOf, move, wakeAll, offer}
 use Rattle.rules.specs.Step.{Outcome, refused, took, number, none, item, expiry, roomAfter, WAITS, TASKING-ERROR, tickTo, endsAt}
 use Rattle.rules.specs.Whole.{view, pack}
 use Rattle.rules.specs.declared.Item.{Item}
@@ -65,11 +63,3 @@ pub record PassedTo (v : State) (reading : ℕ) (s : Supervisor) (n : ℕ) (room
   pub state : s ≡ pack (tickTo v reading)
   pub number : n ≡ length (endsAt v reading)
   pub written : after ≡ roomAfter room (endsAt v reading)
-
--- from due moment to due moment: the struct at the last of them, the ticks that are left, the ended waits, the moments
-pub record CrossedTo (v : State) (n : ℕ) (s : Supervisor) (rest ended moments : ℕ) (room after : List ℕ) : Type 0 where
-  pub stands : Stands s
-  pub state : jumped 31 n v ≡ setClock (view s) (clock.after (s .clock) rest)
-  pub number : ended ≡ length (jumpEnds 31 n v)
-  pub count : moments ≡ jumps 31 n v
-  pub written : after ≡ roomAfter room (jumpEnds 31 n v)

@@ -16,7 +16,7 @@ use table::queues::Test;
 use table::queues::picked;
 
 // The clock goes to a reading: those due then become ready, and their items go to the front of the room.
-pub fn tick_to(s: Supervisor, reading: u32, room: &mut [u8]) -> Woken
+fn tick_to(s: Supervisor, reading: u32, room: &mut [u8]) -> Woken
     requires { ⌜ Stands s × (length (endsAt (view s) reading) * 4 ≤ length (now room)) ⌝ }
     ensures { λ r. ⌜ PassedTo (view s) reading (r .state) (r .count) (now (room .entry)) (now (room .exit)) ⌝ }
 {

@@ -10,6 +10,7 @@ use Rattle.lists.specs.Marks.{noMarks, marked, withMark}
 use Rattle.rules.specs.State.{State, setNth, taskOf, timerOf, isReady, isQueued, isHeld, ticksLeft, retime, placed, partnerOf, entryOf, meeting}
 use Rattle.rules.specs.declared.Place.the-variants.{Ready, Held}
 use Rattle.rules.specs.declared.Timer.the-variants.{Off}
+use Rattle.rules.specs.Advance.{comesIn}
 use Rattle.rules.specs.Step.{isDue}
 use Rattle.rules.specs.Whole.{view}
 use Rattle.rules.specs.declared.Task.{Task}
@@ -17,7 +18,7 @@ use Rattle.rules.specs.declared.Timer.{Timer}
 use Rattle.rules.specs.declared.Place.{Place}
 use Rattle.rules.specs.declared.Supervisor.{Supervisor}
 use Rattle.table.specs.declared.queues.Test.{Test}
-use Rattle.table.specs.declared.queues.Test.the-variants.{QueuedOn, HeldBy, DueAt}
+use Rattle.table.specs.declared.queues.Test.the-variants.{QueuedOn, HeldBy, DueAt, DueWithin}
 
 -- the struct with task t as x
 abbrev pub withTask : Supervisor → ℕ → Task → Supervisor
@@ -76,6 +77,7 @@ abbrev pub isPicked : Task → Test → Bool
 isPicked x (QueuedOn t e) = isQueued (x .place) && eqb (partnerOf (x .place)) t && eqb (entryOf (x .place)) e
 isPicked x (HeldBy t) = isHeld (x .place) && eqb (partnerOf (x .place)) t
 isPicked x (DueAt now) = isDue now (x .timer)
+isPicked x (DueWithin now n) = comesIn now n (x .timer)
 
 abbrev pub passesOf : State → Test → ℕ → Bool
 passesOf s q c = isPicked (taskOf s c) q

@@ -2,6 +2,7 @@
 ghost use mathlib.Core.Path.{_≡_};
 ghost use Rattle.lists.specs.Line.{line, pad};
 ghost use Rattle.lists.specs.Lists.{filter};
+ghost use Rattle.rules.specs.Advance.{comesIn};
 ghost use Rattle.rules.specs.Whole.{view};
 ghost use Rattle.table.specs.Moved.{isPicked, passesOf};
 use super::place::entry_of;
@@ -9,16 +10,27 @@ use super::place::is_due;
 use super::place::is_held;
 use super::place::is_queued;
 use super::place::partner_of;
+use super::place::ticks_left;
 use super::tasks::index_of;
 use super::tasks::shown;
 use rules::Supervisor;
 use rules::Task;
+use rules::Timer;
 
 // What picks a queue out of a line.
 pub enum Test {
     QueuedOn { target: u8, entry: u8 },
     HeldBy { holder: u8 },
     DueAt { now: u32 },
+    DueWithin { now: u32, ticks: u32 },
+}
+
+// Whether a time comes within n ticks from now.
+fn comes_in(now: u32, n: u32, w: Timer) -> bool
+    ensures { λ r. ⌜ r ≡ comesIn now n w ⌝ }
+{
+    let d = ticks_left(now, w);
+    (0 < d) & (d <= n)
 }
 
 // Whether a task passes.
@@ -33,6 +45,7 @@ fn passes(x: Task, q: Test) -> bool
         }
         Test::HeldBy { holder } => is_held(p) & (partner_of(p) == holder),
         Test::DueAt { now } => is_due(now, w),
+        Test::DueWithin { now, ticks } => comes_in(now, ticks, w),
     }
 }
 

@@ -11,9 +11,12 @@ returns-2 c = rw (c .before .before .before .q2 .given .1) (cc)
 returns-3 : tie.Need-returns-3
 returns-3 c = rw (c .before .before .q3 .given .1) (cc)
 
+returns-4 : tie.Need-returns-4
+returns-4 c = rw (c .before .before .q4 .given .1) (cc)
+
 pub passes-spec : {M : Type 1} → statement M
 passes-spec =
     tie.close
     (tie.spec (λ c. search needs) (λ c κs. search needs) (λ c κs. search needs) (λ c κs. search needs)
     (λ c. search needs) (λ c κs. search needs) (λ c κs. search needs) (λ c. search needs) (λ c κs. search needs)
-    returns returns-2 returns-3)
+    (λ c. search needs) (λ c κs. search needs) returns returns-2 returns-3 returns-4)
