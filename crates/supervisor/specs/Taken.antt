@@ -22,10 +22,12 @@ pub record Stands (s : Supervisor) : Type 0 where
   pub packs : s ≡ pack (view s)
   pub sound : Sound (view s)
 
+-- what a step function answers for an outcome of the rules: a refused call leaves the struct as it was
 abbrev pub takenOf : Supervisor → Outcome → Taken
 takenOf s (refused r) = record { state = s; refusal = number r; answer = none; ended = 0 }
 takenOf s (took st a l) = record { state = pack st; refusal = 0; answer = a; ended = length l }
 
+-- the ended waits of an outcome
 abbrev pub endedBy : Outcome → List Item
 endedBy (refused r) = []
 endedBy (took st a l) = l
@@ -34,13 +36,15 @@ endedBy (took st a l) = l
 abbrev pub awaiting : State → ℕ → ℕ → Timer → Outcome
 awaiting s t o w = took (move s t (Accepting (offer o)) w) (item t WAITS 0 0) []
 
--- why the wait of a task in place p ends, by FINISH or by TICK; its item
+-- why the wait of a task in place p ends: by FINISH of the called task, or by time
 abbrev pub reasonOf : Bool → Place → ℕ
 reasonOf b p = if b then TASKING-ERROR else expiry p
 
+-- the item of a wait that ends: task c waited in place p
 abbrev pub itemAt : Bool → ℕ → Place → Item
 itemAt b c p = item c (reasonOf b p) (entryOf p) (partnerOf p)
 
+-- the item of the wait of task c, from the place where it stands
 abbrev pub itemOf : State → Bool → ℕ → Item
 itemOf s b c = itemAt b c (placeOf s c)
 
