@@ -1,14 +1,15 @@
 -- The answers of the code's step functions, read off the rules' outcomes; and what they may assume.
 -- Assumes nothing.
-use Prim.Native.Nat.{ℕ, _<_, _≤_}
+use Prim.Native.Nat.{ℕ, zero, suc, _<_, _≤_}
 use mathlib.Core.Path.{_≡_}
-use mathlib.Core.Bool.{Bool}
-use mathlib.Core.List.{List, [], map}
+use mathlib.Core.Bool.{Bool, true, false, _&&_}
+use mathlib.Core.List.{List, [], _∷_, map}
+use lib.Dec.{ltb, leb}
 use lib.ListN.{length}
 use Rattle.lists.specs.Lists.{if_then_else_, count}
-use Rattle.rules.specs.State.{State, placeOf, entryOf, partnerOf, wakeAll}
+use Rattle.rules.specs.State.{State, taskOf, placeOf, entryOf, partnerOf, wakeAll}
 use Rattle.rules.specs.Step.{Outcome, refused, took, number, none, item, expiry, roomAfter, TASKING-ERROR, tickTo, endsAt}
-use Rattle.rules.specs.Whole.{view, pack}
+use Rattle.rules.specs.Whole.{Whole, view, pack}
 use Rattle.rules.specs.declared.Item.{Item}
 use Rattle.rules.specs.declared.Place.{Place}
 use Rattle.rules.specs.declared.Supervisor.{Supervisor}
