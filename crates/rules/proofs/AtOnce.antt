@@ -2,15 +2,15 @@
 -- Assumes nothing.
 use Prim.Native.Nat.{ℕ, zero, suc, _+_, _≤_, _<_}
 use mathlib.Core.Path.{_≡_, refl, sym, _∙_, ap}
-use mathlib.Core.Bool.{Bool, true, false, not, _&&_}
+use mathlib.Core.Bool.{Bool, true, false, _&&_}
 use mathlib.Core.List.{List, [], _∷_, _++_, map}
 use native.Mathlib.Omega.{arith}
 use lib.ListN.{length, length-map}
-use lib.Dec.{eqb, ltb, leb}
+use lib.Dec.{ltb, leb}
 use borrow.Author.Tests.{eqb-false, eq-eqb, ne-eqb, ltb-true, ltb-false, lt-ltb, le-leb, lt-leb, leb-true, leb-false}
 use Rattle.lists.specs.Lists.{bit, filter, remove, count}
-use Rattle.rules.specs.State.{State, taskOf, placeOf, timerOf, entryOf, partnerOf, ticksLeft, left, after, wake, wakeAll, setClock}
-use Rattle.rules.specs.Step.{item, isDue, expired, expiry, dueAt, tickTo, endsAt, advanced, advanceEnds, readings}
+use Rattle.rules.specs.State.{State, taskOf, timerOf, entryOf, partnerOf, ticksLeft, left, after, wake, wakeAll, setClock}
+use Rattle.rules.specs.Step.{item, isDue, expired, expiry, dueAt, tickTo, endsAt}
 use Rattle.rules.specs.Advance.{comesIn, dueWithin, changes, dueMoments, AtOnce}
 use Rattle.rules.specs.declared.Item.{Item}
 use Rattle.rules.specs.declared.Task.{Task}

@@ -8,7 +8,7 @@ use native.Mathlib.Omega.{arith}
 use lib.ListN.{length, length-map}
 use lib.Dec.{eqb}
 use mir.Val.{boolByte}
-use Rattle.rules.specs.State.{State, timerOf, hasTime, after, wakeAll, setClock}
+use Rattle.rules.specs.State.{State, hasTime, after, wakeAll, setClock}
 use Rattle.rules.specs.Step.{took, item, DONE, takeCall, expired, roomAfter}
 use Rattle.rules.specs.Whole.{pack}
 use Rattle.rules.specs.Advance.{comesIn, dueWithin, changes, dueMoments}
@@ -16,16 +16,16 @@ use Rattle.rules.specs.declared.Supervisor.{Supervisor}
 use Rattle.rules.specs.declared.Timer.{Timer}
 use Rattle.rules.specs.declared.Timer.the-variants.{Off, Due}
 use Rattle.calls.specs.declared.Call.the-variants.{Advance}
-use Rattle.lists.proofs.ListLaws.{clash, count-filter-le}
+use Rattle.lists.proofs.ListLaws.{clash}
 use Rattle.rules.proofs.Invariant.{Sound}
-use Rattle.rules.proofs.Members.{bit-le, in-filter, timed-there}
+use Rattle.rules.proofs.Members.{bit-le}
 use Rattle.rules.proofs.SoundTest.{sound-test}
 use Rattle.rules.proofs.Advances.{advances}
 use Rattle.supervisor.specs.Taken.{takenOf, endedBy, EachOnce, WokenAs}
 use Rattle.supervisor.specs.declared.answers.Taken.{Taken}
 use Rattle.supervisor.proofs.AnswerLaws.{list-answers}
 use Rattle.supervisor.proofs.FinishLaws.{byte-bit}
-use Rattle.supervisor.proofs.TickLaws.{clock-packed}
+use Rattle.supervisor.proofs.TickLaws.{timed-each, clock-packed}
 
 -- ── those whose time comes ──
 
@@ -35,10 +35,7 @@ has-time now n Off e = clash e refl
 has-time now n (Due d) e = refl
 
 pub within-each : (v : State) (n : ℕ) → Sound v → EachOnce v (dueWithin v n)
-within-each v n h = (
-  λ u k. timed-there v u (has-time (v .clock) n (timerOf v u) (in-filter (λ t. comesIn (v .clock) n (timerOf v t)) u (v .delays) k .0)),
-  λ u. omega (arith, count-filter-le (λ t. comesIn (v .clock) n (timerOf v t)) u (v .delays), h .delays u, bit-le (hasTime (timerOf v u))),
-)
+within-each v n h = timed-each v (comesIn (v .clock) n) h (has-time (v .clock) n)
 
 -- ── their moments ──
 

@@ -1,30 +1,33 @@
 -- TICK.
 -- Assumes nothing.
-use Prim.Native.Nat.{ℕ, _*_, _≤_}
+use Prim.Native.Nat.{ℕ}
 use mathlib.Core.Path.{_≡_, sym, ap, _∙_}
-use mathlib.Core.Bool.{false}
+use mathlib.Core.Bool.{Bool, true, false}
 use mathlib.Core.List.{List, map}
 use native.Mathlib.Omega.{arith}
 use lib.ListN.{length, length-map}
+use Rattle.lists.specs.Lists.{filter}
 use Rattle.rules.specs.State.{State, after, timerOf, hasTime, wakeAll, setClock}
 use Rattle.rules.specs.Step.{took, item, DONE, takeCall, isDue, dueAt, expired, tickTo, endsAt, roomAfter}
 use Rattle.rules.specs.Whole.{pack}
 use Rattle.rules.specs.declared.Supervisor.{Supervisor}
+use Rattle.rules.specs.declared.Timer.{Timer}
 use Rattle.calls.specs.declared.Call.the-variants.{Tick}
 use Rattle.rules.proofs.Members.{bit-le, in-filter, timed-there}
 use Rattle.rules.proofs.StepSound.{due-is}
-use Rattle.lists.proofs.LineLaws.{length-filter}
 use Rattle.lists.proofs.ListLaws.{count-filter-le}
 use Rattle.rules.proofs.Invariant.{Sound}
-use Rattle.rules.proofs.WholeLaws.{delays-fit}
-use Rattle.supervisor.specs.Taken.{AllThere, EachOnce, WokenAs, PassedTo}
+use Rattle.supervisor.specs.Taken.{EachOnce, WokenAs, PassedTo}
 
-pub due-all : (v : State) (now : ℕ) → AllThere v (dueAt v now)
-due-all v now u k = let w = due-is now (timerOf v u) (in-filter (λ t. isDue now (timerOf v t)) u (v .delays) k .0) in timed-there v u (rw w)
+-- those of the delay queue whom a test of their times picks are tasks, each once
+pub timed-each : (v : State) (p : Timer → Bool) → Sound v → ((w : Timer) → p w ≡ true → hasTime w ≡ true) → EachOnce v (filter (λ t. p (timerOf v t)) (v .delays))
+timed-each v p h f = (
+  λ u k. timed-there v u (f (timerOf v u) (in-filter (λ t. p (timerOf v t)) u (v .delays) k .0)),
+  λ u. omega (arith, count-filter-le (λ t. p (timerOf v t)) u (v .delays), h .delays u, bit-le (hasTime (timerOf v u))),
+)
 
 pub due-each : (v : State) (now : ℕ) → Sound v → EachOnce v (dueAt v now)
-due-each v now h =
-    (due-all v now, λ u. omega (arith, count-filter-le (λ t. isDue now (timerOf v t)) u (v .delays), h .delays u, bit-le (hasTime (timerOf v u))))
+due-each v now h = timed-each v (isDue now) h (λ w e. ap hasTime (due-is now w e))
 
 pub clock-packed : (n : Supervisor) (st : State) (now : ℕ) → n ≡ pack st
     → _≡_ {A = Supervisor} (record { clock = now; created = n .created; tasks = n .tasks; ready = n .ready; callers = n .callers; held = n .held; delays = n .delays }) (pack (setClock st now))
@@ -42,14 +45,3 @@ passed-to v s n k now l room after w q e = record {
   number = w .number ∙ ap length q ∙ sym (length-map (dueAt v now) (expired v));
   written = w .written ∙ ap (λ (x : List ℕ). roomAfter room (map (expired v) x)) q;
 }
-
--- those due are at most 31
-pub few-due : (v : State) (now : ℕ) → Sound v → length (endsAt v now) ≤ 31
-few-due v now h = omega (arith, length-map (dueAt v now) (expired v), length-filter (λ t. isDue now (timerOf v t)) (v .delays), delays-fit v h)
-
--- so 124 bytes are room for their items
-pub due-room : (v : State) (now n : ℕ) → Sound v → 124 ≤ n → length (endsAt v now) * 4 ≤ n
-due-room v now n h k = times (length (endsAt v now)) (few-due v now h)
-  where
-    times : (l : ℕ) → l ≤ 31 → l * 4 ≤ n
-    times l j = omega (arith, j, k)

@@ -1,9 +1,9 @@
 // TICK, and the clock at a reading.
-ghost use Prim.Native.Nat.{_*_, _≤_};
+ghost use Prim.Native.Nat.{_≤_};
 ghost use lib.ListN.{length};
 ghost use mathlib.Core.Path.{_≡_};
 ghost use Rattle.calls.specs.declared.Call.the-variants.{Tick};
-ghost use Rattle.rules.specs.Step.{takeCall, roomAfter, endsAt};
+ghost use Rattle.rules.specs.Step.{takeCall, roomAfter};
 ghost use Rattle.rules.specs.Whole.{view};
 ghost use Rattle.supervisor.specs.Taken.{Stands, takenOf, endedBy, PassedTo};
 use super::answers::Taken;
@@ -17,7 +17,7 @@ use table::queues::picked;
 
 // The clock goes to a reading: those due then become ready, and their items go to the front of the room.
 fn tick_to(s: Supervisor, reading: u32, room: &mut [u8]) -> Woken
-    requires { ⌜ Stands s × (length (endsAt (view s) reading) * 4 ≤ length (now room)) ⌝ }
+    requires { ⌜ Stands s × (124 ≤ length (now room)) ⌝ }
     ensures { λ r. ⌜ PassedTo (view s) reading (r .state) (r .count) (now (room .entry)) (now (room .exit)) ⌝ }
 {
     let delays = s.delays;

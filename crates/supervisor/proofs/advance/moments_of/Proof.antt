@@ -1,7 +1,7 @@
 use native.Mathlib.Omega.{arith}
 use borrow.Author.Needs.{needs}
 use Prim.Native.Nat.{_+_, _-_, _≤_}
-use mathlib.Core.Path.{_≡_, refl, ap, _∙_}
+use mathlib.Core.Path.{_≡_, ap, _∙_}
 use mathlib.Core.Bool.{not}
 use lib.Dec.{eqb}
 use lib.ListN.{length, drop, getD}
@@ -10,7 +10,6 @@ use Rattle.lists.specs.Line.{line}
 use Rattle.lists.proofs.Turns.{rest-blank, rest-entry, rest-end}
 use Rattle.rules.specs.Advance.{changes}
 use Rattle.rules.specs.State.{ticksLeft}
-use Rattle.rules.specs.Whole.{view}
 use Rattle.rules.specs.declared.Task.{Task}
 use Rattle.table.specs.Moved.{leftOf}
 use Rattle.table.proofs.LeafLaws.{mapped-long, shown-at}

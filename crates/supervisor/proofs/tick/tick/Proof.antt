@@ -1,17 +1,14 @@
-use native.Mathlib.Omega.{arith}
 use borrow.Author.Needs.{needs}
-use Rattle.rules.specs.State.{setClock}
 use Rattle.rules.specs.Step.{item, DONE, tickTo, endsAt}
 use Rattle.rules.specs.Whole.{view}
 use Rattle.supervisor.proofs.AnswerLaws.{list-answers}
-use Rattle.supervisor.proofs.TickLaws.{tick-is, few-due, due-room}
+use Rattle.supervisor.proofs.TickLaws.{tick-is}
 use Rattle.supervisor.proofs.tick.tick.Statement.{statement}
 use Rattle.supervisor.proofs.tick.tick.Tie as tie
 
 tick-to-requires : tie.Need-tick-to-requires
 tick-to-requires c κs =
-    let k = c .before .before .before in
-    (k .pre .0, due-room (view (k .args .s)) (c .before .wrapping-add-u32 .result) _ (k .pre .0 .sound) (k .pre .1))
+    c .before .before .before .pre
 
 returns : tie.Need-returns
 returns c =

@@ -1,13 +1,13 @@
-use Prim.Native.Nat.{ℕ, _*_, _≤_}
 use borrow.Author.Needs.{needs}
-use mathlib.Core.Path.{_≡_, refl, sym, _∙_, ap, subst}
-use lib.ListN.{length, length-map}
+use mathlib.Core.Path.{_≡_, refl, sym, subst}
+use lib.ListN.{length}
 use Rattle.lists.specs.Line.{line}
-use Rattle.rules.specs.Step.{dueAt, expired}
+use Rattle.rules.specs.Step.{dueAt}
 use Rattle.rules.specs.Whole.{view}
 use Rattle.supervisor.specs.Taken.{EachOnce}
 use Rattle.table.specs.declared.queues.Test.the-variants.{DueAt}
 use Rattle.supervisor.proofs.MoveLaws.{picked-line, long-delays}
+use Rattle.supervisor.proofs.RoomLaws.{in-room}
 use Rattle.supervisor.proofs.TickLaws.{due-each, passed-to}
 use Rattle.supervisor.proofs.tick.tick_to.Statement.{statement}
 use Rattle.supervisor.proofs.tick.tick_to.Tie as tie
@@ -22,7 +22,7 @@ wake-all-requires c κs =
     let k = d .before .before .before in
     let s = k .args .s in let now = k .args .reading in (
       k .pre .0,
-      subst (λ (n : ℕ). n * 4 ≤ length (k .args .room .now)) (length-map (dueAt (view s) now) (expired (view s)) ∙ sym (ap length (due-here d))) (k .pre .1),
+      in-room (d .picked .result) (length (k .args .room .now)) (search needs) (k .pre .1),
       subst (EachOnce (view s)) (sym (due-here d)) (due-each (view s) now (k .pre .0 .sound)),
     )
 
