@@ -13,10 +13,10 @@ use lib.Seq.{drop-cons}
 use borrow.Author.Tests.{ltb-true, lt-ltb, le-ltb, ltb-false, eq-eqb, ne-eqb}
 use Rattle.lists.proofs.LineLaws.{line-line, line-append, line-pad}
 use Rattle.lists.specs.Line.{line, pad, padTo}
-use Rattle.lists.specs.Lists.{if_then_else_, bit, count, first}
+use Rattle.lists.specs.Lists.{if_then_else_, bit, filter, count, first}
 use Rattle.lists.specs.Marks.{noMarks, markOf, marked, withMark}
 use Rattle.lists.proofs.MarkLaws.{filter-same, mark-in, marked-length}
-use Rattle.rules.specs.State.{State, move, running, queue, heldBy, wakeAll}
+use Rattle.rules.specs.State.{State, move, running, waitsOn, queue, holds, heldBy, wakeAll}
 use Rattle.rules.specs.Step.{refused, took, NO-TASK, item, DONE, takeCall, STILL-SERVING, queuedFrom, queuedOn, finish, failed}
 use Rattle.rules.specs.Whole.{pack}
 use Rattle.rules.specs.declared.Supervisor.{Supervisor}
@@ -173,6 +173,17 @@ module _ (v : State) (t : ℕ) where
 
   pub finish-goes : (n : ℕ) → n ≡ length (heldBy v t) → n ≤ 0 → finish v t ≡ took (move (wakeAll v (queuedOn v t)) t Completed Off) (item t DONE 0 0) (map (failed v) (queuedOn v t))
   finish-goes n e k = rw (le-ltb 0 (length (heldBy v t)) (omega arith))
+
+  nobody-queued : v .callers ≡ [] → (k e : ℕ) → queuedFrom v t k e ≡ []
+  nobody-queued z zero e = refl
+  nobody-queued z (suc k) e = λ i. ap (filter (waitsOn v t e)) z i ++ nobody-queued z k (suc e) i
+
+  -- nobody is held, and nobody is queued
+  pub finish-alone : v .held ≡ [] → v .callers ≡ [] → finish v t ≡ took (move v t Completed Off) (item t DONE 0 0) []
+  unfolding queuedOn
+  finish-alone h z =
+      finish-goes 0 (sym (ap (λ (l : List ℕ). length (filter (holds v t) l)) h)) (omega arith)
+      ∙ ap (λ (l : List ℕ). took (move (wakeAll v l) t Completed Off) (item t DONE 0 0) (map (failed v) l)) (nobody-queued z 8 1)
 
   pub finish-idle : t ≡ running v → t ≡ 0 → takeCall v Finish ≡ refused NO-TASK
   finish-idle run z = no-runner v t (λ t. finish v t) run z

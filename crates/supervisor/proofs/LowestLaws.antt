@@ -13,7 +13,7 @@ use Rattle.lists.proofs.MarkLaws.{filter-same}
 use Rattle.lists.proofs.ListLaws.{by-bool, by-eq}
 use Rattle.lists.proofs.Tests.{and-first, and-second}
 use Rattle.rules.specs.State.{State, placeOf, isQueued, partnerOf, entryOf, opens, waitsOn, queue}
-use Rattle.rules.specs.Step.{openFrom, openEntry, queuedFrom, queuedOn}
+use Rattle.rules.specs.Step.{openFrom, openEntry}
 use Rattle.supervisor.specs.Lowest.{openCall, callOf, nobody, lowerOf, lowestOf}
 use Rattle.rules.specs.declared.Place.{Place}
 use Rattle.supervisor.specs.declared.callers.Caller.{Caller}
@@ -161,7 +161,7 @@ module _ (v : State) (t o : ℕ) where
           w .0 ∙ ap first (at-open (b .entry) low (omega arith) (y .0)),
         )
 
--- ---- where no entry at all has a caller, nobody is queued
+-- ---- every entry is in the open set 255
 
 pub all-open : (e : ℕ) → 1 ≤ e → e ≤ 8 → opens 255 e ≡ true
 all-open zero lo hi = absurd (omega arith)
@@ -174,15 +174,6 @@ all-open (suc (suc (suc (suc (suc (suc zero)))))) lo hi = refl
 all-open (suc (suc (suc (suc (suc (suc (suc zero))))))) lo hi = refl
 all-open (suc (suc (suc (suc (suc (suc (suc (suc zero)))))))) lo hi = refl
 all-open (suc (suc (suc (suc (suc (suc (suc (suc (suc e))))))))) lo hi = absurd (omega arith)
-
-from-none : (v : State) (t k e : ℕ) → 1 ≤ e → e + k ≤ 9 → ((j : ℕ) → 1 ≤ j → j ≤ 8 → queue v t j ≡ []) → queuedFrom v t k e ≡ []
-from-none v t zero e lo hi h = refl
-from-none v t (suc k) e lo hi h = rw (h e lo (omega arith)) (from-none v t k (suc e) (omega arith) (omega arith) h)
-
-pub queued-none : (v : State) (t : ℕ) (b : Caller) → b ≡ lowestOf (callOf v t 255) nobody (v .callers) → b .entry ≡ 9 → queuedOn v t ≡ []
-unfolding queuedOn
-queued-none v t b is z =
-    from-none v t 8 1 (omega arith) (omega arith) (λ j lo hi. sym (at-open v t 255 j lo hi (all-open j lo hi)) ∙ lowest-here v t 255 b is .none j (omega arith))
 
 -- ---- for the code: the test of one caller, and a turn of the pass
 

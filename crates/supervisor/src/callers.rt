@@ -121,8 +121,8 @@ fn behind(r: [u8; 31], q: [u8; 31]) -> [u8; 31]
     lines::joined_all(r, q)
 }
 
-// The queues of task t one behind the other.
-fn each_queue(s: Supervisor, t: u8) -> [u8; 31]
+// All callers queued on task t, entry 1 first, each queue from its head.
+pub fn queued_on(s: Supervisor, t: u8) -> [u8; 31]
     ensures { λ r. ⌜ r ≡ pad (queuedOn (view s) t) ⌝ }
 {
     let callers = s.callers;
@@ -136,15 +136,4 @@ fn each_queue(s: Supervisor, t: u8) -> [u8; 31]
         e += 1;
     }
     r
-}
-
-// All callers queued on task t, entry 1 first, each queue from its head.
-pub fn queued_on(s: Supervisor, t: u8) -> [u8; 31]
-    ensures { λ r. ⌜ r ≡ pad (queuedOn (view s) t) ⌝ }
-{
-    let b = lowest(s, t, 255);
-    if b.entry == 9 {
-        return [0u8; 31];
-    }
-    each_queue(s, t)
 }

@@ -33,16 +33,18 @@ pub fn finish(s: Supervisor, room: &mut [u8]) -> Taken
         return refused_by(s, NO_TASK);
     }
     let held = s.held;
+    let callers = s.callers;
+    // nobody is held or queued, on any task: nobody need be looked for
+    if (lines::first_of(held) == 0) & (lines::first_of(callers) == 0) {
+        let m = moved(s, t, Place::Completed, Timer::Off);
+        return answered(m, t, DONE, 0, 0, 0);
+    }
     let h = picked(s, held, Test::HeldBy { holder: t });
     let k = lines::len(h);
     if k > 0 {
         return refused_by(s, STILL_SERVING);
     }
     let l = queued_on(s, t);
-    if lines::first_of(l) == 0 {
-        let m = moved(s, t, Place::Completed, Timer::Off);
-        return answered(m, t, DONE, 0, 0, 0);
-    }
     let w = wake_all(s, l, true, room);
     let n = w.state;
     let m = moved(n, t, Place::Completed, Timer::Off);

@@ -1,17 +1,68 @@
+use native.Mathlib.Omega.{arith}
 use borrow.Author.Needs.{needs}
-use mathlib.Core.Path.{sym, ap, _∙_}
-use Rattle.lists.specs.Line.{pad}
-use Rattle.lists.proofs.Turns.{fill-none}
+use Prim.Native.Nat.{ℕ, _-_, _≤_}
+use mathlib.Core.Path.{_≡_, refl, sym, ap, _∙_}
+use mathlib.Core.List.{_++_}
+use lib.Dec.{eqb}
+use lib.ListN.{length, length-take}
+use Rattle.lists.specs.Line.{line, pad, padTo}
+use Rattle.lists.specs.Marks.{markOf, withMark}
+use Rattle.lists.proofs.LineLaws.{line-picked}
+use Rattle.rules.specs.Step.{queuedOn}
 use Rattle.rules.specs.Whole.{view}
-use Rattle.supervisor.proofs.LowestLaws.{queued-none}
+use Rattle.table.proofs.LeafLaws.{mapped-long}
+use Rattle.supervisor.proofs.FinishLaws.{byMarks, queued-laid, queued-turn, queued-end, marks-queued}
 use Rattle.supervisor.proofs.callers.queued_on.Statement.{statement}
 use Rattle.supervisor.proofs.callers.queued_on.Tie as tie
 
-returns : tie.Need-returns
-returns c = let a = c .before .before .before .args in fill-none ∙ ap pad (sym (queued-none (view (a .s)) (a .t) (c .before .before .lowest .result) (c .before .before .lowest .ensures) (c .if1 .taken)))
+abbrev Inv-loop : tie.InvT-loop
+Inv-loop t callers marks r₀ e₀ r e =
+    (1 ≤ e) × (e ≤ 9) × (length callers ≡ 31) × (r ≡ pad (line r)) × (pad (byMarks marks (line callers) 8 1) ≡ pad (line r ++ byMarks marks (line callers) (9 - e) e))
 
-returns-2 : tie.Need-returns-2
-returns-2 c = c .each-queue .ensures
+abbrev μ-loop : tie.MeasureT-loop
+μ-loop t callers marks r₀ e₀ r e = 9 - e
+
+loop-holds : tie.Need-loop-holds Inv-loop μ-loop
+unfolding pad padTo
+loop-holds c = (omega arith, omega arith, search (needs, mapped-long), refl, refl)
+
+-- what is picked by the mark e
+picked-here : (c : tie.After-queue-of Inv-loop μ-loop) → let l = c .before .before .loop in let m = c .before .before .before .entries-called .result in line (c .queue-of .result) ≡ withMark m (l .e) (line (c .before .before .before .before .before .args .s .callers))
+picked-here c =
+    let l = c .before .before .loop in
+    let m = c .before .before .before .entries-called .result in
+    ap line (c .queue-of .ensures) ∙ line-picked (λ t. eqb (markOf m t) (l .e)) (c .before .before .before .before .before .args .s .callers) (l .inv .2)
+
+loop-again : tie.Need-loop-again Inv-loop μ-loop
+loop-again c =
+    let p = c .before in
+    let l = p .before .before .loop in
+    let m = p .before .before .before .entries-called .result in
+    let a = line (p .before .before .before .before .before .args .s .callers) in
+    let q = p .queue-of .result in (
+      omega arith,
+      omega arith,
+      l .inv .2,
+      queued-laid m a (l .e) (l .r) (c .behind .result) q (l .inv .3) (c .behind .ensures) (picked-here p) (omega arith),
+      l .inv .4 ∙ queued-turn m a (l .e) (l .r) (c .behind .result) q (l .inv .3) (c .behind .ensures) (picked-here p) (omega arith),
+    )
+
+long-here : (c : tie.Start Inv-loop μ-loop) → length (c .args .s .tasks) ≡ 31
+long-here c = search (needs, mapped-long)
+
+returns : tie.Need-returns Inv-loop μ-loop
+unfolding queuedOn
+returns c =
+    let l = c .before .loop in
+    let m = c .before .before .entries-called .result in
+    let k = c .before .before .before .before in
+    let s = k .args .s in
+    let long = long-here k in
+    let few : length (view s .tasks) ≤ 31 = simp length-take (omega arith) in
+    sym (ap pad (sym (marks-queued (view s) (k .args .t) m few (c .before .before .entries-called .ensures) 8 1 (omega arith) (omega arith))) ∙ l .inv .4 ∙ queued-end m (line (s .callers)) (l .e) (l .r) (omega arith) (l .inv .3))
 
 pub queued-on-spec : {M : Type 1} → statement M
-queued-on-spec = tie.close (tie.spec (λ c κs. search needs) returns (λ c κs. search needs) returns-2)
+queued-on-spec =
+    tie.close
+    (tie.spec Inv-loop μ-loop (λ c κs. search needs) loop-holds (λ c κs. search needs) (λ c κs. search needs) (λ c. search needs)
+    (λ c. search needs) loop-again returns)

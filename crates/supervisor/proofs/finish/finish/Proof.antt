@@ -1,9 +1,12 @@
+use native.Mathlib.Omega.{arith}
 use borrow.Author.Needs.{needs}
+use borrow.Author.Tests.{eqb-true}
 use Prim.Native.Nat.{ℕ}
 use mathlib.Core.Bool.{true}
 use mathlib.Core.List.{List, []}
 use mathlib.Core.Path.{_≡_, refl, sym, _∙_, ap, subst}
 use lib.ListN.{length}
+use lib.Dec.{eqb}
 use Rattle.calls.specs.declared.Call.the-variants.{Finish}
 use Rattle.lists.specs.Line.{line}
 use Rattle.rules.specs.State.{wakeAll, move, heldBy}
@@ -19,10 +22,10 @@ use Rattle.supervisor.specs.declared.answers.Taken.{Taken}
 use Rattle.rules.specs.declared.Supervisor.{Supervisor}
 use Rattle.table.specs.Moved.{movedOf}
 use Rattle.lists.proofs.Turns.{rest-blank}
-use Rattle.supervisor.proofs.WakeLaws.{woken-none}
-use Rattle.supervisor.proofs.MoveLaws.{picked-line, long-held}
-use Rattle.supervisor.proofs.AnswerLaws.{by-both, runner, many-answers, room-of}
-use Rattle.supervisor.proofs.FinishLaws.{finish-idle, finish-runs, finish-holds, finish-goes, queued-all, queued-each, queued-line, woken-completed}
+use Rattle.lists.proofs.Tests.{and-first, and-second}
+use Rattle.supervisor.proofs.MoveLaws.{picked-line, long-held, long-callers}
+use Rattle.supervisor.proofs.AnswerLaws.{by-both, runner, move-answers, many-answers, room-of}
+use Rattle.supervisor.proofs.FinishLaws.{finish-idle, finish-runs, finish-holds, finish-goes, finish-alone, queued-all, queued-each, queued-line, woken-completed}
 use Rattle.supervisor.proofs.RoomLaws.{in-room}
 use Rattle.lists.proofs.LineLaws.{length-pad, first-at}
 use Rattle.supervisor.proofs.finish.finish.Statement.{statement}
@@ -35,75 +38,69 @@ finish-here : (c : tie.Else1) → takeCall (view (c .before .before .before .arg
 finish-here c = finish-runs (view (c .before .before .before .args .s)) (c .before .running .result) (c .before .running .ensures) (c .if1 .left)
 
 -- how many t holds
-held-here : (c : tie.After-len) → c .len .result ≡ length (heldBy (view (c .before .before .before .before .before .before .args .s)) (c .before .before .before .before .running .result))
+held-here : (c : tie.After-len) → c .len .result ≡ length (heldBy (view (c .before .before .before .before .before .before .before .before .before .before .args .s)) (c .before .before .before .before .before .before .before .before .running .result))
 held-here c =
-    let s = c .before .before .before .before .before .before .args .s in
-    c .len .ensures ∙ ap length (picked-line s (s .held) (HeldBy (c .before .before .before .before .running .result)) _ (long-held s (c .before .before .before .before .before .before .pre .0)) (c .before .picked .ensures))
+    let s = c .before .before .before .before .before .before .before .before .before .before .args .s in
+    c .len .ensures ∙ ap length (picked-line s (s .held) (HeldBy (c .before .before .before .before .before .before .before .before .running .result)) _ (long-held s (c .before .before .before .before .before .before .before .before .before .before .pre .0)) (c .before .picked .ensures))
 
 -- who is queued on t
-queued-here : (c : tie.After-queued-on) → line (c .queued-on .result) ≡ queuedOn (view (c .before .before .before .before .before .before .before .before .args .s)) (c .before .before .before .before .before .before .running .result)
-queued-here c = queued-line (view (c .before .before .before .before .before .before .before .before .args .s)) (c .before .before .before .before .before .before .running .result) (c .queued-on .result) (c .before .before .before .before .before .before .before .before .pre .0 .sound) (c .queued-on .ensures)
+queued-here : (c : tie.After-queued-on) → line (c .queued-on .result) ≡ queuedOn (view (c .before .before .before .before .before .before .before .before .before .before .before .before .args .s)) (c .before .before .before .before .before .before .before .before .before .before .running .result)
+queued-here c = queued-line (view (c .before .before .before .before .before .before .before .before .before .before .before .before .args .s)) (c .before .before .before .before .before .before .before .before .before .before .running .result) (c .queued-on .result) (c .before .before .before .before .before .before .before .before .before .before .before .before .pre .0 .sound) (c .queued-on .ensures)
 
 returns : tie.Need-returns
 returns c =
     let s = c .before .before .before .before .args .s in
     by-both s _ _ (finish-idle (view s) (c .before .before .running .result) (c .before .before .running .ensures) (c .before .if1 .taken)) (c .refused-by .ensures) refl
 
+-- nobody is held, and nobody is queued
 returns-2 : tie.Need-returns-2
 returns-2 c =
-    let h = c .before .before in
-    let e1 = c .before .before .before .before .before in
-    let s = c .before .before .before .before .before .before .before .before .args .s in
-    by-both s _ _ (finish-here e1 ∙ finish-holds (view s) (e1 .before .running .result) _ (held-here h) (c .before .if2 .taken)) (c .refused-by2 .ensures) refl
-
--- what FINISH gives, from what waking and the move gave
-finished : (c : tie.After-queued-on) →
-    let k = c .before .before .before .before .before .before .before .before in
+    let f = c .before .before .before in
+    let e1 = f .before .before .before .before in
+    let k = e1 .before .before .before in
     let s = k .args .s in
-    let t = c .before .before .before .before .before .before .running .result in
-    (n m : Supervisor) (count : ℕ) (after : List ℕ) (r : Taken) → WokenAs (view s) true (line (c .queued-on .result)) n count (k .args .room .now) after → m ≡ movedOf n t Completed Off
-    → r ≡ record { state = m; refusal = 0; answer = item t DONE 0 0; ended = count }
-    → (r ≡ takenOf s (takeCall (view s) Finish)) × (after ≡ roomAfter (k .args .room .now) (endedBy (takeCall (view s) Finish)))
-finished c n m count after r w em er =
-    let k = c .before .before .before .before .before .before .before .before in
-    let e2 = c .before in
-    let e1 = e2 .before .before .before .before in
-    let s = k .args .s in
-    let v = view s in
     let t = e1 .before .running .result in
-    let l = line (c .queued-on .result) in
-    by-both s _ _ (finish-here e1 ∙ finish-goes v t _ (held-here (e2 .before)) (e2 .if2 .left))
-    (many-answers s _ (move (wakeAll v (queuedOn v t)) t Completed Off) _ (failed v) l (queuedOn v t) _ er
-    (woken-completed v n m l (queuedOn v t) t (k .pre .0 .sound) (queued-all v t) (queued-here c) (runs-here e1 .high) (w .state) em) (w .number) (queued-here c))
-    (room-of _ _ (failed v) l (queuedOn v t) (w .written) (queued-here c))
+    let m = f .before .first-of .result in
+    let n = f .first-of2 .result in
+    let none = c .before .before .if2 .taken in
+    let held = rest-blank (s .held) 0 (omega (arith, long-held s (k .pre .0))) (first-at (s .held) ∙ sym (f .before .first-of .ensures) ∙ eqb-true m 0 (and-first (eqb m 0) (eqb n 0) none)) in
+    let callers = rest-blank (s .callers) 0 (omega (arith, long-callers s (k .pre .0))) (first-at (s .callers) ∙ sym (f .first-of2 .ensures) ∙ eqb-true n 0 (and-second (eqb m 0) (eqb n 0) none)) in
+    by-both s _ _ (finish-here e1 ∙ finish-alone (view s) t held callers)
+    (move-answers s (c .before .moved .result) t Completed Off (item t DONE 0 0) [] (k .pre .0) (runs-here e1 .high) (c .answered .ensures) (c .before .moved .ensures)) refl
 
--- nobody is queued on t
 returns-3 : tie.Need-returns-3
 returns-3 c =
-    let f = c .before .before .before in
-    let q = f .before in
-    let k = q .before .before .before .before .before .before .before .before in
-    let s = k .args .s in
-    let l = q .queued-on .result in
-    let z : line l ≡ [] = rest-blank l 0 (search needs) (first-at l ∙ sym (f .first-of .ensures) ∙ c .before .before .if3 .taken) in
-    finished q s (c .before .moved .result) 0 _ _ (woken-none (view s) s true (line l) _ (k .pre .0 .packs) z) (c .before .moved .ensures) (c .answered .ensures)
+    let h = c .before .before in
+    let e1 = h .before .before .before .before .before .before .before in
+    let s = e1 .before .before .before .args .s in
+    by-both s _ _ (finish-here e1 ∙ finish-holds (view s) (e1 .before .running .result) _ (held-here h) (c .before .if3 .taken)) (c .refused-by2 .ensures) refl
 
 wake-all-requires : tie.Need-wake-all-requires
 wake-all-requires c κs =
-    let q = c .before .before .before in
-    let k = q .before .before .before .before .before .before .before .before in
+    let q = c .before in
+    let k = q .before .before .before .before .before .before .before .before .before .before .before .before in
     let v = view (k .args .s) in
-    let t = q .before .before .before .before .before .before .running .result in
+    let t = q .before .before .before .before .before .before .before .before .before .before .running .result in
     (k .pre .0, in-room (q .queued-on .result) _ (ap length (q .queued-on .ensures) ∙ length-pad _) (k .pre .1), subst (EachOnce v) (sym (queued-here q)) (queued-each v t (k .pre .0 .sound)))
 
 returns-4 : tie.Need-returns-4
 returns-4 c =
     let w = c .before .before .before .before .before in
-    finished (w .before .before .before .before) (w .wake-all .result .state) (c .before .moved2 .result) _ _ _ (w .wake-all .ensures) (c .before .moved2 .ensures) (c .answered2 .ensures)
+    let q = w .before .before in
+    let e1 = q .before .before .before .before .before .before .before .before .before in
+    let k = e1 .before .before .before in
+    let s = k .args .s in
+    let v = view s in
+    let t = e1 .before .running .result in
+    let l = line (q .queued-on .result) in
+    by-both s _ _ (finish-here e1 ∙ finish-goes v t _ (held-here (q .before .before)) (q .before .if3 .left))
+    (many-answers s (c .before .moved2 .result) (move (wakeAll v (queuedOn v t)) t Completed Off) (item t DONE 0 0) (failed v) l (queuedOn v t) (w .wake-all .result .count) (c .answered2 .ensures)
+    (woken-completed v (w .wake-all .result .state) (c .before .moved2 .result) l (queuedOn v t) t (k .pre .0 .sound) (queued-all v t) (queued-here q) (runs-here e1 .high) (w .wake-all .ensures .state) (c .before .moved2 .ensures)) (w .wake-all .ensures .number) (queued-here q))
+    (room-of _ _ (failed v) l (queuedOn v t) (w .wake-all .ensures .written) (queued-here q))
 
 pub finish-spec : {M : Type 1} → statement M
 finish-spec =
     tie.close
     (tie.spec (λ c κs. search needs) (λ c κs. search needs) returns (λ c κs. search needs) (λ c κs. search needs)
-    (λ c κs. search needs) returns-2 (λ c κs. search needs) (λ c κs. search needs) (λ c κs. search needs) (λ c κs. search needs) returns-3
-    wake-all-requires (λ c κs. search needs) (λ c κs. search needs) (λ c. search needs) returns-4)
+    (λ c κs. search needs) (λ c κs. search needs) returns-2 (λ c κs. search needs) (λ c κs. search needs) (λ c κs. search needs) returns-3
+    (λ c κs. search needs) wake-all-requires (λ c κs. search needs) (λ c κs. search needs) (λ c. search needs) returns-4)
