@@ -18,6 +18,15 @@ Wrong = namedtuple("Wrong", "edit crate file says old where")
 BEGIN, END = "<!-- wrong answers: made by tests/wrong_answers.py -->", "<!-- end of the wrong answers -->"
 FUNCTION = re.compile(r'^\s*(?:#\[no_mangle\] )?(?:pub(?:\(crate\))? )?(?:extern "C" )?fn (\w+)')
 CLAUSE = re.compile(r"^\s*(?:requires|ensures|ghost)\b")
+# Public functions whose code is walked by hand: a wrong answer in their own body is refused because the code is not the one that was walked,
+# right or wrong. So each has two more in the parts that it rests on, which are refused at a fact.
+WALKED = {
+    "workspace::fresh": ["lent::place_after", "steps::made"],
+    "workspace::request": ["lent::first_fit", "steps::cut_at", "steps::request_refusal"],
+    "workspace::release": ["steps::touches_low", "steps::freed"],
+}
+# the declarations of a walk that say which code is walked
+CODE = {"code-walked", "begins"}
 # what the prover says of two sides that are not equal, or of a goal that does not follow
 FACT = re.compile(r"first differ|differ only|the two types|does not follow|no proof of|what it leaves must be")
 
@@ -85,6 +94,10 @@ def texts():
             own = [w for w in found if (w.crate, w.where) == (crate, function)]
             if f"{crate}::{function}" not in unbound and len(own) < 2:
                 amiss.append(f"{crate}::{function}: {len(own)} wrong answers in crates/{crate}/must-fail, not two")
+    for function, parts in WALKED.items():
+        crate = function.split("::")[0]
+        if len([w for w in found if w.crate == crate and w.where in parts]) < 2:
+            amiss.append(f"{function}: fewer than two wrong answers in the parts that it rests on")
     return amiss, f"{len(found)} wrong answers in {len({w.edit for w in found})} edits"
 
 
@@ -112,6 +125,10 @@ def table(words):
     return [] if text == new or "--write" in words else [f"{doc}: not the wrong answers of the edits: run tests/wrong_answers.py table --write {doc}"], ""
 
 
+def is_walked(wrong):
+    return f"{wrong.crate}::{wrong.where}" in WALKED
+
+
 def refused(log, wrong):
     """What was changed was refused at a fact: a function by its own proof, or by the search that stands in for one."""
     proof = r"\S*"
@@ -119,8 +136,8 @@ def refused(log, wrong):
         if re.search(rf"(?m)^fn {wrong.crate}::{wrong.where}: no proof: .*`search` does not close", log):
             return True
         proof = "proofs/" + wrong.where.replace("::", "/") + "/Proof.antt"
-    said = re.findall(rf"(?m)^\S*/{proof}:\d+:\d+: error: (.*(?:\n  .*)*)", log)
-    return any(FACT.search(one) for one in said)
+    said = re.findall(rf"(?m)^\S*/{proof}:\d+:\d+: error: `([^`]*)`: (.*(?:\n  .*)*)", log)
+    return any(FACT.search(why) and (is_walked(wrong) or part not in CODE) for part, why in said)
 
 
 def logs(words):
@@ -132,7 +149,8 @@ def logs(words):
             amiss.append(f"{wrong.edit}: no log {log}")
         elif not refused(log.read_text(), wrong):
             amiss.append(f"{wrong.edit}: {wrong.crate}: {wrong.where} was not refused by itself at a fact")
-    return amiss, f"{len(found)} wrong answers, each refused by itself at a fact"
+    walked = len([wrong for wrong in found if is_walked(wrong)])
+    return amiss, f"{len(found) - walked} wrong answers, each refused by itself at a fact; {walked} of walked functions, each refused as other code"
 
 
 def main():
