@@ -1,4 +1,4 @@
--- A walk that meets each task of the line once has seen what the rules count.
+-- A walk that meets each task of the line once, in order, has seen what the rules ask of the line.
 -- Assumes nothing.
 use Prim.Native.Nat.{ℕ, zero, suc, _+_, _-_, _^_, _≤_, _<_}
 use mathlib.Core.Path.{_≡_, refl, sym, ap, _∙_}
@@ -7,7 +7,7 @@ use mathlib.Core.List.{List, [], _∷_}
 use native.Mathlib.Omega.{arith}
 use lib.Dec.{eqb, ltb, leb}
 use borrow.Author.Tests.{eq-eqb, ne-eqb, leb-true, lt-ltb, le-ltb, ltb-true, ltb-false}
-use Rattle.lists.specs.Line.{line, tidy}
+use Rattle.lists.specs.Line.{line, blanks, tidy}
 use Rattle.lists.specs.Lists.{if_then_else_, bit, count, every, downFrom}
 use Rattle.lists.proofs.ListLaws.{by-bool, by-eq, clash}
 use Rattle.lists.proofs.Tests.{and-first, and-second}
@@ -15,10 +15,32 @@ use Rattle.rules.specs.State.{taskOf}
 use Rattle.rules.specs.Whole.{view}
 use Rattle.rules.specs.declared.Supervisor.{Supervisor}
 use Rattle.soundness.specs.Marks.{Marks, Whole, noMarks, hasMark, nextMark, withoutMark, isNone}
-use Rattle.soundness.specs.Check.{Line, named, marked, wanted, emptied, lineHas, belongs, arrayOf, standsIn}
-use Rattle.soundness.proofs.TaskLaws.{and-none, named-is}
+use Rattle.soundness.specs.Check.{Line, Ready, Callers, Held, Delays, belongs, marked, markedIn, walked, holdsIn, anyOrder}
+use Rattle.soundness.proofs.TaskLaws.{named, and-last, and-none, named-is}
 use Rattle.soundness.proofs.Turns.{and-both}
 use Rattle.soundness.proofs.MarkLaws.{next-whole, next-low, below, without-whole, has-none, has-first, has-next, has-without, none-has, has-all}
+
+-- ── what the rules ask of a line ──
+
+-- where the code keeps the line
+abbrev pub arrayOf : Supervisor → Line → List ℕ
+arrayOf s Ready = s .ready
+arrayOf s Callers = s .callers
+arrayOf s Held = s .held
+arrayOf s Delays = s .delays
+
+-- the array is task numbers 1..n and blanks behind, and has each of 1..n once if it passes the test, and else not
+unfoldable pub lineHas : ℕ → (ℕ → Bool) → List ℕ → Bool
+lineHas n f a = (tidy a && every (named n) (line a)) && every (λ t. eqb (count t (line a)) (bit (f t))) (downFrom n)
+
+-- the line holds the created tasks that stand in it, each once, and nothing else
+abbrev pub standsIn : Supervisor → Line → Bool
+standsIn s l = lineHas (s .created) (λ t. belongs l (taskOf (view s) t)) (arrayOf s l)
+
+-- a is at most the first key, and each key at most the next
+abbrev pub ascending : (ℕ → ℕ) → ℕ → List ℕ → Bool
+ascending k a [] = true
+ascending k a (x ∷ xs) = leb a (k x) && ascending k (k x) xs
 
 -- ── tests that pass at each of 1..n ──
 
@@ -46,6 +68,10 @@ eqb-suc k = by-eq k 0 (λ e. rw e) (λ e. rw (ne-eqb k 0 e, ne-eqb (1 + k) 1 (λ
 
 -- ── who is to be met ──
 
+-- of 1..n those that pass the test are to be met
+abbrev wanted : (ℕ → Bool) → ℕ → Marks
+wanted f n = nextMark (marked f noMarks (downFrom n)) false
+
 -- the word of the tasks n, n - 1, .., 1 behind the marks m, of which there are j: task 1 is bit 0
 marked-low : (f : ℕ → Bool) (n j : ℕ) (m : Marks) → m < 2 ^ j → n + j ≤ 31 → marked f m (downFrom n) < 2147483648
 marked-low f zero j m l h = below j m l (omega arith)
@@ -61,7 +87,7 @@ has-marked f (suc n) j m t l h =
     (λ q. let z : t - n ≡ 0 = omega arith in rw (z, lt-ltb t (suc n) (omega arith)) (has-first m (f (suc n)) ∙ ap (λ (x : ℕ). f (suc x)) (sym q)))
     (λ q. let z : t - n ≡ suc (t - suc n) = omega arith in rw (z, le-ltb t (suc n) (omega arith)) (has-next m (f (suc n)) (t - suc n) (below j m l (omega arith))))))
 
-pub has-wanted : (f : ℕ → Bool) (n t : ℕ) → n ≤ 31 → hasMark (wanted f n) t ≡ (named n t && f t)
+has-wanted : (f : ℕ → Bool) (n t : ℕ) → n ≤ 31 → hasMark (wanted f n) t ≡ (named n t && f t)
 has-wanted f n zero h = has-first (marked f noMarks (downFrom n)) false
 has-wanted f n (suc t) h =
     has-next (marked f noMarks (downFrom n)) false t (marked-low f n 0 noMarks (omega arith) (omega arith))
@@ -70,7 +96,12 @@ has-wanted f n (suc t) h =
     (λ e. let k = ltb-true t n e in rw (e, lt-ltb 0 (suc t) (omega arith)))
     (λ e. let k = ltb-false t n e in rw (e, has-none (t - n), lt-ltb 0 (suc t) (omega arith)))
 
--- ── the walk ──
+-- ── who is met ──
+
+-- each in the list is still to be met as the walk comes to it, and at the end none is
+abbrev emptied : Marks → List ℕ → Bool
+emptied m [] = isNone m
+emptied m (x ∷ xs) = hasMark m x && emptied (withoutMark m x) xs
 
 -- only tasks 1..n are to be met
 abbrev Within : ℕ → Marks → Type 0
@@ -111,7 +142,7 @@ unmet n m x l k e =
     every-miss (λ t. eqb (count t (x ∷ l)) (bit (hasMark m t))) n x (ltb-true 0 x (and-first (ltb 0 x) (leb x n) k)) (leb-true x n (and-second (ltb 0 x) (leb x n) k))
     (rw (e, eq-eqb x x refl) (ne-eqb (1 + count x l) 0 (λ z. omega arith)))
 
-pub emptied-is : (n : ℕ) (m : Marks) (l : List ℕ) → n ≤ 31 → Whole m → Within n m → emptied m l ≡ (every (named n) l && counts n m l)
+emptied-is : (n : ℕ) (m : Marks) (l : List ℕ) → n ≤ 31 → Whole m → Within n m → emptied m l ≡ (every (named n) l && counts n m l)
 emptied-is n m [] l w h = none-left n m w h
 emptied-is n m (x ∷ xs) l w h =
     let ih = emptied-is n (withoutMark m x) xs l in
@@ -128,8 +159,32 @@ emptied-is n m (x ∷ xs) l w h =
         let z : (if eqb t x then false else hasMark m t) ≡ true = sym (has-without m x t w low e) ∙ y in
         by-bool (eqb t x) (λ q. clash y (has-without m x t w low e ∙ rw q)) (λ q. h t (rw q at z))
 
--- what the code finds of a line, begun with those that pass the test
-pub line-is : (n : ℕ) (f : ℕ → Bool) (a : List ℕ) → n ≤ 31 → (tidy a && emptied (wanted f n) (line a)) ≡ lineHas n f a
+-- ── the walk ──
+
+-- a walk looks at three things at once
+walked-is : (k : ℕ → ℕ) (m : Marks) (a : ℕ) (l : List ℕ) → walked k m a l ≡ ((tidy l && emptied m (line l)) && ascending k a (line l))
+walked-is k m a [] = sym (and-last (isNone m) true refl)
+walked-is k m a (zero ∷ xs) = turned (isNone m) (blanks xs)
+  where
+    turned : (x y : Bool) → (x && y) ≡ ((y && x) && true)
+    turned true true = refl
+    turned true false = refl
+    turned false true = refl
+    turned false false = refl
+walked-is k m a (suc n ∷ xs) =
+    together (hasMark m (suc n)) (leb a (k (suc n))) (tidy xs) _ _ (walked-is k (withoutMark m (suc n)) (k (suc n)) xs)
+  where
+    together : (h o t e s : Bool) {w : Bool} → w ≡ ((t && e) && s) → ((h && o) && w) ≡ ((t && (h && e)) && (o && s))
+    together true true t e s q = q
+    together true false t e s q = sym (and-none (t && e))
+    together false o t e s q = ap (λ (b : Bool). b && (o && s)) (sym (and-none t))
+
+in-any-order : (l : List ℕ) → ascending anyOrder 0 l ≡ true
+in-any-order [] = refl
+in-any-order (x ∷ xs) = in-any-order xs
+
+-- a tidy array where each is met has each of 1..n once that passes the test, and nothing else
+line-is : (n : ℕ) (f : ℕ → Bool) (a : List ℕ) → n ≤ 31 → (tidy a && emptied (wanted f n) (line a)) ≡ lineHas n f a
 unfolding lineHas
 line-is n f a l =
     ap (λ (b : Bool). tidy a && b)
@@ -141,8 +196,11 @@ line-is n f a l =
     passing : (t : ℕ) → 0 < t → t ≤ n → hasMark (wanted f n) t ≡ f t
     passing t p q = has-wanted f n t l ∙ ap (λ (b : Bool). b && f t) (named-is n t p q)
 
--- what the code answers for the line l
-pub stands-is : (s : Supervisor) (l : Line) (m : Marks) (a : List ℕ) (r : Bool) → s .created ≤ 31 → m ≡ marked (λ u. belongs l (taskOf (view s) u)) noMarks (downFrom (s .created))
-    → a ≡ arrayOf s l → r ≡ (tidy a && emptied (nextMark m false) (line a)) → r ≡ standsIn s l
-stands-is s l m a r h em ea er =
-    er ∙ (λ i. tidy (ea i) && emptied (nextMark (em i) false) (line (ea i))) ∙ line-is (s .created) (λ u. belongs l (taskOf (view s) u)) (arrayOf s l) h
+-- what the walk of line l tells: the line holds its tasks, and their keys are in order
+pub holds-is : (s : Supervisor) (l : Line) (k : ℕ → ℕ) → s .created ≤ 31 → holdsIn k (markedIn s l) (arrayOf s l) ≡ (standsIn s l && ascending k 0 (line (arrayOf s l)))
+holds-is s l k h =
+    walked-is k (nextMark (markedIn s l) false) 0 (arrayOf s l)
+    ∙ ap (λ (b : Bool). b && ascending k 0 (line (arrayOf s l))) (line-is (s .created) (λ t. belongs l (taskOf (view s) t)) (arrayOf s l) h)
+
+pub stands-is : (s : Supervisor) (l : Line) → s .created ≤ 31 → holdsIn anyOrder (markedIn s l) (arrayOf s l) ≡ standsIn s l
+stands-is s l h = holds-is s l anyOrder h ∙ and-last (standsIn s l) _ (in-any-order (line (arrayOf s l)))

@@ -17,7 +17,11 @@ use Rattle.rules.specs.declared.Supervisor.{Supervisor}
 use Rattle.rules.specs.declared.Task.{Task}
 use Rattle.rules.specs.declared.Timer.the-variants.{Due}
 use Rattle.table.proofs.LeafLaws.{task-in, task-past}
-use Rattle.soundness.specs.Check.{named, goodIn}
+use Rattle.soundness.specs.Check.{goodIn}
+
+-- x is one of 1..most
+abbrev pub named : ℕ → ℕ → Bool
+named most x = ltb 0 x && leb x most
 
 pub and-last : (a b : Bool) → b ≡ true → (a && b) ≡ a
 and-last true b e = e

@@ -1,19 +1,21 @@
--- Turns of the loops: over the table, down from a number, over the delay queue, and over a line.
+-- Turns of the loops: over the table, down from a number, and over a line.
 -- Assumes nothing.
 use Prim.Native.Nat.{ℕ, zero, suc, _+_, _-_, _≤_, _<_}
 use mathlib.Core.Path.{_≡_, refl, sym, ap, _∙_}
-use mathlib.Core.Bool.{Bool, true, false, not, _&&_, _||_}
+use mathlib.Core.Bool.{Bool, true, false, _&&_}
 use mathlib.Core.List.{List, [], _∷_}
 use native.Mathlib.Omega.{arith}
 use native.Mathlib.Numerals.{add-one, unary-clauses}
-use lib.Dec.{eqb}
+use lib.Dec.{eqb, leb}
+use lib.Bits.{bitOr, or-zero-l, or-add-and, and-le-r}
 use lib.ListN.{length, getD, drop, drop-of-length-le}
 use lib.Seq.{drop-cons}
-use borrow.Author.Tests.{le-leb, lt-leb, ne-eqb}
-use Rattle.lists.specs.Line.{tidy}
+use borrow.Author.Tests.{ne-eqb}
+use Rattle.lists.specs.Line.{blanks}
 use Rattle.lists.specs.Lists.{every, downFrom}
-use Rattle.soundness.specs.Marks.{Marks, hasMark, nextMark, withoutMark}
-use Rattle.soundness.specs.Check.{ascending, marked, emptied}
+use Rattle.soundness.specs.Marks.{Marks, hasMark, nextMark, withoutMark, isNone}
+use Rattle.soundness.specs.Check.{marked, walked}
+use Rattle.soundness.proofs.TaskLaws.{and-last}
 
 module _ {A : Type 0} (f : A → Bool) (l : List A) (i : ℕ) (d : A) where
   pub every-pass : i < length l → f (getD l i d) ≡ true → every f (drop i l) ≡ every f (drop (i + 1) l)
@@ -38,13 +40,6 @@ down-end (suc t) h = absurd (omega arith)
 pub mark-on : (f : ℕ → Bool) (m n t : ℕ) (b : Bool) → 0 < t → b ≡ f t → n ≡ nextMark m b → marked f m (downFrom t) ≡ marked f n (downFrom (t - 1))
 mark-on f m n t b h eb en = ap (marked f m) (down-on t h) ∙ (λ i. marked f (sym (en ∙ ap (nextMark m) eb) i) (downFrom (t - 1)))
 
-module _ (k : ℕ → ℕ) (a x : ℕ) (xs ys : List ℕ) (q : xs ≡ x ∷ ys) where
-  pub order-pass : a ≤ k x → ascending k a xs ≡ ascending k (k x) ys
-  order-pass h = rw (q, le-leb a (k x) h)
-
-  pub order-fail : k x < a → ascending k a xs ≡ false
-  order-fail h = rw (q, lt-leb a (k x) h)
-
 -- ── tests that are taken together ──
 
 pub and-both : (a b c : Bool) → (a && (b && c)) ≡ ((a && b) && c)
@@ -57,34 +52,32 @@ and-turn a b c d e p q = ap (λ (x : Bool). a && x) (q ∙ ap (λ (x : Bool). x 
 
 -- ── a line ──
 
-module _ (m : Marks) (x : ℕ) (xs ys : List ℕ) (q : xs ≡ x ∷ ys) where
-  pub walk-on : hasMark m x ≡ true → emptied m xs ≡ emptied (withoutMark m x) ys
-  walk-on e = rw (q, e)
+-- a walk from place i on: at a blank, at a number, and behind the last place
+module _ (k : ℕ → ℕ) (m : Marks) (a : ℕ) (l : List ℕ) (i : ℕ) where
+  pub walk-blank : i < length l → getD l i 0 ≡ 0 → walked k m a (drop i l) ≡ (isNone m && blanks (drop i l))
+  walk-blank h e = rw (drop-cons l i 0 h, e)
 
-  pub walk-stop : hasMark m x ≡ false → emptied m xs ≡ false
-  walk-stop e = rw (q, e)
+  pub walk-on : i < length l → (getD l i 0 ≡ 0 → ⊥) → (b : Bool) → b ≡ (hasMark m (getD l i 0) && leb a (k (getD l i 0)))
+      → walked k m a (drop i l) ≡ (b && walked k (withoutMark m (getD l i 0)) (k (getD l i 0)) (drop (i + 1) l))
+  walk-on h n b e = rw (e, drop-cons l i 0 h, add-one i) (number (getD l i 0) n)
+    where
+      number : (x : ℕ) → (x ≡ 0 → ⊥) → walked k m a (x ∷ drop (suc i) l) ≡ ((hasMark m x && leb a (k x)) && walked k (withoutMark m x) (k x) (drop (suc i) l))
+      number zero n = absurd (n refl)
+      number (suc x) n = refl
 
--- y may stand behind x
-abbrev pub goesOn : ℕ → ℕ → Bool
-goesOn x y = not (eqb x 0) || eqb y 0
+  pub walk-end : length l ≤ i → walked k m a (drop i l) ≡ isNone m
+  walk-end h = rw (drop-of-length-le l h)
 
-tidy-two : (x y : ℕ) (ys : List ℕ) → tidy (x ∷ y ∷ ys) ≡ (goesOn x y && tidy (y ∷ ys))
-tidy-two zero zero ys = refl
-tidy-two zero (suc y) ys = rw (ne-eqb (suc y) 0 (λ z. omega arith))
-tidy-two (suc x) y ys = rw (ne-eqb (suc x) 0 (λ z. omega arith))
+-- two numbers together are 0 where both are
+pub or-none : (a b : ℕ) → eqb (bitOr a b) 0 ≡ (eqb a 0 && eqb b 0)
+or-none zero b = ap (λ (x : ℕ). eqb x 0) (or-zero-l b)
+or-none (suc a) b =
+    rw (ne-eqb (suc a) 0 (λ z. omega arith))
+    (ne-eqb (bitOr (suc a) b) 0 (λ z. omega (arith, z, or-add-and (suc a) b, and-le-r (suc a) b)))
 
-pub tidy-on : (l : List ℕ) (i : ℕ) → i + 1 < length l → tidy (drop i l) ≡ (goesOn (getD l i 0) (getD l (i + 1) 0) && tidy (drop (i + 1) l))
-tidy-on l i h =
-    let p : drop i l ≡ getD l i 0 ∷ drop (i + 1) l = rw (add-one i) (drop-cons l i 0 (omega arith)) in
-    let q : drop (i + 1) l ≡ getD l (i + 1) 0 ∷ drop (suc (i + 1)) l = drop-cons l (i + 1) 0 h in
-    rw (p, q) (tidy-two (getD l i 0) (getD l (i + 1) 0) (drop (suc (i + 1)) l))
+-- the places from j on, where those from i to j are `seen` together
+pub blank-on : (l : List ℕ) (j seen : ℕ) → j < length l → (eqb seen 0 && blanks (drop j l)) ≡ (eqb (bitOr seen (getD l j 0)) 0 && blanks (drop (j + 1) l))
+blank-on l j seen h = rw (add-one j, drop-cons l j 0 h, or-none seen (getD l j 0)) (and-both (eqb seen 0) (eqb (getD l j 0) 0) (blanks (drop (suc j) l)))
 
--- the last place alone
-pub tidy-end : (l : List ℕ) (i : ℕ) → i < length l → length l ≤ i + 1 → tidy (drop i l) ≡ true
-tidy-end l i h k =
-    let over : drop (suc i) l ≡ [] = drop-of-length-le l {i = suc i} (omega arith) in
-    rw (drop-cons l i 0 h, over) (one (getD l i 0))
-  where
-    one : (x : ℕ) → tidy (x ∷ []) ≡ true
-    one zero = refl
-    one (suc x) = refl
+pub blank-end : (l : List ℕ) (j seen : ℕ) → length l ≤ j → (eqb seen 0 && blanks (drop j l)) ≡ eqb seen 0
+blank-end l j seen h = rw (drop-of-length-le l h) (and-last (eqb seen 0) true refl)

@@ -16,8 +16,10 @@ use Rattle.rules.specs.State.{created, isTask, taskOf}
 use Rattle.rules.specs.Sound.{standsRight, sound}
 use Rattle.rules.specs.Whole.{view, unused, soundWhole}
 use Rattle.rules.specs.declared.Supervisor.{Supervisor}
-use Rattle.soundness.specs.Check.{Line, Ready, Callers, Held, Delays, named, goodIn, leftOf, ascending, belongs, arrayOf, standsIn, lineHas}
-use Rattle.soundness.proofs.TaskLaws.{and-none}
+use Rattle.soundness.specs.declared.Told.{Told}
+use Rattle.soundness.specs.Check.{Line, Ready, Callers, Held, Delays, goodIn, leftOf, belongs, toldOf, holdsIn, anyOrder}
+use Rattle.soundness.proofs.TaskLaws.{named, and-none}
+use Rattle.soundness.proofs.LineLaws.{arrayOf, lineHas, ascending, holds-is, stands-is}
 
 -- ── order: each at most the next is each at most all behind ──
 
@@ -81,11 +83,11 @@ stand-is s d =
 
 -- the same fourteen tests and the order, in the code's grouping and in the rules'
 regroup : (u t1 t2 t3 t4 g c1 c2 c3 c4 n1 n2 n3 n4 o : Bool)
-    → ((u && (g && (((((t1 && n1) && c1) && ((t2 && n2) && c2)) && ((t3 && n3) && c3)) && ((t4 && n4) && c4)))) && o)
+    → (((u && g) && ((((t1 && n1) && c1) && ((t2 && n2) && c2)) && ((t3 && n3) && c3))) && (((t4 && n4) && c4) && o))
     ≡ (((((u && t1) && t2) && t3) && t4) && ((((((g && c1) && c2) && c3) && c4) && (((n1 && n2) && n3) && n4)) && o))
 regroup u t1 t2 t3 t4 g c1 c2 c3 c4 n1 n2 n3 n4 o = go u t1 t2 t3 t4 g c1 c2 c3 c4 n1 n2 n3 n4
   where
-    go : (u t1 t2 t3 t4 g c1 c2 c3 c4 n1 n2 n3 n4 : Bool) → ((u && (g && (((((t1 && n1) && c1) && ((t2 && n2) && c2)) && ((t3 && n3) && c3)) && ((t4 && n4) && c4)))) && o) ≡ (((((u && t1) && t2) && t3) && t4) && ((((((g && c1) && c2) && c3) && c4) && (((n1 && n2) && n3) && n4)) && o))
+    go : (u t1 t2 t3 t4 g c1 c2 c3 c4 n1 n2 n3 n4 : Bool) → (((u && g) && ((((t1 && n1) && c1) && ((t2 && n2) && c2)) && ((t3 && n3) && c3))) && (((t4 && n4) && c4) && o)) ≡ (((((u && t1) && t2) && t3) && t4) && ((((((g && c1) && c2) && c3) && c4) && (((n1 && n2) && n3) && n4)) && o))
     go false t1 t2 t3 t4 g c1 c2 c3 c4 n1 n2 n3 n4 = refl
     go true false t2 t3 t4 g c1 c2 c3 c4 n1 n2 n3 n4 = simp and-none
     go true true false t3 t4 g c1 c2 c3 c4 n1 n2 n3 n4 = simp and-none
@@ -105,13 +107,12 @@ regroup u t1 t2 t3 t4 g c1 c2 c3 c4 n1 n2 n3 n4 o = go u t1 t2 t3 t4 g c1 c2 c3 
 pub unsound-many : (s : Supervisor) → 31 < s .created → false ≡ soundWhole s
 unsound-many s h = rw (lt-leb (s .created) 31 h)
 
-pub sound-is : (s : Supervisor) (u r o : Bool) → s .created ≤ 31 → length (s .tasks) ≡ 31
-    → u ≡ every unused (drop (s .created) (s .tasks))
-    → r ≡ (every (goodIn (view s)) (downFrom (s .created)) && (((standsIn s Ready && standsIn s Callers) && standsIn s Held) && standsIn s Delays))
-    → o ≡ ascending (leftOf (view s)) 0 (line (s .delays))
-    → ((u && r) && o) ≡ soundWhole s
+-- what the code finds, of the table and of each line
+pub sound-is : (s : Supervisor) (told : Told) (u l d : Bool) → s .created ≤ 31 → length (s .tasks) ≡ 31 → told ≡ toldOf s → u ≡ every unused (drop (s .created) (s .tasks))
+    → l ≡ ((holdsIn anyOrder (told .ready) (s .ready) && holdsIn anyOrder (told .callers) (s .callers)) && holdsIn anyOrder (told .held) (s .held))
+    → d ≡ holdsIn (leftOf (view s)) (told .delays) (s .delays) → (((u && told .good) && l) && d) ≡ soundWhole s
 unfolding sound lineHas
-sound-is s u r o h k eu er eo =
+sound-is s told u l d h k et eu el ed =
     let n : created (view s) ≡ s .created = length-take-le (s .created) (s .tasks) (omega arith) in
     let f : ℕ → Bool = named (s .created) in
     let a = line (s .ready) in let c = line (s .callers) in let d = line (s .held) in let w = line (s .delays) in
@@ -123,7 +124,7 @@ sound-is s u r o h k eu er eo =
     let order = sym (order-whole (leftOf (view s)) w) in
     let p = le-leb (s .created) 31 h in
     let q : leb (created (view s)) 31 ≡ true = le-leb (created (view s)) 31 (omega arith) in
-    rw (eu, er, eo, p, q, stand, all, order)
+    rw (eu, el, ed, et, stands-is s Ready h, stands-is s Callers h, stands-is s Held h, holds-is s Delays (leftOf (view s)) h, p, q, stand, all, order)
     (regroup (every unused (drop (s .created) (s .tasks))) (tidy (s .ready)) (tidy (s .callers)) (tidy (s .held)) (tidy (s .delays))
     (every (goodIn (view s)) t) (every (right s Ready) t) (every (right s Callers) t) (every (right s Held) t) (every (right s Delays) t)
     (every f a) (every f c) (every f d) (every f w) (ascending (leftOf (view s)) 0 w))

@@ -1,13 +1,14 @@
 // The soundness check: whether a state is sound, as the rules say it. The modules are this crate's own: what others see is
-// `is_sound`. A function that takes the state and looks up tasks in it copies it whole: so no function that is called for each
-// task takes it, and one pass over the created tasks finds out both whether they are good and what the lines are held to.
+// `is_sound`. One pass over the created tasks tells whether they are good and who belongs into which line; then one over each line.
+// A function that takes the state and looks up tasks in it copies it whole: so no function that is called for each task takes it, and
+// `is_sound` alone hands it on, so that no two copies are alive at a time.
 ghost use Prim.Native.Nat.{_≤_};
 ghost use lib.ListN.{drop};
 ghost use mathlib.Core.Bool.{_&&_};
 ghost use mathlib.Core.Path.{_≡_};
-ghost use Rattle.lists.specs.Lists.{every, downFrom};
-ghost use Rattle.rules.specs.Whole.{view, unused, soundWhole};
-ghost use Rattle.soundness.specs.Check.{Ready, Callers, Held, Delays, standsIn, goodIn};
+ghost use Rattle.lists.specs.Lists.{every};
+ghost use Rattle.rules.specs.Whole.{unused, soundWhole};
+ghost use Rattle.soundness.specs.Check.{anyOrder, holdsIn, toldOf};
 use rules::Supervisor;
 use table::place::has_time;
 use table::place::is_between;
@@ -18,7 +19,6 @@ use table::place::partner_of;
 use table::tasks::blank_task;
 
 mod marks;
-mod order;
 mod stand;
 mod task;
 
@@ -38,11 +38,20 @@ fn all_unused(s: Supervisor) -> bool
     true
 }
 
-// Each created task is good, beside the task that it has called; and each line holds each created task that belongs into it,
-// once, and nothing else. One pass over the table says who is good and who belongs where.
-fn all_stand(s: Supervisor) -> bool
+// What is told of the created tasks: whether each is good, beside the task that it has called, and for each line which of them belong
+// into it.
+struct Told {
+    good: bool,
+    ready: u32,
+    callers: u32,
+    held: u32,
+    delays: u32,
+}
+
+// One pass over the created tasks, from the last to the first.
+fn told_of(s: Supervisor) -> Told
     requires { ⌜ s .created ≤ 31 ⌝ }
-    ensures { λ r. ⌜ r ≡ (every (goodIn (view s)) (downFrom (s .created)) && (((standsIn s Ready && standsIn s Callers) && standsIn s Held) && standsIn s Delays)) ⌝ }
+    ensures { λ r. ⌜ r ≡ toldOf s ⌝ }
 {
     let mut good = true;
     let mut ready: u32 = 0;
@@ -68,11 +77,22 @@ fn all_stand(s: Supervisor) -> bool
         delays = marks::next(delays, has_time(w));
         t -= 1;
     }
-    good
-        & (stand::holds(&s.ready, ready)
-            & stand::holds(&s.callers, callers)
-            & stand::holds(&s.held, held)
-            & stand::holds(&s.delays, delays))
+    Told {
+        good: good,
+        ready: ready,
+        callers: callers,
+        held: held,
+        delays: delays,
+    }
+}
+
+// Whether three of the lines hold those who belong into them.
+fn lines_hold(s: Supervisor, told: Told) -> bool
+    ensures { λ r. ⌜ r ≡ ((holdsIn anyOrder (told .ready) (s .ready) && holdsIn anyOrder (told .callers) (s .callers)) && holdsIn anyOrder (told .held) (s .held)) ⌝ }
+{
+    stand::holds(&s.ready, told.ready)
+        & stand::holds(&s.callers, told.callers)
+        & stand::holds(&s.held, told.held)
 }
 
 // Whether the state is sound.
@@ -82,5 +102,6 @@ pub fn is_sound(s: Supervisor) -> bool
     if s.created > 31 {
         return false;
     }
-    all_unused(s) & all_stand(s) & order::in_order(s)
+    let told = told_of(s);
+    all_unused(s) & told.good & lines_hold(s, told) & stand::delays_hold(s, told.delays)
 }

@@ -1,44 +1,38 @@
-// Each task stands once in the line of its place, and nowhere else.
-ghost use lib.ListN.{length};
-ghost use mathlib.Core.Bool.{_&&_, _||_, not, false};
+// A line against the word of those who are to be met in it, in one pass: each task stands once in the line of its place, and nowhere else.
+ghost use Prim.Native.Nat.{_≤_};
+ghost use lib.ListN.{length, drop};
 ghost use mathlib.Core.Path.{_≡_};
-ghost use lib.Dec.{eqb};
-ghost use Rattle.lists.specs.Line.{line, tidy};
-ghost use Rattle.soundness.specs.Check.{emptied};
-ghost use Rattle.soundness.specs.Marks.{nextMark};
+ghost use Rattle.lists.specs.Line.{blanks};
+ghost use Rattle.rules.specs.Whole.{view};
+ghost use Rattle.soundness.specs.Check.{leftOf, anyOrder, holdsIn};
 use crate::marks;
+use rules::Supervisor;
+use table::place::ticks_left;
 
-// Whether y may stand behind x: nothing stands behind a blank.
-fn goes_on(x: u8, y: u8) -> bool
-    ensures { λ r. ⌜ r ≡ (not (eqb x 0) || eqb y 0) ⌝ }
-{
-    (x != 0) | (y == 0)
-}
-
-// Whether behind the first blank there are blanks alone.
-fn is_tidy(a: &[u8; 31]) -> bool
+// Whether the places from i on are blank.
+fn is_blank_from(a: &[u8; 31], i: usize) -> bool
     requires { ⌜ length (now a) ≡ 31 ⌝ }
-    ensures { λ r. ⌜ r ≡ tidy (now (a .entry)) ⌝ }
+    ensures { λ r. ⌜ r ≡ blanks (drop i (now (a .entry))) ⌝ }
 {
-    let mut fine = true;
-    let mut i: usize = 0;
-    while i < 30 {
-        fine = fine & goes_on(a[i], a[i + 1]);
-        i += 1;
+    let mut seen: u8 = 0;
+    let mut j = i;
+    while j < 31 {
+        seen = seen | a[j];
+        j += 1;
     }
-    fine
+    seen == 0
 }
 
-// Walks the line: each in it is still to be met, and at its end none is.
-fn is_met(a: &[u8; 31], word: u32) -> bool
+// Whether the line holds each once that is to be met, and nothing else. In the word of a pass over the table task 1 is bit 0.
+pub fn holds(a: &[u8; 31], word: u32) -> bool
     requires { ⌜ length (now a) ≡ 31 ⌝ }
-    ensures { λ r. ⌜ r ≡ emptied word (line (now (a .entry))) ⌝ }
+    ensures { λ r. ⌜ r ≡ holdsIn anyOrder word (now (a .entry)) ⌝ }
 {
-    let mut rest = word;
+    let mut rest = marks::next(word, false);
     for i in 0..31 {
         let t = a[i];
         if t == 0 {
-            return marks::is_none(rest);
+            return marks::is_none(rest) & is_blank_from(a, i);
         }
         if marks::has(rest, t) {
             rest = marks::without(rest, t);
@@ -49,10 +43,31 @@ fn is_met(a: &[u8; 31], word: u32) -> bool
     marks::is_none(rest)
 }
 
-// Whether the line holds each once that is to be met, and nothing else. In the word of a pass over the table task 1 is bit 0.
-pub fn holds(a: &[u8; 31], word: u32) -> bool
-    requires { ⌜ length (now a) ≡ 31 ⌝ }
-    ensures { λ r. ⌜ r ≡ (tidy (now (a .entry)) && emptied (nextMark word false) (line (now (a .entry)))) ⌝ }
+// The same of the delay queue, where each has at least as many ticks left as the one before.
+pub fn delays_hold(s: Supervisor, word: u32) -> bool
+    requires { ⌜ s .created ≤ 31 ⌝ }
+    ensures { λ r. ⌜ r ≡ holdsIn (leftOf (view s)) word (s .delays) ⌝ }
 {
-    is_tidy(a) & is_met(a, marks::next(word, false))
+    let mut rest = marks::next(word, false);
+    let mut last: u32 = 0;
+    for i in 0..31 {
+        let t = s.delays[i];
+        if t == 0 {
+            return marks::is_none(rest) & is_blank_from(&s.delays, i);
+        }
+        let mut left: u32 = 0;
+        if t <= s.created {
+            let at = (t - 1) as usize;
+            let x = s.tasks[at];
+            let w = x.timer;
+            left = ticks_left(s.clock, w);
+        }
+        if marks::has(rest, t) & (last <= left) {
+            rest = marks::without(rest, t);
+            last = left;
+        } else {
+            return false;
+        }
+    }
+    marks::is_none(rest)
 }

@@ -17,9 +17,8 @@ use Rattle.soundness.specs.Check.{Line, Ready, Callers, Held, Delays, be
 use Rattle.soundness.specs.Marks.{noMarks, nextMark}
 use Rattle.soundness.proofs.TaskLaws.{and-last, named-range, called-one, called-none, good-is}
 use Rattle.soundness.proofs.Turns.{and-turn, down-on, down-end, mark-on}
-use Rattle.soundness.proofs.LineLaws.{stands-is}
-use Rattle.soundness.proofs.all_stand.Statement.{statement}
-use Rattle.soundness.proofs.all_stand.Tie as tie
+use Rattle.soundness.proofs.told_of.Statement.{statement}
+use Rattle.soundness.proofs.told_of.Tie as tie
 
 -- the word m goes on with who of the tasks t, t - 1, .., 1 belongs into line l
 abbrev due : Supervisor → Line → ℕ → ℕ → ℕ
@@ -102,27 +101,19 @@ loop-again c =
 
 returns : tie.Need-returns Inv-loop μ-loop
 returns c =
-    let h3 = c .before .before .before in
-    let h2 = h3 .before .before .before in
-    let h1 = h2 .before .before .before in
-    let l = h1 .before .before .before .before in
+    let l = c .before in
     let s = l .before .args .t1 in
     let v = l .loop .inv in
     let end : downFrom (l .loop .t) ≡ [] = down-end (l .loop .t) (omega arith) in
     let g = sym (v .3 ∙ and-last (l .loop .good) _ (ap (every (goodIn (view s))) end)) in
     let word : (d : Line) (m : ℕ) → due s d noMarks (s .created) ≡ due s d m (l .loop .t) → m ≡ due s d noMarks (s .created)
     = λ d m e. sym (e ∙ ap (marked (λ u. belongs d (taskOf (view s) u)) m) end) in
-    let r = stands-is s Ready _ _ _ (v .0) (word Ready _ (v .4)) refl (h1 .holds .ensures) in
-    let q = stands-is s Callers _ _ _ (v .0) (word Callers _ (v .5)) refl (h2 .holds2 .ensures) in
-    let h = stands-is s Held _ _ _ (v .0) (word Held _ (v .6)) refl (h3 .holds3 .ensures) in
-    let d = stands-is s Delays _ _ _ (v .0) (word Delays _ (v .7)) refl (c .holds4 .ensures) in
-    λ i. g i && (((r i && q i) && h i) && d i)
+    λ i. record { good = g i; ready = word Ready _ (v .4) i; callers = word Callers _ (v .5) i; held = word Held _ (v .6) i; delays = word Delays _ (v .7) i }
 
-pub all-stand-spec : {M : Type 1} → statement M
-all-stand-spec =
+pub told-of-spec : {M : Type 1} → statement M
+told-of-spec =
     tie.close
     (tie.spec Inv-loop μ-loop loop-holds (λ c. omega arith) (λ c. search needs) (λ c. omega arith) (λ c. omega arith)
     (λ c κs. search needs) (λ c κs. search needs) (λ c κs. search needs) (λ c. in-range c .0) (λ c. search needs) (λ c. omega (arith, in-range c)) (λ c. omega (arith, in-range c)) (λ c κs. search needs)
     (λ c κs. search needs) (λ c κs. search needs) (λ c κs. search needs) (λ c κs. search needs) (λ c κs. search needs) (λ c κs. search needs)
-    (λ c κs. search needs) (λ c κs. search needs) (λ c. omega arith) (λ c. omega arith) loop-again
-    (λ c κs. search needs) (λ c κs. search needs) (λ c κs. search needs) (λ c κs. search needs) returns)
+    (λ c κs. search needs) (λ c κs. search needs) (λ c. omega arith) (λ c. omega arith) loop-again returns)
