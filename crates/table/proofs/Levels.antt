@@ -2,15 +2,14 @@
 -- Assumes nothing.
 use Prim.Native.Nat.{ℕ, zero, suc, _-_, _≤_, _<_}
 use mathlib.Core.Path.{_≡_, refl, sym, ap, _∙_}
-use mathlib.Core.Bool.{Bool, true, false, _&&_, true≢false}
+use mathlib.Core.Bool.{Bool, true, false}
 use mathlib.Core.List.{List, [], _∷_}
 use native.Mathlib.Omega.{arith}
 use lib.Dec.{ltb, leb, eqb}
 use lib.ListN.{length, getD, take}
-use borrow.Author.Tests.{ne-eqb, eqb-true, eqb-false, le-leb, lt-leb, lt-ltb, le-ltb, leb-true, leb-false, ltb-true}
+use borrow.Author.Tests.{ne-eqb, eqb-true, eqb-false, le-leb, lt-leb, le-ltb, leb-true, leb-false, ltb-true, ltb-false}
 use Rattle.lists.specs.Lists.{if_then_else_, filter}
 use Rattle.lists.proofs.ListLaws.{by-bool}
-use Rattle.lists.proofs.Tests.{and-first, and-second}
 use Rattle.rules.specs.State.{State, blank, nth, level, headUpTo, priorityOf, running}
 use Rattle.rules.specs.Whole.{view}
 use Rattle.rules.specs.declared.Supervisor.{Supervisor}
@@ -62,17 +61,14 @@ module _ (f : ℕ → ℕ) where
 
   one-pass : (l : List ℕ) (b : Best) → bestOf f b l .task ≡ headIn l (b .priority) 15 (b .task)
   one-pass [] b = sym (none (b .priority) 15 (b .task))
-  one-pass (x ∷ l) b = go (ltb (b .priority) (f x) && leb (f x) 15) refl (one-pass l)
-    where
-      go : (t : Bool) → (ltb (b .priority) (f x) && leb (f x) 15) ≡ t
-          → ((c : Best) → bestOf f c l .task ≡ headIn l (c .priority) 15 (c .task))
-          → bestOf f (if t then record { task = x; priority = f x } else b) l .task ≡ headIn (x ∷ l) (b .priority) 15 (b .task)
-      go true e ih =
-          ih (record { task = x; priority = f x })
-          ∙ sym (hit x l (b .priority) 15 (b .task) (ltb-true (b .priority) (f x) (and-first (ltb (b .priority) (f x)) (leb (f x) 15) e)) (leb-true (f x) 15 (and-second (ltb (b .priority) (f x)) (leb (f x) 15) e)))
-      go false e ih =
-          ih b ∙ sym (skip x l (b .priority) 15 (b .task)
-          (λ q a c z. true≢false (rw (lt-ltb (b .priority) (f x) (omega arith), le-leb (f x) 15 (omega arith)) at e)))
+  one-pass (x ∷ l) b =
+      let on : (c : Best) → betterOf b x (levelOf (f x)) ≡ c → bestOf f b (x ∷ l) .task ≡ headIn l (c .priority) 15 (c .task)
+      = λ c e. ap (λ (a : Best). bestOf f a l .task) e ∙ one-pass l c in
+      by-bool (leb (f x) 15)
+      (λ e. by-bool (ltb (b .priority) (f x))
+      (λ y. on (record { task = x; priority = f x }) (rw (e, y)) ∙ sym (hit x l (b .priority) 15 (b .task) (ltb-true (b .priority) (f x) y) (leb-true (f x) 15 e)))
+      (λ y. on b (rw (e, y)) ∙ sym (skip x l (b .priority) 15 (b .task) (λ q a c z. omega (arith, ltb-false (b .priority) (f x) y)))))
+      (λ e. on b (rw (e, le-ltb (b .priority) 0 (omega arith))) ∙ sym (skip x l (b .priority) 15 (b .task) (λ q a c z. omega (arith, leb-false (f x) 15 e))))
 
 from-zero : (s : State) (p : ℕ) → headIn (priorityOf s) (s .ready) 0 p 0 ≡ headUpTo s p
 from-zero s zero = refl
@@ -91,14 +87,6 @@ one-pass-running s = sym (one-pass (priorityOf s) (s .ready) (record { task = 0;
 pub last-low : (n : ℕ) → (lastOf n ≤ n) × (lastOf n ≤ 31)
 last-low n = by-bool (leb n 31) (λ e. rw e (omega arith, leb-true n 31 e)) (λ e. rw e (omega (arith, leb-false n 31 e), omega arith))
 
--- a priority that is no level makes nobody better
-better-level : (b : Best) (t p : ℕ) → betterOf b t (levelOf p) ≡ betterOf b t p
-better-level b t p = by-bool (leb p 15) (λ e. rw (e, e)) (λ e. rw (e, le-ltb (b .priority) 0 (omega arith)) (go (ltb (b .priority) p)))
-  where
-    go : (y : Bool) → b ≡ (if y && false then record { task = t; priority = p } else b)
-    go true = refl
-    go false = refl
-
 module _ (s : Supervisor) (b : Best) (t n : ℕ) (xs ys : List ℕ) (q : xs ≡ t ∷ ys) where
   -- a task of the table
   pub best-turn : (c : Best) (p : ℕ) → (t ≡ 0 → ⊥) → n ≡ lastOf (s .created) → t ≤ n → p ≡ levelOf (getD (s .tasks) (t - 1) blank .priority) → c ≡ betterOf b t p
@@ -106,7 +94,7 @@ module _ (s : Supervisor) (b : Best) (t n : ℕ) (xs ys : List ℕ) (q : xs ≡ 
   best-turn c p z en h ep ec =
       let k = last-low (s .created) in
       let x = task-in (s .tasks) (s .created) t z (omega arith) in
-      let e : betterOf b t (priorityOf (view s) t) ≡ c = sym (ec ∙ ap (betterOf b t) ep ∙ better-level b t _ ∙ ap (λ (y : Task). betterOf b t (y .priority)) x) in
+      let e : betterOf b t (levelOf (priorityOf (view s) t)) ≡ c = sym (ec ∙ ap (betterOf b t) (ep ∙ ap (λ (y : Task). levelOf (y .priority)) x)) in
       rw q (ap (λ (a : Best). bestOf (priorityOf (view s)) a ys .task) e)
 
   -- a number that no task has
@@ -116,5 +104,5 @@ module _ (s : Supervisor) (b : Best) (t n : ℕ) (xs ys : List ℕ) (q : xs ≡ 
       by-bool (leb (s .created) 31)
       (λ e. task-past (s .tasks) (s .created) t (omega (arith, rw e at en)))
       (λ e. task-out (s .tasks) (s .created) t (omega (arith, rw e at en, l))) in
-      let e : betterOf b t (priorityOf (view s) t) ≡ b = ap (λ (y : Task). betterOf b t (y .priority)) (sym x) ∙ rw (le-ltb (b .priority) 0 (omega arith)) in
+      let e : betterOf b t (levelOf (priorityOf (view s) t)) ≡ b = ap (λ (y : Task). betterOf b t (levelOf (y .priority))) (sym x) ∙ rw (le-ltb (b .priority) 0 (omega arith)) in
       rw q (ap (λ (a : Best). bestOf (priorityOf (view s)) a ys .task) e)

@@ -1,7 +1,6 @@
 -- The running task, found in one pass over the ready line.
 -- Assumes nothing.
 use Prim.Native.Nat.{ℕ}
-use mathlib.Core.Bool.{_&&_}
 use mathlib.Core.List.{List, [], _∷_}
 use lib.Dec.{ltb, leb}
 use Rattle.lists.specs.Lists.{if_then_else_}
@@ -15,10 +14,11 @@ lastOf n = if leb n 31 then n else 31
 abbrev pub levelOf : ℕ → ℕ
 levelOf p = if leb p 15 then p else 0
 
--- one pass for the running task: the first of the highest priority seen
+-- the better of one and the next, whose level is p: the first of the highest level
 abbrev pub betterOf : Best → ℕ → ℕ → Best
-betterOf b t p = if ltb (b .priority) p && leb p 15 then record { task = t; priority = p } else b
+betterOf b t p = if ltb (b .priority) p then record { task = t; priority = p } else b
 
+-- one pass for the running task, where f gives priorities
 abbrev pub bestOf : (ℕ → ℕ) → Best → List ℕ → Best
 bestOf f b [] = b
-bestOf f b (t ∷ l) = bestOf f (betterOf b t (f t)) l
+bestOf f b (t ∷ l) = bestOf f (betterOf b t (levelOf (f t))) l

@@ -25,11 +25,11 @@ fn level(p: u8) -> u8
     if p <= 15 { p } else { 0 }
 }
 
-// The better of one and the next: the first of the highest priority.
+// The better of one and the next, whose level is p: the first of the highest level.
 fn better(b: Best, t: u8, p: u8) -> Best
     ensures { λ r. ⌜ r ≡ betterOf b t p ⌝ }
 {
-    if (b.priority < p) & (p <= 15) {
+    if b.priority < p {
         Best {
             task: t,
             priority: p,
