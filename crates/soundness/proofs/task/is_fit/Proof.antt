@@ -1,5 +1,6 @@
 use borrow.Author.Needs.{needs}
 use Prim.Native.Nat.{_^_}
+use mathlib.Core.Bool.{_&&_, not}
 use Rattle.soundness.proofs.TaskLaws.{not-leb}
 use Rattle.soundness.proofs.task.is_fit.Statement.{statement}
 use Rattle.soundness.proofs.task.is_fit.Tie as tie
@@ -15,10 +16,10 @@ returns-3 : tie.Need-returns-3
 returns-3 c = rw (c .enum-told3 .given .1) (c .before .before .has-time .ensures)
 
 returns-4 : tie.Need-returns-4
-returns-4 c = rw (c .before .before .before .p .given .1) (cc)
+returns-4 c = rw (c .before .before .before .p .given .1) (λ i. c .before .calls-entry .ensures i && not (c .accepts-at .ensures i))
 
 returns-5 : tie.Need-returns-5
-returns-5 c = rw (c .before .before .p2 .given .1) (cc)
+returns-5 c = rw (c .before .before .p2 .given .1) (λ i. c .calls-entry2 .ensures i && not (c .before .before .before .before .has-time .ensures i))
 
 returns-6 : tie.Need-returns-6
 returns-6 c = rw (c .before .before .before .p3 .given .1, c .before .is-too-wide .ensures, not-leb (2 ^ (c .before .before .before .before .before .before .args .me .entries)) (c .before .before .before .p3 .given .0 .0 .opens), c .before .before .before .before .before .has-time .ensures)
