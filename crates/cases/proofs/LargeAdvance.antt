@@ -1,15 +1,13 @@
 -- ADVANCE by the largest n: worked out for all waits at once, and carried over by `at-once`.
 -- Assumes nothing.
-use Prim.Native.Nat.{ℕ}
-use mathlib.Core.Path.{_≡_, refl, _∙_}
-use mathlib.Core.List.{List, [], _∷_}
+use mathlib.Core.Path.{_≡_, refl}
+use mathlib.Core.List.{[], _∷_}
 use native.Mathlib.Omega.{arith}
 use Rattle.lists.specs.Line.{pad, padTo}
-use Rattle.rules.specs.State.{State, empty, running}
+use Rattle.rules.specs.State.{empty, running}
 use Rattle.rules.specs.Sound.{sound}
-use Rattle.rules.specs.Step.{item, openEntry, queuedOn, advanced, advanceEnds, readings}
+use Rattle.rules.specs.Step.{item, openEntry, queuedOn, advanceEnds, readings}
 use Rattle.rules.specs.Whole.{view, pack, stepWhole}
-use Rattle.rules.specs.declared.Item.{Item}
 use Rattle.rules.proofs.Advances.{advances}
 use Rattle.cases.specs.Cases.{lastOf, sleepers}
 

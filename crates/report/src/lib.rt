@@ -1,6 +1,5 @@
 // The lines that stepper prints: the header, and a line for each call. Each goes into lent room from a place on, and the
 // answer is the place behind it; room that is too short cuts it off.
-ghost use mathlib.Core.List.{[], _∷_};
 ghost use Rattle.text.specs.Text.{Put};
 ghost use Rattle.report.specs.Lines.{header, spaced, barred, waits, lineText};
 use rules::Answer;

@@ -3,14 +3,13 @@
 use Prim.Native.Nat.{ℕ, _-_, _≤_, _<_}
 use mathlib.Core.Path.{_≡_, refl, sym, ap, _∙_}
 use mathlib.Core.Bool.{Bool, true, false, not, _&&_}
-use mathlib.Core.List.{List}
 use native.Mathlib.Omega.{arith}
 use lib.Dec.{ltb, leb}
-use lib.ListN.{getD, take}
+use lib.ListN.{getD}
 use borrow.Author.Tests.{lt-ltb, le-ltb, le-leb, leb-true, leb-false, ltb-true, ltb-false}
 use Rattle.lists.proofs.ListLaws.{by-bool, clash}
 use Rattle.lists.proofs.Tests.{and-first, and-second}
-use Rattle.rules.specs.State.{blank, nth, taskOf, partnerOf, left}
+use Rattle.rules.specs.State.{blank, taskOf, partnerOf, left}
 use Rattle.rules.specs.Sound.{timeInRange, goodTask}
 use Rattle.rules.specs.Whole.{view}
 use Rattle.rules.specs.declared.Supervisor.{Supervisor}

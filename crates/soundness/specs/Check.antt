@@ -1,11 +1,11 @@
 -- What the parts of the soundness check answer.
 -- Assumes nothing.
 use Prim.Native.Nat.{ℕ, zero, suc}
-use mathlib.Core.Bool.{Bool, true, false, _&&_}
+use mathlib.Core.Bool.{Bool, false, _&&_}
 use mathlib.Core.List.{List, [], _∷_}
-use lib.Dec.{eqb, ltb, leb}
-use Rattle.lists.specs.Line.{line, blanks, tidy}
-use Rattle.lists.specs.Lists.{if_then_else_, bit, count, every, downFrom}
+use lib.Dec.{leb}
+use Rattle.lists.specs.Line.{blanks}
+use Rattle.lists.specs.Lists.{every, downFrom}
 use Rattle.rules.specs.Sound.{goodTask}
 use Rattle.rules.specs.State.{State, taskOf, placeOf, timerOf, partnerOf, isReady, isQueued, isHeld, hasTime, ticksLeft}
 use Rattle.rules.specs.Whole.{view}

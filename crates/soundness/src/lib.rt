@@ -78,11 +78,11 @@ fn told_of(s: Supervisor) -> Told
         t -= 1;
     }
     Told {
-        good: good,
-        ready: ready,
-        callers: callers,
-        held: held,
-        delays: delays,
+        good,
+        ready,
+        callers,
+        held,
+        delays,
     }
 }
 

@@ -1,26 +1,25 @@
 -- CALL.
 -- Assumes nothing.
-use Prim.Native.Nat.{ℕ, zero, suc, _≤_, _<_}
+use Prim.Native.Nat.{ℕ, zero, suc, _≤_}
 use mathlib.Core.Path.{_≡_, refl, ap, _∙_}
 use mathlib.Core.Bool.{Bool, true, false, not, _&&_}
 use mathlib.Core.List.{[], _∷_}
 use native.Mathlib.Omega.{arith}
 use lib.Dec.{ltb, leb}
 use lib.ListN.{length}
-use borrow.Author.Tests.{not-true, not-false, le-leb, lt-leb}
-use Rattle.rules.specs.State.{State, created, taskOf, move, wake, running, after, isTask, placeOf, isCompleted, accepts, queue, waiting, meet}
+use borrow.Author.Tests.{not-true, not-false}
+use Rattle.rules.specs.State.{State, created, taskOf, wake, running, after, isTask, placeOf, isCompleted, accepts, meet}
 use Rattle.rules.specs.Step.{refused, took, NO-TASK, NO-TARGET, NO-ENTRY, item, WAITS, CALL-EXPIRED, TASKING-ERROR, ACCEPTED, ticks, enqueue, timedCall, callBusy, call, takeCall}
 use Rattle.rules.specs.Sound.{sound}
 use Rattle.rules.specs.Whole.{view, pack}
 use Rattle.rules.specs.declared.Supervisor.{Supervisor}
-use Rattle.rules.specs.declared.Place.the-variants.{Ready, Queued}
+use Rattle.rules.specs.declared.Place.the-variants.{Ready}
 use Rattle.rules.specs.declared.Timer.the-variants.{Off, Due}
 use Rattle.calls.specs.declared.Call.the-variants.{Call}
 use lib.IntN.{ℤ}
 use Rattle.calls.specs.declared.CallMode.{CallMode}
 use Rattle.calls.specs.declared.CallMode.the-variants.{Simple, Timed, Conditional}
 use Rattle.rules.specs.declared.Timer.{Timer}
-use Rattle.lists.proofs.ListLaws.{by-test}
 use Rattle.rules.proofs.StepSound.{between}
 use Rattle.rules.proofs.MoveLaws.{wake-sound, length-move}
 use Rattle.table.specs.Moved.{movedOf, metOf}

@@ -1,14 +1,14 @@
 -- All of a list become ready: one after the other as the rules say it, at once as the code does it.
 -- Assumes nothing.
-use Prim.Native.Nat.{ℕ, zero, suc, _-_, _≤_, _<_}
-use mathlib.Core.Path.{_≡_, refl, sym, ap, subst, _∙_}
+use Prim.Native.Nat.{ℕ, _-_, _≤_, _<_}
+use mathlib.Core.Path.{_≡_, refl, sym, ap, _∙_}
 use mathlib.Core.Bool.{Bool}
 use mathlib.Core.List.{List, [], _∷_, _++_, map, append-nil}
 use native.Mathlib.Omega.{arith}
 use lib.ListN.{length, replicate, take}
 use lib.Seq.{take-at}
 use borrow.Author.Tests.{eq-eqb}
-use Rattle.lists.specs.Line.{line, pad}
+use Rattle.lists.specs.Line.{pad}
 use Rattle.lists.specs.Lists.{filter, count}
 use Rattle.lists.specs.Marks.{noMarks, marked, withMark}
 use Rattle.lists.proofs.MarkLaws.{filter-same, filter-all, out, unmarked, out-cons, out-rejoin}

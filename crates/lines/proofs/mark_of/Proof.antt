@@ -1,6 +1,5 @@
 use native.Mathlib.Omega.{arith}
 use borrow.Author.Needs.{needs}
-use Prim.Native.Nat.{_≤_}
 use mathlib.Core.Path.{_≡_, sym}
 use lib.ListN.{length, List·getD-eq-default}
 use Rattle.lines.proofs.mark_of.Statement.{statement}

@@ -1,26 +1,21 @@
 use native.Mathlib.Omega.{arith}
 use borrow.Author.Needs.{needs}
 use borrow.Author.Tests.{eqb-true}
-use Prim.Native.Nat.{ℕ}
-use mathlib.Core.Bool.{true}
-use mathlib.Core.List.{List, []}
+use mathlib.Core.List.{[]}
 use mathlib.Core.Path.{_≡_, refl, sym, _∙_, ap, subst}
 use lib.ListN.{length}
 use lib.Dec.{eqb}
 use Rattle.calls.specs.declared.Call.the-variants.{Finish}
 use Rattle.lists.specs.Line.{line}
 use Rattle.rules.specs.State.{wakeAll, move, heldBy}
-use Rattle.rules.specs.Step.{queuedOn, failed, takeCall, item, DONE, roomAfter}
+use Rattle.rules.specs.Step.{queuedOn, failed, takeCall, item, DONE}
 use Rattle.rules.specs.Step as rules
 use Rattle.rules.specs.Whole.{view}
 use Rattle.rules.specs.declared.Place.the-variants.{Completed}
 use Rattle.rules.specs.declared.Timer.the-variants.{Off}
 use Rattle.rules.proofs.Members.{Runs}
 use Rattle.table.specs.declared.queues.Test.the-variants.{HeldBy}
-use Rattle.supervisor.specs.Taken.{EachOnce, WokenAs, takenOf, endedBy}
-use Rattle.supervisor.specs.declared.answers.Taken.{Taken}
-use Rattle.rules.specs.declared.Supervisor.{Supervisor}
-use Rattle.table.specs.Moved.{movedOf}
+use Rattle.supervisor.specs.Taken.{EachOnce}
 use Rattle.lists.proofs.Turns.{rest-blank}
 use Rattle.lists.proofs.Tests.{and-first, and-second}
 use Rattle.supervisor.proofs.MoveLaws.{picked-line, long-held, long-callers}
