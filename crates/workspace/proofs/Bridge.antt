@@ -13,13 +13,15 @@ use Rattle.workspace.specs.declared.Stretch.{Stretch}
 use Rattle.workspace.specs.declared.Used.{Used}
 use Rattle.workspace.specs.declared.Look.{Look}
 use Rattle.workspace.specs.declared.Done.{Done}
-use Rattle.workspace.specs.Rules.{if_then_else_, units, stretch, none, end, hasPlaces, rulesKept}
+use Rattle.lists.specs.Lists.{if_then_else_}
+use Rattle.workspace.specs.Rules.{units, stretch, none, end, hasPlaces, rulesKept}
 use Rattle.workspace.specs.Operations.{placed, fits, fitStart, cut, startsAt, lengthAt, without, joined, Outcome, refused, took, freshOf, requestOf, releaseOf, blocksAfter, freeAfter, answerOf, unused}
 use Rattle.workspace.specs.declared.Test.the-variants.{StartsAt, StartsBehind, HasUnits}
 use Rattle.workspace.specs.Places.{placeOf, passesOf, removeAt, insertAt}
 use Rattle.workspace.specs.Seen.{tableOf, laid, lookOf}
 use Rattle.workspace.specs.Steps.{keepsSeen, unlessRefused, doneAs, freshSeen, requestRefusal, grantSeen, requestSeen, blockAt, releaseRefusal, giveBack, countBack, freeSeen, releaseSeen}
-use Rattle.workspace.proofs.Basics.{cases, and-left, and-right}
+use Rattle.lists.proofs.Tests.{and-first, and-second}
+use Rattle.lists.proofs.ListLaws.{by-bool}
 use Rattle.workspace.proofs.Pieces.{suffice}
 use Rattle.workspace.proofs.Taking.{request-sound}
 use Rattle.workspace.proofs.Giving.{release-sound}
@@ -48,8 +50,8 @@ says-took b f u v bl fl hb hf pb pf = record { answers = refl; writes = laid-lis
 pub fresh-says : (b f : List Stretch) → Says (freshSeen (lookOf b f 0)) b f unused (freshOf b f)
 unfolding freshSeen freshOf lookOf tableOf
 fresh-says b f =
-    cases (hasPlaces b f)
-    (λ e. rw e (says-took b f unused 0 [] (stretch 0 units ∷ []) (omega arith) (omega arith) (leb-true 31 (length b) (and-left (leb 31 (length b)) (leb 32 (length f)) e)) (leb-true 32 (length f) (and-right (leb 31 (length b)) (leb 32 (length f)) e))))
+    by-bool (hasPlaces b f)
+    (λ e. rw e (says-took b f unused 0 [] (stretch 0 units ∷ []) (omega arith) (omega arith) (leb-true 31 (length b) (and-first (leb 31 (length b)) (leb 32 (length f)) e)) (leb-true 32 (length f) (and-second (leb 31 (length b)) (leb 32 (length f)) e))))
     (λ e. rw e (says-refused b f 0 unused 2 (doneAs (tableOf [] .places) (set (tableOf [] .places) 0 (stretch 0 units)) 0 0 1) refl))
 
 -- ---- tables that keep the rules
@@ -79,7 +81,7 @@ module _ (b f : List Stretch) (u : Used) (s : Stands b f u) where
   place-fits n =
       let t : f ≡ fl ++ replicate (length (drop (u .free) f)) none = table-is (u .free) f (s .unused-free) in
       let c : length fl ≡ u .free = count-free b f u s in
-      cases (fits n fl)
+      by-bool (fits n fl)
       (λ e.
       let p : placeOf (passesOf HasUnits n) f ≡ placeOf (passesOf HasUnits n) fl = ap (placeOf (passesOf HasUnits n)) t ∙ find-in (passesOf HasUnits n) fl (replicate (length (drop (u .free) f)) none) (fit-there n fl e) in
       let h : placeOf (passesOf HasUnits n) fl < length fl = fit-there n fl e in
@@ -198,7 +200,7 @@ module _ (b f : List Stretch) (u : Used) (s : Stands b f u) where
   block-starts a =
       let w : placeOf (passesOf StartsAt a) (take (min (u .blocks) 32) (tableOf b .places)) ≡ placeOf (passesOf StartsAt a) bl = ap (placeOf (passesOf StartsAt a)) blocks-used in
       let c : length bl ≡ u .blocks = count-blocks b f u s in
-      cases (startsAt a bl)
+      by-bool (startsAt a bl)
       (λ e. let h : placeOf (passesOf StartsAt a) bl < length bl = starts-there a bl e in lt-ltb (placeOf (passesOf StartsAt a) (take (min (u .blocks) 32) (tableOf b .places))) (u .blocks) (omega (arith, w, h, c)) ∙ sym e)
       (λ e. let h : length bl ≤ placeOf (passesOf StartsAt a) bl = starts-nowhere a bl e in le-ltb (placeOf (passesOf StartsAt a) (take (min (u .blocks) 32) (tableOf b .places))) (u .blocks) (omega (arith, w, h, c)) ∙ sym e)
 
@@ -215,15 +217,15 @@ request-says b f u n =
     let o : Outcome = requestOf b f u n in
     let refuses : (k : ℕ) → eqb k 0 ≡ false → r ≡ k → o ≡ refused k → Says (unlessRefused r l u d) b f u o = λ k z er eo. says-by b f u l d r k (refused k) o er eo (says-refused b f n u k d z) in
     let m : keepsSeen l u ≡ rulesKept b f u = keeps-same b f u n in
-    cases (rulesKept b f u)
+    by-bool (rulesKept b f u)
     (λ e.
     let s : Stands b f u = kept-stands b f u e in
     let t : ltb (l .place) (u .free) ≡ fits n (fs b f u) = place-there-fits b f u s n in
-    cases (leb 1 n && leb n 65535)
-    (λ e₁. cases (ltb (u .blocks) 31)
-    (λ e₂. cases (fits n (fs b f u))
+    by-bool (leb 1 n && leb n 65535)
+    (λ e₁. by-bool (ltb (u .blocks) 31)
+    (λ e₂. by-bool (fits n (fs b f u))
     (λ e₃. says-by b f u l d r 0 (took (fitStart n (fs b f u)) (placed (stretch (fitStart n (fs b f u)) n) (bs b f u)) (cut n (fs b f u))) o (rw (m ∙ e, e₁, e₂, t ∙ e₃) refl) (rw (e, e₁, e₂, e₃) refl)
-    (request-took b f u s n (ltb-true (u .blocks) 31 e₂) e₃ (leb-true 1 n (and-left (leb 1 n) (leb n 65535) e₁))))
+    (request-took b f u s n (ltb-true (u .blocks) 31 e₂) e₃ (leb-true 1 n (and-first (leb 1 n) (leb n 65535) e₁))))
     (λ e₃. refuses 15 refl (rw (m ∙ e, e₁, e₂, t ∙ e₃) refl) (rw (e, e₁, e₂, e₃) refl)))
     (λ e₂. refuses 14 refl (rw (m ∙ e, e₁, e₂) refl) (rw (e, e₁, e₂) refl)))
     (λ e₁. refuses 13 refl (rw (m ∙ e, e₁) refl) (rw (e, e₁) refl)))
@@ -238,11 +240,11 @@ release-says b f u a =
     let o : Outcome = releaseOf b f u a in
     let refuses : (k : ℕ) → eqb k 0 ≡ false → r ≡ k → o ≡ refused k → Says (unlessRefused r l u d) b f u o = λ k z er eo. says-by b f u l d r k (refused k) o er eo (says-refused b f 0 u k d z) in
     let m : keepsSeen l u ≡ rulesKept b f u = keeps-same b f u 0 in
-    cases (rulesKept b f u)
+    by-bool (rulesKept b f u)
     (λ e.
     let s : Stands b f u = kept-stands b f u e in
     let t : ltb (blockAt l u a) (u .blocks) ≡ startsAt a (bs b f u) = block-starts b f u s a in
-    cases (startsAt a (bs b f u))
+    by-bool (startsAt a (bs b f u))
     (λ e₁. says-by b f u l d r 0 (took (lengthAt a (bs b f u)) (without a (bs b f u)) (joined (stretch a (lengthAt a (bs b f u))) (fs b f u))) o (rw (m ∙ e, t ∙ e₁) refl) (rw (e, e₁) refl) (release-took b f u s a e₁))
     (λ e₁. refuses 16 refl (rw (m ∙ e, t ∙ e₁) refl) (rw (e, e₁) refl)))
     (λ e. refuses 2 refl (rw (m ∙ e) refl) (rw e refl))

@@ -11,13 +11,15 @@ use lib.ListN.{length, getD}
 use lib.Dec.{ltb, eqb}
 use borrow.Author.Tests.{ltb-true, ltb-false, eqb-true, lt-ltb, eq-eqb, ne-eqb}
 use Rattle.workspace.specs.declared.Stretch.{Stretch}
-use Rattle.workspace.specs.Rules.{if_then_else_, units, stretch, none, end}
+use Rattle.lists.specs.Lists.{if_then_else_, bit}
+use Rattle.workspace.specs.Rules.{units, stretch, none, end}
 use Rattle.workspace.specs.Operations.{joined}
 use Rattle.workspace.specs.declared.Test.the-variants.{StartsBehind}
 use Rattle.workspace.specs.Places.{placeOf, passesOf, insertAt}
 use Rattle.workspace.specs.Steps.{touchesLow, touchesHigh, wholeAs, give, giveBack, countBack}
-use Rattle.workspace.proofs.Basics.{cases, ways, no}
-use Rattle.workspace.proofs.Pieces.{bit}
+use Rattle.lists.proofs.Tests.{ways}
+use Rattle.lists.proofs.ListLaws.{by-bool}
+use Rattle.workspace.proofs.Basics.{no}
 use Rattle.workspace.proofs.Words.{Chain}
 use Rattle.workspace.proofs.Padded.{pad, push, pad-snoc}
 
@@ -54,7 +56,7 @@ alone b K l h k = record {
 in-front : (b f : Stretch) (K : ℕ) (fs : List Stretch) → 0 < b .length → b .start < f .start → end b ≤ f .start → 0 < f .length → end f ≤ units → length (f ∷ fs) ≤ suc K → length (joined b (f ∷ fs)) ≤ suc K → Gives b (suc K) 0 (f ∷ fs)
 in-front b f K fs l lt h lf hf n j =
     let p : eqb (end f) (b .start) ≡ false = ne-eqb (end f) (b .start) (λ e. no (omega (arith, e, lt))) in
-    cases (eqb (end b) (f .start))
+    by-bool (eqb (end b) (f .start))
     (λ q.
     let e : end b ≡ f .start = eqb-true (end b) (f .start) q in
     record {
@@ -95,7 +97,7 @@ next-to b f (suc K) (g ∷ gs) l e lf h c d n =
     let s : end f + 1 ≤ g .start = c .0 in
     let r : eqb (end g) (f .start) ≡ false = ne-eqb (end g) (f .start) (λ q. no (omega (arith, q, s))) in
     let o : f .start + (f .length + b .length) ≡ end b = omega (arith, e) in
-    cases (eqb (end b) (g .start))
+    by-bool (eqb (end b) (g .start))
     (λ q.
     let t : eqb (f .start + (f .length + b .length)) (g .start) ≡ true = ap (λ (n : ℕ). eqb n (g .start)) o ∙ q in
     let u : end b ≡ g .start = eqb-true (end b) (g .start) q in
@@ -170,7 +172,7 @@ gives-back b K a [] l h c d n j = alone b K l h j
 gives-back b zero a (f ∷ fs) l h c d n j = absurd (not-suc-le-zero n)
 gives-back b (suc K) a (f ∷ fs) l h c d n j =
     let lf : 0 < f .length = c .1 in
-    cases (ltb (b .start) (f .start))
+    by-bool (ltb (b .start) (f .start))
     (λ p.
     let lt : b .start < f .start = ltb-true (b .start) (f .start) p in
     let k : placeOf (passesOf StartsBehind (b .start)) (f ∷ fs) ≡ 0 = rw p refl in
@@ -180,7 +182,7 @@ gives-back b (suc K) a (f ∷ fs) l h c d n j =
     let le : f .start ≤ b .start = ltb-false (b .start) (f .start) p in
     let k : placeOf (passesOf StartsBehind (b .start)) (f ∷ fs) ≡ suc (placeOf (passesOf StartsBehind (b .start)) fs) = rw p refl in
     let e : end f ≤ b .start = ways (d .0) (λ q. no (omega (arith, q, l, le))) (λ q. q) in
-    cases (eqb (end f) (b .start))
+    by-bool (eqb (end f) (b .start))
     (λ q.
     let t : end f ≡ b .start = eqb-true (end f) (b .start) q in
     let z : placeOf (passesOf StartsBehind (b .start)) fs ≡ 0 = place-zero b (end f + 1) fs (omega (arith, t)) (c .3) in
@@ -193,9 +195,9 @@ gives-back b (suc K) a (f ∷ fs) l h c d n j =
 some : (b : Stretch) (fs : List Stretch) → 0 < length (joined b fs)
 some b [] = omega arith
 some b (f ∷ fs) =
-    cases (eqb (end f) (b .start))
+    by-bool (eqb (end f) (b .start))
     (λ e. rw e (some (stretch (f .start) (f .length + b .length)) fs))
-    (λ e. cases (eqb (end b) (f .start)) (λ q. rw (e, q) (omega arith)) (λ q. cases (ltb (b .start) (f .start)) (λ t. rw (e, q, t) (omega arith)) (λ t. rw (e, q, t) (omega arith))))
+    (λ e. by-bool (eqb (end b) (f .start)) (λ q. rw (e, q) (omega arith)) (λ q. by-bool (ltb (b .start) (f .start)) (λ t. rw (e, q, t) (omega arith)) (λ t. rw (e, q, t) (omega arith))))
 
 -- ---- what the code does
 module _ (b : Stretch) (a : ℕ) (fs : List Stretch) (l : 0 < b .length) (h : end b ≤ units) (c : Chain 1 a fs) (d : Clear b fs) (n : length fs ≤ 32) (j : length (joined b fs) ≤ 32) where

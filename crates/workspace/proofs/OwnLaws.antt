@@ -14,7 +14,8 @@ use Rattle.workspace.specs.declared.Used.{Used}
 use Rattle.workspace.specs.declared.Look.{Look}
 use Rattle.workspace.specs.declared.Done.{Done}
 use Rattle.workspace.specs.declared.Test.the-variants.{HasUnits}
-use Rattle.workspace.specs.Rules.{every, none, isNone}
+use Rattle.lists.specs.Lists.{every}
+use Rattle.workspace.specs.Rules.{none, isNone}
 use Rattle.workspace.specs.Operations.{Outcome, freshOf, requestOf, releaseOf, blocksAfter, freeAfter, answerOf, unused}
 use Rattle.workspace.specs.Owning.{tablesAs, ownedAfter, ownedFresh}
 use Rattle.workspace.specs.Places.{placeOf, passesOf}

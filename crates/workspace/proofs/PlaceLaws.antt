@@ -12,8 +12,10 @@ use lib.Seq.{take-all, drop-cons}
 use lib.Dec.{ltb}
 use borrow.Author.Tests.{ltb-true, ltb-false, lt-ltb, le-ltb}
 use Rattle.workspace.specs.declared.Stretch.{Stretch}
-use Rattle.workspace.proofs.Basics.{cases, and-true}
-use Rattle.workspace.specs.Rules.{if_then_else_, every, none, isNone}
+use Rattle.lists.proofs.ListLaws.{by-bool}
+use Rattle.workspace.proofs.Basics.{and-true}
+use Rattle.lists.specs.Lists.{if_then_else_, every}
+use Rattle.workspace.specs.Rules.{none, isNone}
 use Rattle.workspace.specs.Places.{placeOf, over, removeAt, insertAt}
 use Rattle.workspace.specs.Seen.{tableOf, noteOf}
 
@@ -59,20 +61,20 @@ over-full (x ∷ xs) (y ∷ ys) (suc i) h = ap (λ (l : List _). y ∷ l) (over-
 
 pub over-all : {A : Type 0} (xs ys : List A) (i : ℕ) → min (length xs) (length ys) ≤ i → over xs (take i ys) ≡ over xs ys
 over-all xs ys i h =
-    cases (ltb i (length xs))
+    by-bool (ltb i (length xs))
     (λ e. ap (over xs) (take-all i ys (let f : i < length xs = ltb-true i (length xs) e in omega (arith, f, h))))
     (λ e. over-full xs ys i (ltb-false i (length xs) e))
 
 -- ---- all places from the k-th on are unused
 ltb-suc : (i k : ℕ) → ltb (suc i) (suc k) ≡ ltb i k
-ltb-suc i k = cases (ltb i k)
+ltb-suc i k = by-bool (ltb i k)
     (λ e. lt-ltb (suc i) (suc k) (let f : i < k = ltb-true i k e in omega (arith, f)) ∙ sym e)
     (λ e. le-ltb (suc i) (suc k) (let f : k ≤ i = ltb-false i k e in omega (arith, f)) ∙ sym e)
 
 every-suc : {A : Type 0} (p : A → Bool) (l : List A) (i : ℕ) (d : A) → i < length l → every p (take i l) && p (getD l i d) ≡ every p (take (suc i) l)
 every-suc p [] i d h = absurd (not-suc-le-zero h)
 every-suc p (x ∷ xs) zero d h = sym (and-true (p x))
-every-suc p (x ∷ xs) (suc i) d h = cases (p x) (λ e. simp (e, every-suc p xs i d (le-of-suc-le-suc h))) (λ e. simp e)
+every-suc p (x ∷ xs) (suc i) d h = by-bool (p x) (λ e. simp (e, every-suc p xs i d (le-of-suc-le-suc h))) (λ e. simp e)
 
 clear-suc : {A : Type 0} (p : A → Bool) (k : ℕ) (l : List A) (i : ℕ) (d : A) → i < length l → every p (drop k (take i l)) && (ltb i k || p (getD l i d)) ≡ every p (drop k (take (suc i) l))
 clear-suc p k [] i d h = absurd (not-suc-le-zero h)
@@ -102,7 +104,7 @@ getD-snoc (x ∷ xs) zero = refl
 getD-snoc (x ∷ xs) (suc i) = getD-snoc xs i
 
 remove-suc : (p : ℕ) (l : List Stretch) (i : ℕ) → getD (removeAt p l) i none ≡ (if ltb i p then getD l i none else getD l (suc i) none)
-remove-suc p [] i = cases (ltb i p) (λ e. rw e refl) (λ e. rw e refl)
+remove-suc p [] i = by-bool (ltb i p) (λ e. rw e refl) (λ e. rw e refl)
 remove-suc zero (x ∷ xs) i = rw (le-ltb i 0 zero-le) (getD-snoc xs i)
 remove-suc (suc p) (x ∷ xs) zero = rw (lt-ltb 0 (suc p) (omega arith)) refl
 remove-suc (suc p) (x ∷ xs) (suc i) = rw (ltb-suc i p) (remove-suc p xs i)

@@ -11,11 +11,12 @@ use lib.Dec.{ltb}
 use borrow.Author.Tests.{ltb-true, ltb-false}
 use Rattle.workspace.specs.declared.Stretch.{Stretch}
 use Rattle.workspace.specs.declared.Table.{Table}
-use Rattle.workspace.specs.Rules.{if_then_else_, every, none, isNone}
+use Rattle.lists.specs.Lists.{if_then_else_, every}
+use Rattle.workspace.specs.Rules.{none, isNone}
 use Rattle.workspace.specs.Operations.{tableAfter}
 use Rattle.workspace.specs.Places.{over}
 use Rattle.workspace.specs.Seen.{tableOf, noteOf, placeAfter, laid}
-use Rattle.workspace.proofs.Basics.{cases}
+use Rattle.lists.proofs.ListLaws.{by-bool}
 use Rattle.workspace.proofs.PlaceLaws.{over-nil, over-length, over-next, over-all, over-same, over-own}
 use Rattle.workspace.proofs.Padded.{pad, pad-nil, none-over, all-unused}
 
@@ -67,7 +68,7 @@ laid-at : (t : Table) (l : List Stretch) (i : ℕ) → length (t .places) ≡ 32
 unfolding laid
 laid-at t l i long h =
     let u : length (under (t .clear) l) ≡ length l = under-length (t .clear) l in
-    cases (ltb i 32)
+    by-bool (ltb i 32)
     (λ e. let k : i < 32 = ltb-true i 32 e in rw e (over-in (under (t .clear) l) (t .places) i (omega (arith, u, h)) (omega (arith, long, k))))
     (λ e. let k : 32 ≤ i = ltb-false i 32 e in rw e (over-out (under (t .clear) l) (t .places) i (omega (arith, long, k)) ∙ under-at (t .clear) l i))
 
@@ -91,7 +92,7 @@ own-clear (suc k) (x ∷ xs) e = ap (λ (l : List Stretch). x ∷ l) (own-clear 
 
 pub laid-own : (l : List Stretch) → laid (tableOf l) l ≡ l
 unfolding laid tableOf
-laid-own l = cases (every isNone (drop 32 l)) (λ e. rw e (own-clear 32 l e)) (λ e. rw e (over-own 32 l))
+laid-own l = by-bool (every isNone (drop 32 l)) (λ e. rw e (own-clear 32 l e)) (λ e. rw e (over-own 32 l))
 
 -- a list in 32 places, written to a table, is the table afterwards
 lay-over : (k m : ℕ) (l : List Stretch) → length l ≤ k → length l ≤ m → over (replicate m none) (pad k l) ≡ l ++ replicate (m - length l) none

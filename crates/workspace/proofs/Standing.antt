@@ -11,11 +11,13 @@ use lib.Dec.{leb}
 use borrow.Author.Tests.{leb-true, le-leb}
 use Rattle.workspace.specs.declared.Stretch.{Stretch}
 use Rattle.workspace.specs.declared.Used.{Used}
-use Rattle.workspace.specs.Rules.{every, isNone, isKept, rulesKept}
+use Rattle.lists.specs.Lists.{every}
+use Rattle.workspace.specs.Rules.{isNone, isKept, rulesKept}
 use Rattle.workspace.specs.Seen.{tableOf, lookOf}
 use Rattle.workspace.specs.Check.{tiled}
 use Rattle.workspace.specs.Steps.{keepsSeen}
-use Rattle.workspace.proofs.Basics.{same-test, and-left, and-right, both, split7}
+use Rattle.lists.proofs.Tests.{and-first, and-second}
+use Rattle.workspace.proofs.Basics.{same-test, both, split7}
 use Rattle.workspace.proofs.Pieces.{Sound, suffice}
 use Rattle.workspace.proofs.CheckLaws.{check-sound, sound-check}
 use Rattle.workspace.proofs.Words.{kept-sound, sound-kept}
@@ -105,10 +107,10 @@ module _ (b f : List Stretch) (u : Used) where
       (le-leb 32 (length f) pf))
       (le-leb (u .blocks) 31 hb))
       (le-leb (u .free) 32 hf))
-      (and-right (every isNone (drop (u .blocks) (pad 32 b))) (every isNone (drop 32 b)) vb))
-      (and-right (every isNone (drop (u .free) (pad 32 f))) (every isNone (drop 32 f)) vf))
-      (ap (λ (m : ℕ). every isNone (drop m (pad 32 b))) mb ∙ and-left (every isNone (drop (u .blocks) (pad 32 b))) (every isNone (drop 32 b)) vb))
-      (ap (λ (m : ℕ). every isNone (drop m (pad 32 f))) mf ∙ and-left (every isNone (drop (u .free) (pad 32 f))) (every isNone (drop 32 f)) vf))
+      (and-second (every isNone (drop (u .blocks) (pad 32 b))) (every isNone (drop 32 b)) vb))
+      (and-second (every isNone (drop (u .free) (pad 32 f))) (every isNone (drop 32 f)) vf))
+      (ap (λ (m : ℕ). every isNone (drop m (pad 32 b))) mb ∙ and-first (every isNone (drop (u .blocks) (pad 32 b))) (every isNone (drop 32 b)) vb))
+      (ap (λ (m : ℕ). every isNone (drop m (pad 32 f))) mf ∙ and-first (every isNone (drop (u .free) (pad 32 f))) (every isNone (drop 32 f)) vf))
       ((λ i. tiled 64 false 0 (take (mb i) (pad 32 b)) (take (mf i) (pad 32 f)))
       ∙ (λ i. tiled 64 false 0 (take-seen (u .blocks) 32 b (let h : u .blocks ≤ 32 = omega (arith, hb) in h) (let h : u .blocks ≤ length b = omega (arith, hb, pb) in h) i) (take-seen (u .free) 32 f hf (s .few-free) i)) ∙ t)
 
@@ -119,8 +121,8 @@ module _ (b f : List Stretch) (u : Used) where
       let xf : Bool = every isNone (drop (min (u .free) 32) (pad 32 f)) in
       let t : Bool = tiled 64 false 0 (take (min (u .blocks) 32) (pad 32 b)) (take (min (u .free) 32) (pad 32 f)) in
       let k : Bool = leb 31 (length b) && leb 32 (length f) && leb (u .blocks) 31 && leb (u .free) 32 && every isNone (drop 32 b) && every isNone (drop 32 f) && xb in
-      let e₈ : k && xf ≡ true = and-left (k && xf) t e in
-      let w = split7 (leb 31 (length b)) (leb 32 (length f)) (leb (u .blocks) 31) (leb (u .free) 32) (every isNone (drop 32 b)) (every isNone (drop 32 f)) xb (and-left k xf e₈) in
+      let e₈ : k && xf ≡ true = and-first (k && xf) t e in
+      let w = split7 (leb 31 (length b)) (leb 32 (length f)) (leb (u .blocks) 31) (leb (u .free) 32) (every isNone (drop 32 b)) (every isNone (drop 32 f)) xb (and-first k xf e₈) in
       let pb : 31 ≤ length b = leb-true 31 (length b) (w .0) in
       let pf : 32 ≤ length f = leb-true 32 (length f) (w .1) in
       let hb : u .blocks ≤ 31 = leb-true (u .blocks) 31 (w .2) in
@@ -137,8 +139,8 @@ module _ (b f : List Stretch) (u : Used) where
         few-blocks = hb;
         few-free = omega (arith, hf, pf);
         unused-blocks = sym (unused-seen (u .blocks) 32 b (omega (arith, hb))) ∙ both (sym vb ∙ w .6) (w .4);
-        unused-free = sym (unused-seen (u .free) 32 f hf) ∙ both (sym vf ∙ and-right k xf e₈) (w .5);
-        sound = check-sound 64 bs fs ((λ i. tiled 64 false 0 (sym sb i) (sym sf i)) ∙ and-right (k && xf) t e);
+        unused-free = sym (unused-seen (u .free) 32 f hf) ∙ both (sym vf ∙ and-second k xf e₈) (w .5);
+        sound = check-sound 64 bs fs ((λ i. tiled 64 false 0 (sym sb i) (sym sf i)) ∙ and-second (k && xf) t e);
       }
 
   -- the code's check passes exactly where the rules are kept

@@ -11,7 +11,8 @@ use Rattle.workspace.specs.declared.Table.{Table}
 use Rattle.workspace.specs.declared.Used.{Used}
 use Rattle.workspace.specs.declared.Look.{Look}
 use Rattle.workspace.specs.declared.Done.{Done}
-use Rattle.workspace.specs.Rules.{if_then_else_, every, units, stretch, none, isNone, end}
+use Rattle.lists.specs.Lists.{if_then_else_, every}
+use Rattle.workspace.specs.Rules.{units, stretch, none, isNone, end}
 use Rattle.workspace.specs.Operations.{unused}
 use Rattle.workspace.specs.Seen.{tableOf}
 use Rattle.workspace.specs.declared.Test.the-variants.{StartsAt, StartsBehind}

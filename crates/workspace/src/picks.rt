@@ -4,7 +4,7 @@ use crate::Reach;
 use crate::Stretch;
 ghost use mathlib.Core.Path.{_≡_};
 ghost use Prim.Native.Nat.{_+_, _-_, min};
-ghost use Rattle.workspace.specs.Rules.{if_then_else_};
+ghost use Rattle.lists.specs.Lists.{if_then_else_};
 
 pub fn pick_u8(b: bool, x: u8, y: u8) -> u8
     ensures { λ r. ⌜ r ≡ (if b then x else y) ⌝ }

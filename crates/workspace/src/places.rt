@@ -5,7 +5,8 @@ use crate::picks::wide;
 ghost use mathlib.Core.Path.{_≡_};
 ghost use Prim.Native.Nat.{_<_, _≤_};
 ghost use lib.ListN.{getD, set, take, drop};
-ghost use Rattle.workspace.specs.Rules.{every, none, isNone, end};
+ghost use Rattle.lists.specs.Lists.{every};
+ghost use Rattle.workspace.specs.Rules.{none, isNone, end};
 ghost use Rattle.workspace.specs.Places.{placeOf, passesOf, removeAt, insertAt};
 
 pub fn is_none(x: Stretch) -> bool
