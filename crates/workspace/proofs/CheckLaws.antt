@@ -230,11 +230,14 @@ module _ (k : ℕ) (t u : Reach) (bs fs : List Stretch) (x y : Stretch) (whole :
   pub bounds-law : x .length < 4294967296 → y .length < 4294967296 → t .i ≤ length bs → t .j ≤ length fs → Bounds t u bs fs
   bounds-law hx hy hi hj = subst (λ (r : Reach). Bounds t r bs fs) (sym is-reached) (bounded t bs fs (subst (λ (z : Stretch). z .length < 4294967296) ex hx) (subst (λ (z : Stretch). z .length < 4294967296) ey hy) hi hj)
 
--- one stretch further: an equation for each call's result
-pub reach-law : (t : Reach) (x y : Stretch) {m n : ℕ} {p q : Bool} {other r : Reach} → m ≡ x .length → n ≡ y .length → p ≡ beginsAt (t .at) x → q ≡ beginsAt (t .at) y
-    → other ≡ (if not (t .after) && q then record { at = t .at + n; i = t .i; j = t .j + 1; after = true; stuck = false } else record { at = t .at; i = t .i; j = t .j; after = t .after; stuck = true })
-    → r ≡ (if p then record { at = t .at + m; i = t .i + 1; j = t .j; after = false; stuck = false } else other) → r ≡ reachOf t x y
-reach-law t x y {m = m} {p = p} em en ep eq eo er =
-    er
-    ∙ (λ i. if p then record { at = t .at + m; i = t .i + 1; j = t .j; after = false; stuck = false } else eo i)
-    ∙ (λ i. if ep i then record { at = t .at + em i; i = t .i + 1; j = t .j; after = false; stuck = false } else (if not (t .after) && eq i then record { at = t .at + en i; i = t .i; j = t .j + 1; after = true; stuck = false } else record { at = t .at; i = t .i; j = t .j; after = t .after; stuck = true }))
+-- one stretch further: where a block begins, where a free stretch does, and where neither does
+pub block-reached : (t : Reach) (x y : Stretch) {p : Bool} → p ≡ beginsAt (t .at) x → p ≡ true → record { at = t .at + x .length; i = t .i + 1; j = t .j; after = false; stuck = false } ≡ reachOf t x y
+block-reached t x y ep e = rw (sym ep ∙ e) refl
+
+pub free-reached : (t : Reach) (x y : Stretch) {p q : Bool} → p ≡ beginsAt (t .at) x → p ≡ false → q ≡ beginsAt (t .at) y → not (t .after) && q ≡ true
+    → record { at = t .at + y .length; i = t .i; j = t .j + 1; after = true; stuck = false } ≡ reachOf t x y
+free-reached t x y ep e eq f = rw (sym ep ∙ e, sym (ap (λ (b : Bool). not (t .after) && b) eq) ∙ f) refl
+
+pub none-reached : (t : Reach) (x y : Stretch) {p q : Bool} → p ≡ beginsAt (t .at) x → p ≡ false → q ≡ beginsAt (t .at) y → not (t .after) && q ≡ false
+    → record { at = t .at; i = t .i; j = t .j; after = t .after; stuck = true } ≡ reachOf t x y
+none-reached t x y ep e eq f = rw (sym ep ∙ e, sym (ap (λ (b : Bool). not (t .after) && b) eq) ∙ f) refl

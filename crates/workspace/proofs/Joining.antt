@@ -88,7 +88,7 @@ next-to b f K [] l e lf h c d n =
       high = false;
       is-low = p;
       is-high = ap (λ (s : Stretch). eqb (end b) (s .start)) (pad-first K) ∙ ne-eqb (end b) 0 (λ q. no (omega (arith, q, l)));
-      gives = rw p ((λ i. insertAt 0 (stretch (f .start) (let z : ((f .length + b .length) % 4294967296 + 0) % 4294967296 ≡ f .length + b .length = omega (arith, e, h) in z i)) (pad-snoc K [] (le-of-suc-le-suc n) i)) ∙ push (suc K) (stretch (f .start) (f .length + b .length)) [] (omega arith));
+      gives = rw p (λ i. stretch (f .start) (let z : ((f .length + b .length) % 4294967296 + 0) % 4294967296 ≡ f .length + b .length = omega (arith, e, h) in z i) ∷ pad K []);
       counts = rw p (omega arith);
     }
 next-to b f zero (g ∷ gs) l e lf h c d n = no (omega (arith, n))
@@ -107,8 +107,7 @@ next-to b f (suc K) (g ∷ gs) l e lf h c d n =
       high = true;
       is-low = p;
       is-high = q;
-      gives = rw (p, r, t) ((λ i. insertAt 0 (stretch (f .start) (let z : ((f .length + b .length) % 4294967296 + g .length) % 4294967296 ≡ f .length + b .length + g .length = omega (arith, e, u, v) in z i)) (pad-snoc K gs (le-of-suc-le-suc (le-of-suc-le-suc n)) i ++ none ∷ []))
-          ∙ ap (λ (l : List Stretch). insertAt 0 (stretch (f .start) (f .length + b .length + g .length)) l) (pad-snoc (suc K) gs (let m : length (f ∷ g ∷ gs) ≤ suc (suc K) = n in omega (arith, m))) ∙ push (suc (suc K)) (stretch (f .start) (f .length + b .length + g .length)) gs (let m : length (f ∷ g ∷ gs) ≤ suc (suc K) = n in omega (arith, m)));
+      gives = rw (p, r, t) (λ i. stretch (f .start) (let z : ((f .length + b .length) % 4294967296 + g .length) % 4294967296 ≡ f .length + b .length + g .length = omega (arith, e, u, v) in z i) ∷ pad-snoc K gs (le-of-suc-le-suc (le-of-suc-le-suc n)) i);
       counts = rw (p, r, t) (omega arith);
     })
     (λ q.
@@ -119,7 +118,7 @@ next-to b f (suc K) (g ∷ gs) l e lf h c d n =
       high = false;
       is-low = p;
       is-high = q;
-      gives = rw (p, r, t, w) ((λ i. insertAt 0 (stretch (f .start) (let z : ((f .length + b .length) % 4294967296 + 0) % 4294967296 ≡ f .length + b .length = omega (arith, e, h) in z i)) (pad-snoc (suc K) (g ∷ gs) (le-of-suc-le-suc n) i)) ∙ push (suc (suc K)) (stretch (f .start) (f .length + b .length)) (g ∷ gs) n);
+      gives = rw (p, r, t, w) (λ i. stretch (f .start) (let z : ((f .length + b .length) % 4294967296 + 0) % 4294967296 ≡ f .length + b .length = omega (arith, e, h) in z i) ∷ g ∷ pad K gs);
       counts = rw (p, r, t, w) (omega arith);
     })
 
@@ -192,13 +191,6 @@ gives-back b (suc K) a (f ∷ fs) l h c d n j =
     let m : length (f ∷ joined b fs) ≤ suc K = subst (λ (u : List Stretch). length u ≤ suc K) r j in
     subst (λ (k : ℕ). Gives b (suc K) k (f ∷ fs)) (sym k) (one-on b f K (placeOf (passesOf StartsBehind (b .start)) fs) fs r q (gives-back b K (end f + 1) fs l h (c .3) (d .1) (le-of-suc-le-suc n) (le-of-suc-le-suc m)))))
 
-some : (b : Stretch) (fs : List Stretch) → 0 < length (joined b fs)
-some b [] = omega arith
-some b (f ∷ fs) =
-    by-bool (eqb (end f) (b .start))
-    (λ e. rw e (some (stretch (f .start) (f .length + b .length)) fs))
-    (λ e. by-bool (eqb (end b) (f .start)) (λ q. rw (e, q) (omega arith)) (λ q. by-bool (ltb (b .start) (f .start)) (λ t. rw (e, q, t) (omega arith)) (λ t. rw (e, q, t) (omega arith))))
-
 -- ---- what the code does
 module _ (b : Stretch) (a : ℕ) (fs : List Stretch) (l : 0 < b .length) (h : end b ≤ units) (c : Chain 1 a fs) (d : Clear b fs) (n : length fs ≤ 32) (j : length (joined b fs) ≤ 32) where
   abbrev k : ℕ
@@ -213,10 +205,4 @@ module _ (b : Stretch) (a : ℕ) (fs : List Stretch) (l : 0 < b .length) (h : en
 
   pub count-joined : countBack b k (length fs) (pad 32 fs) ≡ length (joined b fs)
   unfolding countBack
-  count-joined = (λ i. min (if g .is-high i then (if g .is-low i then length fs - 1 else length fs) - 1 else (if g .is-low i then length fs - 1 else length fs)) 32 + 1) ∙ by-flags (g .low) (g .high) (g .counts) (some b fs)
-    where
-      by-flags : (low high : Bool) → length (joined b fs) + bit low + bit high ≡ length fs + 1 → 0 < length (joined b fs) → min (if high then (if low then length fs - 1 else length fs) - 1 else (if low then length fs - 1 else length fs)) 32 + 1 ≡ length (joined b fs)
-      by-flags true true e p = omega (arith, e, n, j, p)
-      by-flags true false e p = omega (arith, e, n, j, p)
-      by-flags false true e p = omega (arith, e, n, j, p)
-      by-flags false false e p = omega (arith, e, n, j, p)
+  count-joined = let e : length (joined b fs) + bit (g .low) + bit (g .high) ≡ length fs + 1 = g .counts in (λ i. length fs + 1 - bit (g .is-low i) - bit (g .is-high i)) ∙ omega (arith, e)

@@ -84,15 +84,10 @@ lay-all t l i h =
     let n : length (laid t l) ≡ length l = laid-length t l in
     over-all l (laid t l) i (omega (arith, h)) ∙ over-same l (laid t l) (sym n)
 
--- ---- what is seen of a table, written to it again, is the table
-own-clear : (k : ℕ) (l : List Stretch) → every isNone (drop k l) ≡ true → over (replicate (length l) none) (pad k l) ≡ l
-own-clear zero l e = over-nil (replicate (length l) none) ∙ sym (all-unused l e)
-own-clear (suc k) [] e = refl
-own-clear (suc k) (x ∷ xs) e = ap (λ (l : List Stretch). x ∷ l) (own-clear k xs e)
-
-pub laid-own : (l : List Stretch) → laid (tableOf l) l ≡ l
+-- what is seen of a table, written to it again, is the table
+pub laid-own : (l : List Stretch) → laid (record { places = tableOf l .places; clear = false }) l ≡ l
 unfolding laid tableOf
-laid-own l = by-bool (every isNone (drop 32 l)) (λ e. rw e (own-clear 32 l e)) (λ e. rw e (over-own 32 l))
+laid-own l = over-own 32 l
 
 -- a list in 32 places, written to a table, is the table afterwards
 lay-over : (k m : ℕ) (l : List Stretch) → length l ≤ k → length l ≤ m → over (replicate m none) (pad k l) ≡ l ++ replicate (m - length l) none
@@ -110,6 +105,3 @@ laid-list l table h n = lay-over 32 (length table) l h n
 pub note-law : (t : Table) (i : ℕ) (x : Stretch) {places : List Stretch} {unused : Bool} → places ≡ set (t .places) i x → unused ≡ isNone x
     → _≡_ {A = Table} (record { places = places; clear = t .clear && (ltb i 32 || unused) }) (noteOf t i x)
 note-law t i x {places = places} ep eu = λ j. record { places = ep j; clear = t .clear && (ltb i 32 || eu j) }
-
-pub after-law : (t : Table) (i : ℕ) (x : Stretch) {noted rest r : Stretch} → noted ≡ getD (t .places) i none → rest ≡ (if t .clear then none else x) → r ≡ (if ltb i 32 then noted else rest) → r ≡ placeAfter t i x
-after-law t i x en es er = er ∙ (λ j. if ltb i 32 then en j else es j)

@@ -1,7 +1,6 @@
 // Tables of 32 places by value: searched, set, taken out and put in.
 use crate::Stretch;
 use crate::Test;
-use crate::picks::wide;
 ghost use mathlib.Core.Path.{_≡_};
 ghost use Prim.Native.Nat.{_<_, _≤_};
 ghost use lib.ListN.{getD, set, take, drop};
@@ -19,7 +18,7 @@ pub fn is_none(x: Stretch) -> bool
 pub fn end_of(x: Stretch) -> u64
     ensures { λ r. ⌜ r ≡ end x ⌝ }
 {
-    wide(x.start) + wide(x.length)
+    x.start as u64 + x.length as u64
 }
 
 // What a search looks for.

@@ -1,5 +1,5 @@
-use Rattle.workspace.proofs.StepLaws.{low-law}
 use borrow.Author.Needs.{needs}
+use Rattle.workspace.proofs.StepLaws.{low-law}
 use Rattle.workspace.proofs.steps.touches_low.Statement.{statement}
 use Rattle.workspace.proofs.steps.touches_low.Tie as tie
 
@@ -9,8 +9,7 @@ returns c =
     let x = e .before in
     let j = x .before in
     let a = j .before .args in
-    low-law (a .b) (a .k) (a .l) (j .down .ensures) (x .nth .ensures) (e .end-of .ensures) (c .wide .ensures)
+    low-law (a .b) (a .k) (a .l) (j .down .ensures) (x .nth .ensures) (e .end-of .ensures)
 
 pub touches-low-spec : {M : Type 1} → statement M
-touches-low-spec =
-    tie.close (tie.spec (λ c κs. search needs) (λ c κs. search needs) (λ c κs. search needs) (λ c κs. search needs) returns)
+touches-low-spec = tie.close (tie.spec (λ c κs. search needs) (λ c κs. search needs) (λ c κs. search needs) (λ c. search needs) returns)
