@@ -17,8 +17,8 @@ use Rattle.workspace.specs.Operations.{tableAfter}
 use Rattle.workspace.specs.Places.{over}
 use Rattle.workspace.specs.Seen.{tableOf, noteOf, placeAfter, laid}
 use Rattle.lists.proofs.ListLaws.{by-bool}
-use Rattle.workspace.proofs.PlaceLaws.{over-nil, over-length, over-next, over-all, over-same, over-own}
-use Rattle.workspace.proofs.Padded.{pad, pad-nil, none-over, all-unused}
+use Rattle.workspace.proofs.PlaceLaws.{over-nil, over-length, over-next, over-laid, over-own}
+use Rattle.workspace.proofs.Padded.{pad, pad-nil, none-over}
 
 pub replicate-length : (n : ℕ) (x : Stretch) → length (replicate n x) ≡ n
 replicate-length zero x = refl
@@ -80,9 +80,7 @@ lay-next t l i long h =
     ap (λ (x : Stretch). set (over l (take i (laid t l))) i x) (ap (placeAfter t i) (over-rest l (laid t l) i) ∙ sym (laid-at t l i long h)) ∙ over-next l (laid t l) i none (omega (arith, n, h))
 
 pub lay-all : (t : Table) (l : List Stretch) (i : ℕ) → length l ≤ i → over l (take i (laid t l)) ≡ laid t l
-lay-all t l i h =
-    let n : length (laid t l) ≡ length l = laid-length t l in
-    over-all l (laid t l) i (omega (arith, h)) ∙ over-same l (laid t l) (sym n)
+lay-all t l i h = over-laid l (laid t l) i (laid-length t l) h
 
 -- what is seen of a table, written to it again, is the table
 pub laid-own : (l : List Stretch) → laid (record { places = tableOf l .places; clear = false }) l ≡ l

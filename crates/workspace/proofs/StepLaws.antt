@@ -56,19 +56,18 @@ byte-most false n h = zero-le
 
 -- ── a request ──
 
--- the tests of a request, in order: where the refusal is 0, all have passed
-pub granted-may : (s : Look) (u : Used) (n : ℕ) → requestRefusal s u n ≡ 0 → (u .blocks ≤ 31) × (0 < u .free)
+-- where the refusal is 0, all tests have passed
+pub granted-may : (s : Look) (u : Used) (n : ℕ) {kept : Bool} → kept ≡ keepsSeen s u → requestRefusal kept u (s .place) n ≡ 0 → (u .blocks ≤ 31) × (0 < u .free)
 unfolding requestRefusal
-granted-may s u n e =
-    by-bool (keepsSeen s u)
-    (λ k. by-bool (leb 1 n && leb n 65535)
+granted-may s u n {kept = false} ek e = no (omega (arith, e))
+granted-may s u n {kept = true} ek e =
+    by-bool (leb 1 n && leb n 65535)
     (λ z. by-bool (ltb (u .blocks) 31)
     (λ b. by-bool (ltb (s .place) (u .free))
-    (λ p. let h : s .place < u .free = ltb-true (s .place) (u .free) p in (counted s u k .0, omega (arith, h)))
-    (λ p. no (let q : 15 ≡ 0 = rw (k, z, b, p) at e in omega (arith, q))))
-    (λ b. no (let q : 14 ≡ 0 = rw (k, z, b) at e in omega (arith, q))))
-    (λ z. no (let q : 13 ≡ 0 = rw (k, z) at e in omega (arith, q))))
-    (λ k. no (let q : 2 ≡ 0 = rw k at e in omega (arith, q)))
+    (λ p. let h : s .place < u .free = ltb-true (s .place) (u .free) p in (counted s u (sym ek) .0, omega (arith, h)))
+    (λ p. no (let q : 15 ≡ 0 = rw (z, b, p) at e in omega (arith, q))))
+    (λ b. no (let q : 14 ≡ 0 = rw (z, b) at e in omega (arith, q))))
+    (λ z. no (let q : 13 ≡ 0 = rw z at e in omega (arith, q)))
 
 pub cut-part : (l : List Stretch) (p n : ℕ) {f : Stretch} {start : ℕ} {r : List Stretch} → f ≡ getD l p none → start ≡ (f .start + n) % 4294967296 → r ≡ set l p (stretch start (f .length - n)) → n < f .length → r ≡ cutAt p n l
 cut-part l p n {f = f} ef es er h =
@@ -90,21 +89,20 @@ grant-law s u n {f = f} ef ek eb e er =
     ∙ (λ i. doneAs (bb i) (e i) (f .start) (u .blocks + 1) (u .free - byte-bit (leb (f .length) n) i))
     ∙ (λ i. doneAs (insertAt (placeOf (passesOf StartsBehind (ef i .start)) (take (u .blocks) (s .blocks))) (stretch (ef i .start) n) (s .blocks)) (cutAt (s .place) n (s .free)) (ef i .start) (u .blocks + 1) (u .free - bit (leb (ef i .length) n)))
 
-pub request-granted : (s : Look) (u : Used) (n : ℕ) {k : ℕ} {r : Done} → k ≡ requestRefusal s u n → k ≡ 0 → r ≡ grantSeen s u n → r ≡ requestSeen s u n
+pub request-granted : (s : Look) (u : Used) (n : ℕ) {kept : Bool} {k : ℕ} {r : Done} → kept ≡ keepsSeen s u → k ≡ requestRefusal kept u (s .place) n → k ≡ 0 → r ≡ grantSeen s u n → r ≡ requestSeen s u n
 unfolding requestSeen
-request-granted s u n ek e er = er ∙ rw (sym ek ∙ e) refl
+request-granted s u n ek e z er = er ∙ rw (sym (e ∙ ap (λ (b : Bool). requestRefusal b u (s .place) n) ek) ∙ z) refl
 
-pub request-refused : (s : Look) (u : Used) (n : ℕ) {k : ℕ} {r : Done} → k ≡ requestRefusal s u n → (k ≡ 0 → ⊥) → r ≡ refusedAs s u k → r ≡ requestSeen s u n
+pub request-refused : (s : Look) (u : Used) (n : ℕ) {kept : Bool} {k : ℕ} {r : Done} → kept ≡ keepsSeen s u → k ≡ requestRefusal kept u (s .place) n → (k ≡ 0 → ⊥) → r ≡ refusedAs s u k → r ≡ requestSeen s u n
 unfolding requestSeen
-request-refused s u n ek e er = er ∙ ap (refusedAs s u) ek ∙ rw (ne-eqb (requestRefusal s u n) 0 (λ q. e (ek ∙ q))) refl
+request-refused s u n ek e z er =
+    let f = e ∙ ap (λ (b : Bool). requestRefusal b u (s .place) n) ek in
+    er ∙ ap (refusedAs s u) f ∙ rw (ne-eqb (requestRefusal (keepsSeen s u) u (s .place) n) 0 (λ q. z (f ∙ q))) refl
 
 -- ── a release ──
 
-pub low-law : (b : Stretch) (k : ℕ) (l : List Stretch) {j e : ℕ} {x : Stretch} → j ≡ k - 1 → x ≡ getD l j none → e ≡ end x → ltb 0 k && eqb e (b .start) ≡ touchesLow b k l
-low-law b k l ej ex ee = (λ i. ltb 0 k && eqb (ee i) (b .start)) ∙ (λ i. ltb 0 k && eqb (end (ex i)) (b .start)) ∙ (λ i. ltb 0 k && eqb (end (getD l (ej i) none)) (b .start))
-
-pub high-law : (b : Stretch) (k : ℕ) (l : List Stretch) {e : ℕ} {x : Stretch} → x ≡ getD l k none → e ≡ end b → eqb e (x .start) ≡ touchesHigh b k l
-high-law b k l ex ee = λ i. eqb (ee i) (ex i .start)
+pub low-law : (b : Stretch) (k : ℕ) (l : List Stretch) {j : ℕ} {x : Stretch} → j ≡ k - 1 → x ≡ getD l j none → ltb 0 k && eqb (end x) (b .start) ≡ touchesLow b k l
+low-law b k l ej ex = (λ i. ltb 0 k && eqb (end (ex i)) (b .start)) ∙ (λ i. ltb 0 k && eqb (end (getD l (ej i) none)) (b .start))
 
 pub whole-law : (low high : Bool) (b : Stretch) (k : ℕ) (l : List Stretch) {j : ℕ} {x y : Stretch} {start ahead behind front length : ℕ}
     → j ≡ k - 1 → x ≡ getD l j none → y ≡ getD l k none → start ≡ (if low then x .start else b .start) → ahead ≡ (if low then x .length else 0) → behind ≡ (if high then y .length else 0)

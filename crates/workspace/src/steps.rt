@@ -7,7 +7,6 @@ use crate::Table;
 use crate::Test;
 use crate::Used;
 use crate::places::closed;
-use crate::places::end_of;
 use crate::places::nth;
 use crate::places::opened;
 use crate::places::place_of;
@@ -106,10 +105,9 @@ pub fn made(seen: Look) -> Done
 }
 
 // The refusal of a request, 0 if there is none.
-pub fn request_refusal(seen: Look, used: Used, size: u32) -> u8
-    ensures { λ r. ⌜ r ≡ requestRefusal seen used size ⌝ }
+pub fn request_refusal(kept: bool, used: Used, place: usize, size: u32) -> u8
+    ensures { λ r. ⌜ r ≡ requestRefusal kept used place size ⌝ }
 {
-    let kept = keeps(seen, used);
     if !kept {
         return 2;
     }
@@ -120,7 +118,7 @@ pub fn request_refusal(seen: Look, used: Used, size: u32) -> u8
     if 31 <= used.blocks {
         return 14;
     }
-    if used.free <= seen.place {
+    if used.free <= place {
         return 15;
     }
     0
@@ -167,7 +165,8 @@ pub fn granted(seen: Look, used: Used, size: u32) -> Done
 pub fn requested(seen: Look, used: Used, size: u32) -> Done
     ensures { λ r. ⌜ r ≡ requestSeen seen used size ⌝ }
 {
-    let refusal = request_refusal(seen, used, size);
+    let kept = keeps(seen, used);
+    let refusal = request_refusal(kept, used, seen.place, size);
     if refusal == 0 {
         granted(seen, used, size)
     } else {
@@ -181,8 +180,7 @@ pub fn touches_low(b: Stretch, k: usize, l: [Stretch; 32]) -> bool
 {
     let j = down(k);
     let x = nth(l, j);
-    let e = end_of(x);
-    (0 < k) & (e == b.start as u64)
+    (0 < k) & (x.start as u64 + x.length as u64 == b.start as u64)
 }
 
 // The free stretch at place k touches b.
@@ -190,8 +188,7 @@ pub fn touches_high(b: Stretch, k: usize, l: [Stretch; 32]) -> bool
     ensures { λ r. ⌜ r ≡ touchesHigh b k l ⌝ }
 {
     let x = nth(l, k);
-    let e = end_of(b);
-    e == x.start as u64
+    b.start as u64 + b.length as u64 == x.start as u64
 }
 
 // b, which goes to the place k, with the neighbours that touch it.

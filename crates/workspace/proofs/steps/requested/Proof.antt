@@ -7,23 +7,26 @@ use Rattle.workspace.proofs.steps.requested.Tie as tie
 granted-requires : tie.Need-granted-requires
 granted-requires c κs =
     let refusal = c .before in
-    let a = refusal .before .args in
+    let kept = refusal .before in
+    let a = kept .before .args in
     let z : refusal .request-refusal .result ≡ 0 = search needs in
-    granted-may (a .seen) (a .used) (a .size) (sym (refusal .request-refusal .ensures) ∙ z)
+    granted-may (a .seen) (a .used) (a .size) (kept .keeps .ensures) (sym (refusal .request-refusal .ensures) ∙ z)
 
 returns : tie.Need-returns
 returns c =
     let refusal = c .before .before in
-    let a = refusal .before .args in
+    let kept = refusal .before in
+    let a = kept .before .args in
     let z : refusal .request-refusal .result ≡ 0 = search needs in
-    request-granted (a .seen) (a .used) (a .size) (refusal .request-refusal .ensures) z (c .granted .ensures)
+    request-granted (a .seen) (a .used) (a .size) (kept .keeps .ensures) (refusal .request-refusal .ensures) z (c .granted .ensures)
 
 returns-2 : tie.Need-returns-2
 returns-2 c =
     let refusal = c .before .before in
-    let a = refusal .before .args in
+    let kept = refusal .before in
+    let a = kept .before .args in
     let z : refusal .request-refusal .result ≡ 0 → ⊥ = search needs in
-    request-refused (a .seen) (a .used) (a .size) (refusal .request-refusal .ensures) z (c .refused .ensures)
+    request-refused (a .seen) (a .used) (a .size) (kept .keeps .ensures) (refusal .request-refusal .ensures) z (c .refused .ensures)
 
 pub requested-spec : {M : Type 1} → statement M
-requested-spec = tie.close (tie.spec (λ c κs. search needs) granted-requires (λ c κs. search needs) returns returns-2)
+requested-spec = tie.close (tie.spec (λ c κs. search needs) (λ c κs. search needs) granted-requires (λ c κs. search needs) returns returns-2)
