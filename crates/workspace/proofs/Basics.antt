@@ -3,7 +3,7 @@
 use mathlib.Core.Path.{_≡_, refl, sym}
 use Prim.Native.Nat.{ℕ}
 use native.Mathlib.Omega.{arith}
-use mathlib.Core.Bool.{Bool, true, false, not, _&&_, true≢false}
+use mathlib.Core.Bool.{Bool, true, false, _&&_}
 use Rattle.lists.proofs.Tests.{and-first, and-second}
 
 pub no : {A : Type 0} → _≡_ {A = ℕ} 0 1 → A
@@ -25,10 +25,6 @@ and-true false = refl
 pub and-false : (b : Bool) → b && false ≡ false
 and-false true = refl
 and-false false = refl
-
-pub not-flip : (b : Bool) → not b ≡ true → b ≡ false
-not-flip true e = absurd (true≢false (sym e))
-not-flip false e = refl
 
 -- seven tests that all pass
 pub split7 : (a b c d e f g : Bool) → a && b && c && d && e && f && g ≡ true → (a ≡ true) × (b ≡ true) × (c ≡ true) × (d ≡ true) × (e ≡ true) × (f ≡ true) × (g ≡ true)

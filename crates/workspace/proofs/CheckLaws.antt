@@ -9,7 +9,7 @@ use mathlib.Core.List.{List, [], _∷_}
 use lib.ListN.{length, getD, drop}
 use native.Mathlib.Numerals.{add-one}
 use lib.Dec.{ltb, eqb}
-use borrow.Author.Tests.{ltb-true, eqb-true, eqb-false, lt-ltb, eq-eqb, ne-eqb}
+use borrow.Author.Tests.{ltb-true, eqb-true, eqb-false, lt-ltb, eq-eqb, ne-eqb, not-true}
 use Rattle.workspace.specs.declared.Stretch.{Stretch}
 use Rattle.workspace.specs.declared.Reach.{Reach}
 use Rattle.lists.specs.Lists.{if_then_else_}
@@ -18,7 +18,7 @@ use Rattle.workspace.specs.Check.{beginsAt, begins, ends, first, rest, t
 use Rattle.workspace.proofs.Pieces.{Piece, taken, spare, blocksFrom, freeFrom, measure, Good, Sound, Within, blocks-within}
 use Rattle.lists.proofs.Tests.{and-first, and-second}
 use Rattle.lists.proofs.ListLaws.{by-bool}
-use Rattle.workspace.proofs.Basics.{no, and-true, and-false, not-flip}
+use Rattle.workspace.proofs.Basics.{no, and-true, and-false}
 
 -- the pieces of tables that lie end to end from a on
 pub record Cut (after : Bool) (a : ℕ) (bs fs : List Stretch) : Type 0 where
@@ -60,7 +60,7 @@ finds (suc k) after a bs fs e =
       are-blocks = c .are-blocks;
       are-free = b .0 ∙ ap (λ (l : List Stretch). stretch a (first fs) ∷ l) (c .are-free);
       fill = let f : a + first fs + measure (c .pieces) ≡ units = c .fill in omega (arith, f);
-      good = (b .1, not-flip after (and-first (not after) (begins a fs) r), c .good);
+      good = (b .1, not-true after (and-first (not after) (begins a fs) r), c .good);
     })
     (λ r. let t : ends a bs fs ≡ true = rw (p, r) at e in last bs fs t))
   where

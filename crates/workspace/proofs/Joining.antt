@@ -1,17 +1,17 @@
 -- A block that is given back at its place of a padded table is joined as the rules say.
 -- Assumes nothing.
 use mathlib.Core.Path.{_≡_, refl, sym, _∙_, ap, subst}
-use Prim.Native.Nat.{ℕ, zero, suc, _+_, _-_, _%_, _<_, _≤_, min}
+use Prim.Native.Nat.{ℕ, zero, suc, _+_, _-_, _%_, _<_, _≤_}
 use native.Mathlib.Nat.{not-suc-le-zero, le-of-suc-le-suc}
 use native.Mathlib.Omega.{arith}
 use mathlib.Core.Bool.{Bool, true, false, _&&_}
-use mathlib.Core.List.{List, [], _∷_, _++_}
+use mathlib.Core.List.{List, [], _∷_}
 use mathlib.Core.Logic.{_⊎_}
 use lib.ListN.{length, getD}
 use lib.Dec.{ltb, eqb}
 use borrow.Author.Tests.{ltb-true, ltb-false, eqb-true, lt-ltb, eq-eqb, ne-eqb}
 use Rattle.workspace.specs.declared.Stretch.{Stretch}
-use Rattle.lists.specs.Lists.{if_then_else_, bit}
+use Rattle.lists.specs.Lists.{bit}
 use Rattle.workspace.specs.Rules.{units, stretch, none, end}
 use Rattle.workspace.specs.Operations.{joined}
 use Rattle.workspace.specs.declared.Test.the-variants.{StartsBehind}

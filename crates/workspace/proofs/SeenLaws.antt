@@ -6,18 +6,18 @@ use native.Mathlib.Nat.{not-suc-le-zero, le-of-suc-le-suc}
 use native.Mathlib.Omega.{arith}
 use mathlib.Core.Bool.{Bool, true, false, _&&_, _||_}
 use mathlib.Core.List.{List, [], _∷_, _++_}
-use lib.ListN.{length, getD, set, take, drop, replicate}
+use lib.ListN.{length, getD, set, take, replicate}
 use lib.Dec.{ltb}
 use borrow.Author.Tests.{ltb-true, ltb-false}
 use Rattle.workspace.specs.declared.Stretch.{Stretch}
 use Rattle.workspace.specs.declared.Table.{Table}
-use Rattle.lists.specs.Lists.{if_then_else_, every}
+use Rattle.lists.specs.Lists.{if_then_else_}
 use Rattle.workspace.specs.Rules.{none, isNone}
 use Rattle.workspace.specs.Operations.{tableAfter}
 use Rattle.workspace.specs.Places.{over}
 use Rattle.workspace.specs.Seen.{tableOf, noteOf, placeAfter, laid}
 use Rattle.lists.proofs.ListLaws.{by-bool}
-use Rattle.workspace.proofs.PlaceLaws.{over-nil, over-length, over-next, over-laid, over-own}
+use Rattle.workspace.proofs.PlaceLaws.{over-length, over-next, over-laid, over-own}
 use Rattle.workspace.proofs.Padded.{pad, pad-nil, none-over}
 
 pub replicate-length : (n : ℕ) (x : Stretch) → length (replicate n x) ≡ n

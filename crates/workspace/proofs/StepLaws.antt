@@ -3,7 +3,7 @@
 use mathlib.Core.Path.{_≡_, refl, sym, _∙_, ap}
 use Prim.Native.Nat.{ℕ, zero, suc, _+_, _-_, _%_, _<_, _≤_, zero-le}
 use native.Mathlib.Omega.{arith}
-use mathlib.Core.Bool.{Bool, true, false, not, _&&_, _||_, true≢false}
+use mathlib.Core.Bool.{Bool, true, false, _&&_}
 use mathlib.Core.List.{List, [], _∷_}
 use lib.ListN.{length, getD, set, take, drop}
 use lib.Dec.{leb, ltb, eqb}
@@ -18,10 +18,10 @@ use Rattle.workspace.specs.declared.Used.{Used}
 use Rattle.workspace.specs.declared.Look.{Look}
 use Rattle.workspace.specs.declared.Done.{Done}
 use Rattle.workspace.specs.Rules.{stretch, none, isNone, end}
-use Rattle.workspace.specs.declared.Test.the-variants.{StartsAt, StartsBehind}
+use Rattle.workspace.specs.declared.Test.the-variants.{StartsBehind}
 use Rattle.workspace.specs.Places.{placeOf, passesOf, removeAt, insertAt}
 use Rattle.workspace.specs.Check.{tiled}
-use Rattle.workspace.specs.Steps.{isCounted, keepsSeen, refusedAs, doneAs, requestRefusal, cutAt, grantSeen, requestSeen, blockAt, touchesLow, touchesHigh, wholeAs, wholeAt, give, giveAt, giveBack, countBack, freeSeen, releaseSeen}
+use Rattle.workspace.specs.Steps.{isCounted, keepsSeen, refusedAs, doneAs, requestRefusal, cutAt, grantSeen, requestSeen, blockAt, touchesLow, touchesHigh, wholeAs, wholeAt, giveAt, giveBack, countBack, freeSeen, releaseSeen}
 
 -- ── the check ──
 

@@ -11,13 +11,13 @@ use mathlib.Core.List.{List, [], _∷_, _++_}
 use mathlib.Core.Logic.{_⊎_, inl, inr}
 use lib.ListN.{length}
 use lib.Dec.{leb, eqb}
-use borrow.Author.Tests.{ltb-true, leb-true, leb-false, eqb-true, eqb-false, lt-ltb, le-leb, eq-eqb, ne-eqb}
+use borrow.Author.Tests.{ltb-true, leb-true, leb-false, eqb-true, eqb-false, lt-ltb, le-leb, eq-eqb, ne-eqb, not-true}
 use Rattle.workspace.specs.declared.Stretch.{Stretch}
 use Rattle.lists.specs.Lists.{every, bit}
 use Rattle.workspace.specs.Rules.{pairs, units, stretch, end, total, isBefore, isLong, isInside, isApart, isLoose, isKept}
 use Rattle.lists.proofs.Tests.{ways, and-first, and-second}
 use Rattle.lists.proofs.ListLaws.{by-bool}
-use Rattle.workspace.proofs.Basics.{no, both, not-flip, split7}
+use Rattle.workspace.proofs.Basics.{no, both, split7}
 use Rattle.workspace.proofs.Pieces.{Piece, taken, spare, blocksFrom, freeFrom, measure, Good, Sound, Within, adds-up, wider, blocks-within, free-within}
 use Rattle.workspace.proofs.CheckLaws.{Cut}
 
@@ -121,7 +121,7 @@ in-order l = pairs-follow isBefore isApart (behind 0) (λ s t e f g. let h : end
 loosely : (s t : Stretch) → behind 0 s t ≡ true → isLoose s t ≡ true → behind 1 s t ≡ true
 loosely s t e f =
     let h : end s + 0 ≤ t .start = leb-true (end s + 0) (t .start) e in
-    let d : end s ≡ t .start → ⊥ = eqb-false (end s) (t .start) (or-false (eqb (end s) (t .start)) (eqb (end t) (s .start)) (not-flip (eqb (end s) (t .start) || eqb (end t) (s .start)) f)) in
+    let d : end s ≡ t .start → ⊥ = eqb-false (end s) (t .start) (or-false (eqb (end s) (t .start)) (eqb (end t) (s .start)) (not-true (eqb (end s) (t .start) || eqb (end t) (s .start)) f)) in
     by-bool (leb (end s + 1) (t .start)) (λ k. k) (λ k. let l : t .start < end s + 1 = leb-false (end s + 1) (t .start) k in absurd (d (omega (arith, h, l))))
 
 not-touching : (l : List Stretch) → pairs (behind 0) l ≡ true → pairs isLoose l ≡ true → All isLong l → pairs (behind 1) l ≡ true

@@ -10,7 +10,7 @@ use crate::steps::released;
 use crate::steps::requested;
 ghost use mathlib.Core.Path.{_≡_};
 ghost use lib.ListN.{length};
-ghost use Rattle.workspace.specs.Operations.{freshOf, requestOf, releaseOf};
+ghost use Rattle.workspace.specs.Operations.{requestOf, releaseOf};
 ghost use Rattle.workspace.specs.Seen.{lookOf};
 ghost use Rattle.workspace.specs.Owning.{tablesAs, ownedFresh, ownedAfter};
 
