@@ -48,7 +48,8 @@ struct Table {
     clear: bool,
 }
 
-// What is seen of the two lent tables: the first 32 places of each, whether there are 31 and 32, whether all places behind them are unused, and the place of the first free stretch that is long enough.
+// What is seen of the two lent tables: the first 32 places of each, whether there are 31 and 32, whether all places behind them are
+// unused, and the place of the first free stretch that is long enough.
 struct Look {
     blocks: [Stretch; 32],
     free: [Stretch; 32],

@@ -13,11 +13,12 @@ use crate::places::place_of;
 use crate::places::with_at;
 use crate::rules::keeps;
 ghost use mathlib.Core.Path.{_≡_};
-ghost use Prim.Native.Nat.{_<_, _≤_, _+_, _-_};
+ghost use Prim.Native.Nat.{_<_, _≤_, _-_};
 ghost use Rattle.lists.specs.Lists.{if_then_else_};
 ghost use Rattle.workspace.specs.Places.{removeAt};
 ghost use Rattle.workspace.specs.Steps.{refusedAs, doneAs, freshSeen, requestRefusal, cutAt, grantSeen, requestSeen, touchesLow, touchesHigh, wholeAt, giveAt, freeSeen, releaseSeen};
 
+// x or y.
 pub fn pick_u32(b: bool, x: u32, y: u32) -> u32
     ensures { λ r. ⌜ r ≡ (if b then x else y) ⌝ }
 {
@@ -104,7 +105,7 @@ pub fn made(seen: Look) -> Done
     }
 }
 
-// The refusal of a request, 0 if there is none.
+// The refusal of a request, for which a free stretch is found at `place`; 0 if there is none.
 pub fn request_refusal(kept: bool, used: Used, place: usize, size: u32) -> u8
     ensures { λ r. ⌜ r ≡ requestRefusal kept used place size ⌝ }
 {
