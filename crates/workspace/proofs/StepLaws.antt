@@ -121,20 +121,21 @@ pub give-lone : (high : Bool) (b : Stretch) (k : ℕ) (l : List Stretch) {w : St
     → w ≡ wholeAt low high b k l → rest ≡ (if high then removeAt k l else l) → r ≡ insertAt k w rest → low ≡ false → r ≡ giveAt low high b k l
 give-lone high b k l ew er e el = e ∙ (λ i. insertAt k (ew i) (er i)) ∙ rw el refl
 
--- at most as many free stretches are joined with a block as there are
-pub joins-few : (b : Stretch) (k n : ℕ) (l : List Stretch) (low high : Bool) → low ≡ touchesLow b k l → k ≤ n → boolByte low + boolByte high ≤ n + 1
-joins-few b k n l true high el h =
-    let p : 0 < k = ltb-true 0 k (and-first (ltb 0 k) (eqb (end (getD l (k - 1) none)) (b .start)) (sym el)) in
-    let m : boolByte high ≤ n = byte-most high n (omega (arith, p, h)) in
-    omega (arith, m)
-joins-few b k n l false true el h = omega arith
-joins-few b k n l false false el h = omega arith
-
 -- a place is found among those used, or behind them
-pub place-most : (p : Stretch → Bool) (n : ℕ) (l : List Stretch) → placeOf p (take n l) ≤ n
+place-most : (p : Stretch → Bool) (n : ℕ) (l : List Stretch) → placeOf p (take n l) ≤ n
 place-most p zero l = zero-le
 place-most p (suc n) [] = zero-le
 place-most p (suc n) (x ∷ xs) = by-bool (p x) (λ e. rw e zero-le) (λ e. let ih : placeOf p (take n xs) ≤ n = place-most p n xs in rw e (omega (arith, ih)))
+
+-- at most as many free stretches are joined with a block as there are, and one more is put in
+pub joins-few : (b : Stretch) (p : Stretch → Bool) (n : ℕ) (l : List Stretch) {k : ℕ} (low high : Bool) → k ≡ placeOf p (take n l) → low ≡ touchesLow b k l → boolByte low + boolByte high ≤ n + 1
+joins-few b p n l {k = k} true high ek el =
+    let h : placeOf p (take n l) ≤ n = place-most p n l in
+    let z : 0 < k = ltb-true 0 k (and-first (ltb 0 k) (eqb (end (getD l (k - 1) none)) (b .start)) (sym el)) in
+    let m : boolByte high ≤ n = byte-most high n (omega (arith, z, ek, h)) in
+    omega (arith, m)
+joins-few b p n l false true ek el = omega arith
+joins-few b p n l false false ek el = omega arith
 
 pub free-law : (s : Look) (u : Used) (p : ℕ) {b : Stretch} {k : ℕ} {low high : Bool} {bs fs : List Stretch} {r : Done}
     → b ≡ getD (s .blocks) p none → k ≡ placeOf (passesOf StartsBehind (b .start)) (take (u .free) (s .free)) → low ≡ touchesLow b k (s .free) → high ≡ touchesHigh b k (s .free)

@@ -1,11 +1,10 @@
-use mathlib.Core.Path.{sym, subst}
-use Prim.Native.Nat.{ℕ, _≤_, _+_}
+use Prim.Native.Nat.{_≤_, _+_}
 use native.Mathlib.Omega.{arith}
 use mir.Val.{boolByte}
 use borrow.Author.Needs.{needs}
 use Rattle.workspace.specs.declared.Test.the-variants.{StartsBehind}
 use Rattle.workspace.specs.Places.{passesOf}
-use Rattle.workspace.proofs.StepLaws.{place-most, joins-few, free-law}
+use Rattle.workspace.proofs.StepLaws.{joins-few, free-law}
 use Rattle.workspace.proofs.steps.freed.Statement.{statement}
 use Rattle.workspace.proofs.steps.freed.Tie as tie
 
@@ -16,8 +15,7 @@ few c =
     let low = high .before in
     let k = low .before in
     let a = k .before .before .before .before .args in
-    let h : k .place-of .result ≤ a .used .free = subst (λ (p : ℕ). p ≤ a .used .free) (sym (k .place-of .ensures)) (place-most (passesOf StartsBehind (k .before .nth .result .start)) (a .used .free) (a .seen .free)) in
-    joins-few (k .before .nth .result) (k .place-of .result) (a .used .free) (a .seen .free) (low .touches-low .result) (high .touches-high .result) (low .touches-low .ensures) h
+    joins-few (k .before .nth .result) (passesOf StartsBehind (k .before .nth .result .start)) (a .used .free) (a .seen .free) (low .touches-low .result) (high .touches-high .result) (k .place-of .ensures) (low .touches-low .ensures)
 
 sub-left : tie.Need-sub-left
 sub-left c = let h = few (c .before) in omega (arith, h)
