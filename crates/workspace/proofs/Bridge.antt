@@ -1,25 +1,26 @@
 -- What is done to the tables that are seen is what the rules say of the lent tables, in the words of the contracts.
 -- Assumes nothing.
 use mathlib.Core.Path.{_≡_, refl, sym, _∙_, ap, subst}
-use Prim.Native.Nat.{ℕ, _+_, _-_, _%_, _<_, _≤_, min}
+use Prim.Native.Nat.{ℕ, _+_, _-_, _%_, _<_, _≤_}
 use native.Mathlib.Omega.{arith}
 use native.Mathlib.Nat.{le-trans}
-use mathlib.Core.Bool.{true, false, _&&_}
+use mathlib.Core.Bool.{true, _&&_}
 use mathlib.Core.List.{List, [], _∷_, _++_}
 use lib.ListN.{length, getD, set, take, drop, replicate}
-use lib.Dec.{leb, ltb, eqb}
+use lib.Dec.{leb, ltb}
 use borrow.Author.Tests.{leb-true, ltb-true, lt-ltb, le-ltb}
 use Rattle.workspace.specs.declared.Stretch.{Stretch}
 use Rattle.workspace.specs.declared.Used.{Used}
-use Rattle.workspace.specs.declared.Look.{Look}
 use Rattle.workspace.specs.declared.Done.{Done}
-use Rattle.workspace.specs.Rules.{if_then_else_, units, stretch, none, end, hasPlaces, rulesKept}
+use Rattle.lists.specs.Lists.{if_then_else_, bit}
+use Rattle.workspace.specs.Rules.{units, stretch, none, end, hasPlaces, rulesKept}
 use Rattle.workspace.specs.Operations.{placed, fits, fitStart, cut, startsAt, lengthAt, without, joined, Outcome, refused, took, freshOf, requestOf, releaseOf, blocksAfter, freeAfter, answerOf, unused}
 use Rattle.workspace.specs.declared.Test.the-variants.{StartsAt, StartsBehind, HasUnits}
 use Rattle.workspace.specs.Places.{placeOf, passesOf, removeAt, insertAt}
 use Rattle.workspace.specs.Seen.{tableOf, laid, lookOf}
-use Rattle.workspace.specs.Steps.{keepsSeen, unlessRefused, doneAs, freshSeen, requestRefusal, grantSeen, requestSeen, blockAt, releaseRefusal, giveBack, countBack, freeSeen, releaseSeen}
-use Rattle.workspace.proofs.Basics.{cases, and-left, and-right}
+use Rattle.workspace.specs.Steps.{keepsSeen, refusedAs, doneAs, freshSeen, requestRefusal, cutAt, grantSeen, requestSeen, blockAt, giveBack, countBack, freeSeen, releaseSeen}
+use Rattle.lists.proofs.Tests.{and-first, and-second}
+use Rattle.lists.proofs.ListLaws.{by-bool}
 use Rattle.workspace.proofs.Pieces.{suffice}
 use Rattle.workspace.proofs.Taking.{request-sound}
 use Rattle.workspace.proofs.Giving.{release-sound}
@@ -36,9 +37,9 @@ pub record Says (d : Done) (blocks free : List Stretch) (used : Used) (o : Outco
   pub frees : laid (d .free) free ≡ freeAfter free o
 
 -- a refusal changes nothing
-says-refused : (b f : List Stretch) (n : ℕ) (u : Used) (k : ℕ) (d : Done) → eqb k 0 ≡ false → Says (unlessRefused k (lookOf b f n) u d) b f u (refused k)
+says-refused : (b f : List Stretch) (n : ℕ) (u : Used) (k : ℕ) → Says (refusedAs (lookOf b f n) u k) b f u (refused k)
 unfolding lookOf
-says-refused b f n u k d e = rw e (record { answers = refl; writes = laid-own b; frees = laid-own f })
+says-refused b f n u k = record { answers = refl; writes = laid-own b; frees = laid-own f }
 
 -- a step that is made leaves two lists
 says-took : (b f : List Stretch) (u : Used) (v : ℕ) (bl fl : List Stretch) → length bl ≤ 31 → length fl ≤ 32 → 31 ≤ length b → 32 ≤ length f → Says (doneAs (pad 32 bl) (pad 32 fl) v (length bl) (length fl)) b f u (took v bl fl)
@@ -48,9 +49,9 @@ says-took b f u v bl fl hb hf pb pf = record { answers = refl; writes = laid-lis
 pub fresh-says : (b f : List Stretch) → Says (freshSeen (lookOf b f 0)) b f unused (freshOf b f)
 unfolding freshSeen freshOf lookOf tableOf
 fresh-says b f =
-    cases (hasPlaces b f)
-    (λ e. rw e (says-took b f unused 0 [] (stretch 0 units ∷ []) (omega arith) (omega arith) (leb-true 31 (length b) (and-left (leb 31 (length b)) (leb 32 (length f)) e)) (leb-true 32 (length f) (and-right (leb 31 (length b)) (leb 32 (length f)) e))))
-    (λ e. rw e (says-refused b f 0 unused 2 (doneAs (tableOf [] .places) (set (tableOf [] .places) 0 (stretch 0 units)) 0 0 1) refl))
+    by-bool (hasPlaces b f)
+    (λ e. rw e (says-took b f unused 0 [] (stretch 0 units ∷ []) (omega arith) (omega arith) (leb-true 31 (length b) (and-first (leb 31 (length b)) (leb 32 (length f)) e)) (leb-true 32 (length f) (and-second (leb 31 (length b)) (leb 32 (length f)) e))))
+    (λ e. rw e (says-refused b f 0 unused 2))
 
 -- ---- tables that keep the rules
 module _ (b f : List Stretch) (u : Used) (s : Stands b f u) where
@@ -60,26 +61,20 @@ module _ (b f : List Stretch) (u : Used) (s : Stands b f u) where
   abbrev fl : List Stretch
   fl = fs b f u
 
-  blocks-used : take (min (u .blocks) 32) (tableOf b .places) ≡ bl
+  blocks-used : take (u .blocks) (tableOf b .places) ≡ bl
   blocks-used =
-      let c : length bl ≡ u .blocks = count-blocks b f u s in
       let h : length bl ≤ 31 = at-most-31 b f u s in
-      let e : min (u .blocks) 32 ≡ length bl = omega (arith, c, h) in
-      (λ i. take (e i) (blocks-seen b f u s i)) ∙ take-pad 32 bl (omega (arith, h))
+      (λ i. take (sym (count-blocks b f u s) i) (blocks-seen b f u s i)) ∙ take-pad 32 bl (omega (arith, h))
 
-  free-used : take (min (u .free) 32) (tableOf f .places) ≡ fl
-  free-used =
-      let c : length fl ≡ u .free = count-free b f u s in
-      let h : length fl ≤ 32 = at-most-32 b f u s in
-      let e : min (u .free) 32 ≡ length fl = omega (arith, c, h) in
-      (λ i. take (e i) (free-seen b f u s i)) ∙ take-pad 32 fl h
+  free-used : take (u .free) (tableOf f .places) ≡ fl
+  free-used = (λ i. take (sym (count-free b f u s) i) (free-seen b f u s i)) ∙ take-pad 32 fl (at-most-32 b f u s)
 
   -- the search over the lent table finds a used place exactly where some free stretch is long enough
   place-fits : (n : ℕ) → ltb (placeOf (passesOf HasUnits n) f) (u .free) ≡ fits n fl
   place-fits n =
       let t : f ≡ fl ++ replicate (length (drop (u .free) f)) none = table-is (u .free) f (s .unused-free) in
       let c : length fl ≡ u .free = count-free b f u s in
-      cases (fits n fl)
+      by-bool (fits n fl)
       (λ e.
       let p : placeOf (passesOf HasUnits n) f ≡ placeOf (passesOf HasUnits n) fl = ap (placeOf (passesOf HasUnits n)) t ∙ find-in (passesOf HasUnits n) fl (replicate (length (drop (u .free) f)) none) (fit-there n fl e) in
       let h : placeOf (passesOf HasUnits n) fl < length fl = fit-there n fl e in
@@ -113,7 +108,7 @@ module _ (b f : List Stretch) (u : Used) (s : Stands b f u) where
     abbrev block : Stretch
     block = stretch v n
 
-    blocks-then : insertAt (placeOf (passesOf StartsBehind (getD (tableOf f .places) (placeOf (passesOf HasUnits n) f) none .start)) (take (min (u .blocks) 32) (tableOf b .places))) (stretch (getD (tableOf f .places) (placeOf (passesOf HasUnits n) f) none .start) n) (tableOf b .places) ≡ pad 32 (placed block bl)
+    blocks-then : insertAt (placeOf (passesOf StartsBehind (getD (tableOf f .places) (placeOf (passesOf HasUnits n) f) none .start)) (take (u .blocks) (tableOf b .places))) (stretch (getD (tableOf f .places) (placeOf (passesOf HasUnits n) f) none .start) n) (tableOf b .places) ≡ pad 32 (placed block bl)
     blocks-then =
         let h : length bl ≤ 31 = at-most-31 b f u s in
         (λ i. insertAt (placeOf (passesOf StartsBehind (there i .start)) (blocks-used i)) (stretch (there i .start) n) (blocks-seen b f u s i))
@@ -125,17 +120,16 @@ module _ (b f : List Stretch) (u : Used) (s : Stands b f u) where
         let k : n ≤ x .length = found-long n fl e in
         omega (arith, h, k)
 
-    free-then : (if eqb n (getD (tableOf f .places) (placeOf (passesOf HasUnits n) f) none .length) then removeAt (placeOf (passesOf HasUnits n) f) (tableOf f .places)
-        else set (tableOf f .places) (placeOf (passesOf HasUnits n) f) (stretch ((getD (tableOf f .places) (placeOf (passesOf HasUnits n) f) none .start + n) % 4294967296) (getD (tableOf f .places) (placeOf (passesOf HasUnits n) f) none .length - n))) ≡ pad 32 (cut n fl)
+    free-then : cutAt (placeOf (passesOf HasUnits n) f) n (tableOf f .places) ≡ pad 32 (cut n fl)
     free-then =
-        (λ i. if eqb n (there i .length) then removeAt (found i) (free-seen b f u s i) else set (free-seen b f u s i) (found i) (stretch ((there i .start + n) % 4294967296) (there i .length - n)))
-        ∙ ap (λ (a : ℕ). if eqb n (x .length) then removeAt p (pad 32 fl) else set (pad 32 fl) p (stretch a (x .length - n))) sum-fits ∙ pad-cut 32 n fl (at-most-32 b f u s) e
+        (λ i. if ltb n (there i .length) then set (free-seen b f u s i) (found i) (stretch ((there i .start + n) % 4294967296) (there i .length - n)) else removeAt (found i) (free-seen b f u s i))
+        ∙ ap (λ (a : ℕ). if ltb n (x .length) then set (pad 32 fl) p (stretch a (x .length - n)) else removeAt p (pad 32 fl)) sum-fits ∙ pad-cut 32 n fl (at-most-32 b f u s) e
 
-    blocks-count : min (u .blocks) 32 + 1 ≡ length (placed block bl)
-    blocks-count = let c : length bl ≡ u .blocks = count-blocks b f u s in let k : length (placed block bl) ≡ length bl + 1 = placed-length block bl in omega (arith, c, k, room)
+    blocks-count : u .blocks + 1 ≡ length (placed block bl)
+    blocks-count = let c : length bl ≡ u .blocks = count-blocks b f u s in let k : length (placed block bl) ≡ length bl + 1 = placed-length block bl in omega (arith, c, k)
 
-    free-count : (if eqb n (getD (tableOf f .places) (placeOf (passesOf HasUnits n) f) none .length) then u .free - 1 else u .free) ≡ length (cut n fl)
-    free-count = (λ i. if eqb n (there i .length) then sym (count-free b f u s) i - 1 else sym (count-free b f u s) i) ∙ cut-length n fl e
+    free-count : u .free - bit (leb (getD (tableOf f .places) (placeOf (passesOf HasUnits n) f) none .length) n) ≡ length (cut n fl)
+    free-count = (λ i. sym (count-free b f u s) i - bit (leb (there i .length) n)) ∙ cut-length n fl e
 
     grant-is : grantSeen (lookOf b f n) u n ≡ doneAs (pad 32 (placed block bl)) (pad 32 (cut n fl)) v (length (placed block bl)) (length (cut n fl))
     unfolding grantSeen lookOf
@@ -163,7 +157,7 @@ module _ (b f : List Stretch) (u : Used) (s : Stands b f u) where
     block-there : getD (tableOf b .places) (blockAt (lookOf b f 0) u a) none ≡ y
     block-there = (λ i. getD (blocks-seen b f u s i) (block-found i) none) ∙ getD-pad 32 q bl (starts-there a bl e) (le-trans (at-most-31 b f u s) (let h : 31 ≤ 32 = omega arith in h)) ∙ block-is a bl e
 
-    place-there : placeOf (passesOf StartsBehind (getD (tableOf b .places) (blockAt (lookOf b f 0) u a) none .start)) (take (min (u .free) 32) (tableOf f .places)) ≡ placeOf (passesOf StartsBehind a) fl
+    place-there : placeOf (passesOf StartsBehind (getD (tableOf b .places) (blockAt (lookOf b f 0) u a) none .start)) (take (u .free) (tableOf f .places)) ≡ placeOf (passesOf StartsBehind a) fl
     place-there = λ i. placeOf (passesOf StartsBehind (block-there i .start)) (free-used i)
 
     few-joined : length (joined y fl) ≤ 32
@@ -196,53 +190,39 @@ module _ (b f : List Stretch) (u : Used) (s : Stands b f u) where
   block-starts : (a : ℕ) → ltb (blockAt (lookOf b f 0) u a) (u .blocks) ≡ startsAt a bl
   unfolding lookOf
   block-starts a =
-      let w : placeOf (passesOf StartsAt a) (take (min (u .blocks) 32) (tableOf b .places)) ≡ placeOf (passesOf StartsAt a) bl = ap (placeOf (passesOf StartsAt a)) blocks-used in
+      let w : placeOf (passesOf StartsAt a) (take (u .blocks) (tableOf b .places)) ≡ placeOf (passesOf StartsAt a) bl = ap (placeOf (passesOf StartsAt a)) blocks-used in
       let c : length bl ≡ u .blocks = count-blocks b f u s in
-      cases (startsAt a bl)
-      (λ e. let h : placeOf (passesOf StartsAt a) bl < length bl = starts-there a bl e in lt-ltb (placeOf (passesOf StartsAt a) (take (min (u .blocks) 32) (tableOf b .places))) (u .blocks) (omega (arith, w, h, c)) ∙ sym e)
-      (λ e. let h : length bl ≤ placeOf (passesOf StartsAt a) bl = starts-nowhere a bl e in le-ltb (placeOf (passesOf StartsAt a) (take (min (u .blocks) 32) (tableOf b .places))) (u .blocks) (omega (arith, w, h, c)) ∙ sym e)
+      by-bool (startsAt a bl)
+      (λ e. let h : placeOf (passesOf StartsAt a) bl < length bl = starts-there a bl e in lt-ltb (placeOf (passesOf StartsAt a) (take (u .blocks) (tableOf b .places))) (u .blocks) (omega (arith, w, h, c)) ∙ sym e)
+      (λ e. let h : length bl ≤ placeOf (passesOf StartsAt a) bl = starts-nowhere a bl e in le-ltb (placeOf (passesOf StartsAt a) (take (u .blocks) (tableOf b .places))) (u .blocks) (omega (arith, w, h, c)) ∙ sym e)
 
 -- ---- in the order of the refusals
-says-by : (b f : List Stretch) (u : Used) (l : Look) (d : Done) (r k : ℕ) (o o′ : Outcome) → r ≡ k → o′ ≡ o → Says (unlessRefused k l u d) b f u o → Says (unlessRefused r l u d) b f u o′
-says-by b f u l d r k o o′ er eo w = subst (λ (n : ℕ). Says (unlessRefused n l u d) b f u o′) (sym er) (subst (λ (z : Outcome). Says (unlessRefused k l u d) b f u z) (sym eo) w)
-
 pub request-says : (b f : List Stretch) (u : Used) (n : ℕ) → Says (requestSeen (lookOf b f n) u n) b f u (requestOf b f u n)
 unfolding requestSeen requestRefusal requestOf
 request-says b f u n =
-    let l : Look = lookOf b f n in
-    let d : Done = grantSeen l u n in
-    let r : ℕ = requestRefusal l u n in
-    let o : Outcome = requestOf b f u n in
-    let refuses : (k : ℕ) → eqb k 0 ≡ false → r ≡ k → o ≡ refused k → Says (unlessRefused r l u d) b f u o = λ k z er eo. says-by b f u l d r k (refused k) o er eo (says-refused b f n u k d z) in
-    let m : keepsSeen l u ≡ rulesKept b f u = keeps-same b f u n in
-    cases (rulesKept b f u)
+    let m : keepsSeen (lookOf b f n) u ≡ rulesKept b f u = keeps-same b f u n in
+    by-bool (rulesKept b f u)
     (λ e.
     let s : Stands b f u = kept-stands b f u e in
-    let t : ltb (l .place) (u .free) ≡ fits n (fs b f u) = place-there-fits b f u s n in
-    cases (leb 1 n && leb n 65535)
-    (λ e₁. cases (ltb (u .blocks) 31)
-    (λ e₂. cases (fits n (fs b f u))
-    (λ e₃. says-by b f u l d r 0 (took (fitStart n (fs b f u)) (placed (stretch (fitStart n (fs b f u)) n) (bs b f u)) (cut n (fs b f u))) o (rw (m ∙ e, e₁, e₂, t ∙ e₃) refl) (rw (e, e₁, e₂, e₃) refl)
-    (request-took b f u s n (ltb-true (u .blocks) 31 e₂) e₃ (leb-true 1 n (and-left (leb 1 n) (leb n 65535) e₁))))
-    (λ e₃. refuses 15 refl (rw (m ∙ e, e₁, e₂, t ∙ e₃) refl) (rw (e, e₁, e₂, e₃) refl)))
-    (λ e₂. refuses 14 refl (rw (m ∙ e, e₁, e₂) refl) (rw (e, e₁, e₂) refl)))
-    (λ e₁. refuses 13 refl (rw (m ∙ e, e₁) refl) (rw (e, e₁) refl)))
-    (λ e. refuses 2 refl (rw (m ∙ e) refl) (rw e refl))
+    let t : ltb (lookOf b f n .place) (u .free) ≡ fits n (fs b f u) = place-there-fits b f u s n in
+    by-bool (leb 1 n && leb n 65535)
+    (λ e₁. by-bool (ltb (u .blocks) 31)
+    (λ e₂. by-bool (fits n (fs b f u))
+    (λ e₃. rw (m ∙ e, e, e₁, e₂, t ∙ e₃, e₃) (request-took b f u s n (ltb-true (u .blocks) 31 e₂) e₃ (leb-true 1 n (and-first (leb 1 n) (leb n 65535) e₁))))
+    (λ e₃. rw (m ∙ e, e, e₁, e₂, t ∙ e₃, e₃) (says-refused b f n u 15)))
+    (λ e₂. rw (m ∙ e, e, e₁, e₂) (says-refused b f n u 14)))
+    (λ e₁. rw (m ∙ e, e, e₁) (says-refused b f n u 13)))
+    (λ e. rw (m ∙ e, e) (says-refused b f n u 2))
 
 pub release-says : (b f : List Stretch) (u : Used) (a : ℕ) → Says (releaseSeen (lookOf b f 0) u a) b f u (releaseOf b f u a)
-unfolding releaseSeen releaseRefusal releaseOf
+unfolding releaseSeen releaseOf
 release-says b f u a =
-    let l : Look = lookOf b f 0 in
-    let d : Done = freeSeen l u (blockAt l u a) in
-    let r : ℕ = releaseRefusal l u a in
-    let o : Outcome = releaseOf b f u a in
-    let refuses : (k : ℕ) → eqb k 0 ≡ false → r ≡ k → o ≡ refused k → Says (unlessRefused r l u d) b f u o = λ k z er eo. says-by b f u l d r k (refused k) o er eo (says-refused b f 0 u k d z) in
-    let m : keepsSeen l u ≡ rulesKept b f u = keeps-same b f u 0 in
-    cases (rulesKept b f u)
+    let m : keepsSeen (lookOf b f 0) u ≡ rulesKept b f u = keeps-same b f u 0 in
+    by-bool (rulesKept b f u)
     (λ e.
     let s : Stands b f u = kept-stands b f u e in
-    let t : ltb (blockAt l u a) (u .blocks) ≡ startsAt a (bs b f u) = block-starts b f u s a in
-    cases (startsAt a (bs b f u))
-    (λ e₁. says-by b f u l d r 0 (took (lengthAt a (bs b f u)) (without a (bs b f u)) (joined (stretch a (lengthAt a (bs b f u))) (fs b f u))) o (rw (m ∙ e, t ∙ e₁) refl) (rw (e, e₁) refl) (release-took b f u s a e₁))
-    (λ e₁. refuses 16 refl (rw (m ∙ e, t ∙ e₁) refl) (rw (e, e₁) refl)))
-    (λ e. refuses 2 refl (rw (m ∙ e) refl) (rw e refl))
+    let t : ltb (blockAt (lookOf b f 0) u a) (u .blocks) ≡ startsAt a (bs b f u) = block-starts b f u s a in
+    by-bool (startsAt a (bs b f u))
+    (λ e₁. rw (m ∙ e, e, t ∙ e₁, e₁) (release-took b f u s a e₁))
+    (λ e₁. rw (m ∙ e, e, t ∙ e₁, e₁) (says-refused b f 0 u 16)))
+    (λ e. rw (m ∙ e, e) (says-refused b f 0 u 2))

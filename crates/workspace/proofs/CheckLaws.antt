@@ -9,13 +9,16 @@ use mathlib.Core.List.{List, [], _∷_}
 use lib.ListN.{length, getD, drop}
 use native.Mathlib.Numerals.{add-one}
 use lib.Dec.{ltb, eqb}
-use borrow.Author.Tests.{ltb-true, eqb-true, eqb-false, lt-ltb, eq-eqb, ne-eqb}
+use borrow.Author.Tests.{ltb-true, eqb-true, eqb-false, lt-ltb, eq-eqb, ne-eqb, not-true}
 use Rattle.workspace.specs.declared.Stretch.{Stretch}
 use Rattle.workspace.specs.declared.Reach.{Reach}
-use Rattle.workspace.specs.Rules.{if_then_else_, units, stretch, none}
+use Rattle.lists.specs.Lists.{if_then_else_}
+use Rattle.workspace.specs.Rules.{units, stretch, none}
 use Rattle.workspace.specs.Check.{beginsAt, begins, ends, first, rest, tiled, reachOf}
 use Rattle.workspace.proofs.Pieces.{Piece, taken, spare, blocksFrom, freeFrom, measure, Good, Sound, Within, blocks-within}
-use Rattle.workspace.proofs.Basics.{cases, no, and-left, and-right, and-true, and-false, not-flip}
+use Rattle.lists.proofs.Tests.{and-first, and-second}
+use Rattle.lists.proofs.ListLaws.{by-bool}
+use Rattle.workspace.proofs.Basics.{no, and-true, and-false}
 
 -- the pieces of tables that lie end to end from a on
 pub record Cut (after : Bool) (a : ℕ) (bs fs : List Stretch) : Type 0 where
@@ -29,13 +32,13 @@ pub record Cut (after : Bool) (a : ℕ) (bs fs : List Stretch) : Type 0 where
 begun : (a : ℕ) (l : List Stretch) → begins a l ≡ true → (l ≡ stretch a (first l) ∷ rest l) × (0 < first l)
 begun a [] e = absurd (true≢false (sym e))
 begun a (s ∷ ss) e =
-    let q : s .start ≡ a = eqb-true (s .start) a (and-left (eqb (s .start) a) (ltb 0 (s .length)) e) in
-    ((λ i. record { start = q i; length = s .length } ∷ ss), ltb-true 0 (s .length) (and-right (eqb (s .start) a) (ltb 0 (s .length)) e))
+    let q : s .start ≡ a = eqb-true (s .start) a (and-first (eqb (s .start) a) (ltb 0 (s .length)) e) in
+    ((λ i. record { start = q i; length = s .length } ∷ ss), ltb-true 0 (s .length) (and-second (eqb (s .start) a) (ltb 0 (s .length)) e))
 
 finds : (k : ℕ) (after : Bool) (a : ℕ) (bs fs : List Stretch) → tiled k after a bs fs ≡ true → Cut after a bs fs
 finds zero after a bs fs e = absurd (true≢false (sym e))
 finds (suc k) after a bs fs e =
-    cases (begins a bs)
+    by-bool (begins a bs)
     (λ p.
     let t : tiled k false (a + first bs) (rest bs) fs ≡ true = rw p at e in
     let c : Cut false (a + first bs) (rest bs) fs = finds k false (a + first bs) (rest bs) fs t in
@@ -47,17 +50,17 @@ finds (suc k) after a bs fs e =
       fill = let f : a + first bs + measure (c .pieces) ≡ units = c .fill in omega (arith, f);
       good = (b .1, c .good);
     })
-    (λ p. cases (not after && begins a fs)
+    (λ p. by-bool (not after && begins a fs)
     (λ r.
     let t : tiled k true (a + first fs) bs (rest fs) ≡ true = rw (p, r) at e in
     let c : Cut true (a + first fs) bs (rest fs) = finds k true (a + first fs) bs (rest fs) t in
-    let b : (fs ≡ stretch a (first fs) ∷ rest fs) × (0 < first fs) = begun a fs (and-right (not after) (begins a fs) r) in
+    let b : (fs ≡ stretch a (first fs) ∷ rest fs) × (0 < first fs) = begun a fs (and-second (not after) (begins a fs) r) in
     record {
       pieces = spare (first fs) ∷ c .pieces;
       are-blocks = c .are-blocks;
       are-free = b .0 ∙ ap (λ (l : List Stretch). stretch a (first fs) ∷ l) (c .are-free);
       fill = let f : a + first fs + measure (c .pieces) ≡ units = c .fill in omega (arith, f);
-      good = (b .1, not-flip after (and-left (not after) (begins a fs) r), c .good);
+      good = (b .1, not-true after (and-first (not after) (begins a fs) r), c .good);
     })
     (λ r. let t : ends a bs fs ≡ true = rw (p, r) at e in last bs fs t))
   where
@@ -149,9 +152,9 @@ pub goes-on : (k : ℕ) (t : Reach) (bs fs : List Stretch) → reachOf t (getD b
 goes-on k t bs fs e = turn k t bs fs ∙ by-cases (getD bs (t .i) none) (getD fs (t .j) none) e
   where
     by-cases : (x y : Stretch) → reachOf t x y .stuck ≡ false → Turn k t bs fs x y ≡ Rest k (reachOf t x y) bs fs
-    by-cases x y q = cases (beginsAt (t .at) x)
+    by-cases x y q = by-bool (beginsAt (t .at) x)
         (λ p. rw p refl)
-        (λ p. cases (not (t .after) && beginsAt (t .at) y)
+        (λ p. by-bool (not (t .after) && beginsAt (t .at) y)
         (λ r. rw (p, r) refl)
         (λ r. absurd (true≢false (let z : true ≡ false = rw (p, r) at q in z))))
 
@@ -160,9 +163,9 @@ pub stops : (k : ℕ) (t : Reach) (bs fs : List Stretch) → reachOf t (getD bs 
 stops k t bs fs e = turn k t bs fs ∙ by-cases (getD bs (t .i) none) (getD fs (t .j) none) e
   where
     by-cases : (x y : Stretch) → reachOf t x y .stuck ≡ true → Turn k t bs fs x y ≡ ends (t .at) (drop (t .i) bs) (drop (t .j) fs)
-    by-cases x y q = cases (beginsAt (t .at) x)
+    by-cases x y q = by-bool (beginsAt (t .at) x)
         (λ p. absurd (true≢false (sym (let z : false ≡ true = rw p at q in z))))
-        (λ p. cases (not (t .after) && beginsAt (t .at) y)
+        (λ p. by-bool (not (t .after) && beginsAt (t .at) y)
         (λ r. absurd (true≢false (sym (let z : false ≡ true = rw (p, r) at q in z))))
         (λ r. rw (p, r) refl))
 
@@ -174,7 +177,7 @@ drop-end (suc i) [] h = absurd (not-suc-le-zero h)
 drop-end (suc i) (x ∷ xs) h = same ∙ drop-end i xs (le-of-suc-le-suc h)
   where
     same : eqb (suc i) (suc (length xs)) ≡ eqb i (length xs)
-    same = cases (eqb i (length xs))
+    same = by-bool (eqb i (length xs))
         (λ e. eq-eqb (suc i) (suc (length xs)) (ap suc (eqb-true i (length xs) e)) ∙ sym e)
         (λ e. ne-eqb (suc i) (suc (length xs)) (λ q. eqb-false i (length xs) e (let z : i ≡ length xs = omega (arith, q) in z)) ∙ sym e)
 
@@ -202,10 +205,10 @@ pub record Bounds (t u : Reach) (bs fs : List Stretch) : Type 0 where
 pub bounded : (t : Reach) (bs fs : List Stretch) → getD bs (t .i) none .length < 4294967296 → getD fs (t .j) none .length < 4294967296 → t .i ≤ length bs → t .j ≤ length fs
     → Bounds t (reachOf t (getD bs (t .i) none) (getD fs (t .j) none)) bs fs
 bounded t bs fs hx hy hi hj =
-    cases (beginsAt (t .at) (getD bs (t .i) none))
+    by-bool (beginsAt (t .at) (getD bs (t .i) none))
     (λ p. let q : t .i < length bs = getD-in (t .at) (t .i) bs p in rw p (record { at = omega (arith, hx); i = omega arith; j = omega arith; bi = omega (arith, q); bj = hj }))
-    (λ p. cases (not (t .after) && beginsAt (t .at) (getD fs (t .j) none))
-    (λ r. let q : t .j < length fs = getD-in (t .at) (t .j) fs (and-right (not (t .after)) (beginsAt (t .at) (getD fs (t .j) none)) r) in rw (p, r) (record { at = omega (arith, hy); i = omega arith; j = omega arith; bi = hi; bj = omega (arith, q) }))
+    (λ p. by-bool (not (t .after) && beginsAt (t .at) (getD fs (t .j) none))
+    (λ r. let q : t .j < length fs = getD-in (t .at) (t .j) fs (and-second (not (t .after)) (beginsAt (t .at) (getD fs (t .j) none)) r) in rw (p, r) (record { at = omega (arith, hy); i = omega arith; j = omega arith; bi = hi; bj = omega (arith, q) }))
     (λ r. rw (p, r) (record { at = omega arith; i = omega arith; j = omega arith; bi = hi; bj = hj })))
 
 -- ---- the turns of the code, over plain variables
@@ -227,11 +230,14 @@ module _ (k : ℕ) (t u : Reach) (bs fs : List Stretch) (x y : Stretch) (whole :
   pub bounds-law : x .length < 4294967296 → y .length < 4294967296 → t .i ≤ length bs → t .j ≤ length fs → Bounds t u bs fs
   bounds-law hx hy hi hj = subst (λ (r : Reach). Bounds t r bs fs) (sym is-reached) (bounded t bs fs (subst (λ (z : Stretch). z .length < 4294967296) ex hx) (subst (λ (z : Stretch). z .length < 4294967296) ey hy) hi hj)
 
--- one stretch further: an equation for each call's result
-pub reach-law : (t : Reach) (x y : Stretch) {m n : ℕ} {p q : Bool} {other r : Reach} → m ≡ x .length → n ≡ y .length → p ≡ beginsAt (t .at) x → q ≡ beginsAt (t .at) y
-    → other ≡ (if not (t .after) && q then record { at = t .at + n; i = t .i; j = t .j + 1; after = true; stuck = false } else record { at = t .at; i = t .i; j = t .j; after = t .after; stuck = true })
-    → r ≡ (if p then record { at = t .at + m; i = t .i + 1; j = t .j; after = false; stuck = false } else other) → r ≡ reachOf t x y
-reach-law t x y {m = m} {p = p} em en ep eq eo er =
-    er
-    ∙ (λ i. if p then record { at = t .at + m; i = t .i + 1; j = t .j; after = false; stuck = false } else eo i)
-    ∙ (λ i. if ep i then record { at = t .at + em i; i = t .i + 1; j = t .j; after = false; stuck = false } else (if not (t .after) && eq i then record { at = t .at + en i; i = t .i; j = t .j + 1; after = true; stuck = false } else record { at = t .at; i = t .i; j = t .j; after = t .after; stuck = true }))
+-- one stretch further: where a block begins, where a free stretch does, and where neither does
+pub block-reached : (t : Reach) (x y : Stretch) {p : Bool} → p ≡ beginsAt (t .at) x → p ≡ true → record { at = t .at + x .length; i = t .i + 1; j = t .j; after = false; stuck = false } ≡ reachOf t x y
+block-reached t x y ep e = rw (sym ep ∙ e) refl
+
+pub free-reached : (t : Reach) (x y : Stretch) {p q : Bool} → p ≡ beginsAt (t .at) x → p ≡ false → q ≡ beginsAt (t .at) y → not (t .after) && q ≡ true
+    → record { at = t .at + y .length; i = t .i; j = t .j + 1; after = true; stuck = false } ≡ reachOf t x y
+free-reached t x y ep e eq f = rw (sym ep ∙ e, sym (ap (λ (b : Bool). not (t .after) && b) eq) ∙ f) refl
+
+pub none-reached : (t : Reach) (x y : Stretch) {p q : Bool} → p ≡ beginsAt (t .at) x → p ≡ false → q ≡ beginsAt (t .at) y → not (t .after) && q ≡ false
+    → record { at = t .at; i = t .i; j = t .j; after = t .after; stuck = true } ≡ reachOf t x y
+none-reached t x y ep e eq f = rw (sym ep ∙ e, sym (ap (λ (b : Bool). not (t .after) && b) eq) ∙ f) refl

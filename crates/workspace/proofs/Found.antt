@@ -3,18 +3,20 @@
 use mathlib.Core.Path.{_≡_, sym, subst}
 use Prim.Native.Nat.{ℕ, zero, suc, _<_, _≤_}
 use native.Mathlib.Nat.{not-suc-le-zero, le-of-suc-le-suc}
-use mathlib.Core.Bool.{Bool, true, false, true≢false}
+use mathlib.Core.Bool.{Bool, true, true≢false}
 use mathlib.Core.List.{List, [], _∷_}
 use mathlib.Core.Logic.{inl, inr}
 use lib.ListN.{length, getD}
 use lib.Dec.{leb, eqb}
 use borrow.Author.Tests.{ltb-true, leb-true, eqb-true}
 use Rattle.workspace.specs.declared.Stretch.{Stretch}
-use Rattle.workspace.specs.Rules.{every, units, stretch, none, end, isLong, isInside, isApart}
+use Rattle.lists.specs.Lists.{every}
+use Rattle.workspace.specs.Rules.{units, stretch, none, end, isLong, isInside, isApart}
 use Rattle.workspace.specs.Operations.{fits, startsAt, lengthAt}
 use Rattle.workspace.specs.declared.Test.the-variants.{HasUnits}
 use Rattle.workspace.specs.Places.{placeOf, passesOf}
-use Rattle.workspace.proofs.Basics.{cases, ways, and-left, and-right}
+use Rattle.lists.proofs.Tests.{ways, and-first, and-second}
+use Rattle.lists.proofs.ListLaws.{by-bool}
 use Rattle.workspace.proofs.Pieces.{Sound}
 use Rattle.workspace.proofs.Words.{Words, kept-words, sound-kept, All, all-left, all-right, pairs-across, either, Chain, free-chain}
 use Rattle.workspace.proofs.Joining.{Clear}
@@ -23,27 +25,27 @@ use Rattle.workspace.proofs.Joining.{Clear}
 found-all : (p : Stretch → Bool) (a : ℕ) (l : List Stretch) → startsAt a l ≡ true → All p l → p (stretch a (lengthAt a l)) ≡ true
 found-all p a [] e h = absurd (true≢false (sym e))
 found-all p a (b ∷ bs) e h =
-    cases (eqb (b .start) a)
-    (λ q. let t : b .start ≡ a = eqb-true (b .start) a q in rw q (subst (λ (n : ℕ). p (stretch n (b .length)) ≡ true) t (and-left (p b) (every p bs) h)))
-    (λ q. let k : startsAt a bs ≡ true = rw q at e in rw q (found-all p a bs k (and-right (p b) (every p bs) h)))
+    by-bool (eqb (b .start) a)
+    (λ q. let t : b .start ≡ a = eqb-true (b .start) a q in rw q (subst (λ (n : ℕ). p (stretch n (b .length)) ≡ true) t (and-first (p b) (every p bs) h)))
+    (λ q. let k : startsAt a bs ≡ true = rw q at e in rw q (found-all p a bs k (and-second (p b) (every p bs) h)))
 
 apart-clear : (b : Stretch) (fs : List Stretch) → All (isApart b) fs → Clear b fs
 apart-clear b [] h = tt
 apart-clear b (f ∷ fs) h = (
-  ways (either (leb (end b) (f .start)) (leb (end f) (b .start)) (and-left (isApart b f) (every (isApart b) fs) h)) (λ p. inl (leb-true (end b) (f .start) p)) (λ p. inr (leb-true (end f) (b .start) p)),
-  apart-clear b fs (and-right (isApart b f) (every (isApart b) fs) h),
+  ways (either (leb (end b) (f .start)) (leb (end f) (b .start)) (and-first (isApart b f) (every (isApart b) fs) h)) (λ p. inl (leb-true (end b) (f .start) p)) (λ p. inr (leb-true (end f) (b .start) p)),
+  apart-clear b fs (and-second (isApart b f) (every (isApart b) fs) h),
 )
 
 -- each place passes every test that all pass
 at-all : (p : Stretch → Bool) (l : List Stretch) (i : ℕ) → i < length l → All p l → p (getD l i none) ≡ true
 at-all p [] i h e = absurd (not-suc-le-zero h)
-at-all p (x ∷ xs) zero h e = and-left (p x) (every p xs) e
-at-all p (x ∷ xs) (suc i) h e = at-all p xs i (le-of-suc-le-suc h) (and-right (p x) (every p xs) e)
+at-all p (x ∷ xs) zero h e = and-first (p x) (every p xs) e
+at-all p (x ∷ xs) (suc i) h e = at-all p xs i (le-of-suc-le-suc h) (and-second (p x) (every p xs) e)
 
 -- the free stretch that is found is long enough
 pub found-long : (n : ℕ) (l : List Stretch) → fits n l ≡ true → n ≤ getD l (placeOf (passesOf HasUnits n) l) none .length
 found-long n [] e = absurd (true≢false (sym e))
-found-long n (f ∷ fs) e = cases (leb n (f .length)) (λ q. rw q (leb-true n (f .length) q)) (λ q. let k : fits n fs ≡ true = rw q at e in rw q (found-long n fs k))
+found-long n (f ∷ fs) e = by-bool (leb n (f .length)) (λ q. rw q (leb-true n (f .length) q)) (λ q. let k : fits n fs ≡ true = rw q at e in rw q (found-long n fs k))
 
 module _ (bs fs : List Stretch) (s : Sound bs fs) where
   words : Words bs fs

@@ -9,9 +9,11 @@ use lib.ListN.{length}
 use lib.Dec.{eqb}
 use borrow.Author.Tests.{eqb-true, lt-ltb, le-ltb, eq-eqb, ne-eqb}
 use Rattle.workspace.specs.declared.Stretch.{Stretch}
-use Rattle.workspace.specs.Rules.{if_then_else_, stretch, end}
+use Rattle.lists.specs.Lists.{if_then_else_}
+use Rattle.workspace.specs.Rules.{stretch, end}
 use Rattle.workspace.specs.Operations.{startsAt, lengthAt, without, joined}
-use Rattle.workspace.proofs.Basics.{cases, no}
+use Rattle.lists.proofs.ListLaws.{by-bool}
+use Rattle.workspace.proofs.Basics.{no}
 use Rattle.workspace.proofs.Pieces.{Piece, taken, spare, blocksFrom, freeFrom, measure, Good, Sound, Within, free-within}
 
 -- ---- a release: the piece that starts at c becomes free, and free neighbours are joined
@@ -45,7 +47,7 @@ merged-measure (spare n ∷ ps) = ahead-measure n (merged ps) ∙ ap (λ (k : �
 flipped-measure : (c a : ℕ) (ps : List Piece) → measure (flipped c a ps) ≡ measure ps
 unfolding flipped
 flipped-measure c a [] = refl
-flipped-measure c a (taken n ∷ ps) = cases (eqb a c) (λ e. rw e refl) (λ e. rw e (ap (λ (k : ℕ). n + k) (flipped-measure c (a + n) ps)))
+flipped-measure c a (taken n ∷ ps) = by-bool (eqb a c) (λ e. rw e refl) (λ e. rw e (ap (λ (k : ℕ). n + k) (flipped-measure c (a + n) ps)))
 flipped-measure c a (spare n ∷ ps) = ap (λ (k : ℕ). n + k) (flipped-measure c (a + n) ps)
 
 ahead-blocks : (n a : ℕ) (ps : List Piece) → blocksFrom a (ahead n ps) ≡ blocksFrom (a + n) ps
@@ -63,7 +65,7 @@ merged-blocks a (spare n ∷ ps) = ahead-blocks n a (merged ps) ∙ merged-block
 flipped-blocks : (c a : ℕ) (ps : List Piece) → blocksFrom a (flipped c a ps) ≡ without c (blocksFrom a ps)
 unfolding flipped
 flipped-blocks c a [] = refl
-flipped-blocks c a (taken n ∷ ps) = cases (eqb a c) (λ e. rw e refl) (λ e. rw e (ap (λ (l : List Stretch). stretch a n ∷ l) (flipped-blocks c (a + n) ps)))
+flipped-blocks c a (taken n ∷ ps) = by-bool (eqb a c) (λ e. rw e refl) (λ e. rw e (ap (λ (l : List Stretch). stretch a n ∷ l) (flipped-blocks c (a + n) ps)))
 flipped-blocks c a (spare n ∷ ps) = flipped-blocks c (a + n) ps
 
 -- all lengths are above 0
@@ -80,7 +82,7 @@ good-long after (spare n ∷ ps) g = (g .0, good-long true ps (g .2))
 flipped-long : (c a : ℕ) (ps : List Piece) → Long ps → Long (flipped c a ps)
 unfolding flipped
 flipped-long c a [] g = tt
-flipped-long c a (taken n ∷ ps) g = cases (eqb a c) (λ e. rw e g) (λ e. rw e (g .0, flipped-long c (a + n) ps (g .1)))
+flipped-long c a (taken n ∷ ps) g = by-bool (eqb a c) (λ e. rw e g) (λ e. rw e (g .0, flipped-long c (a + n) ps (g .1)))
 flipped-long c a (spare n ∷ ps) g = (g .0, flipped-long c (a + n) ps (g .1))
 
 ahead-good : (n : ℕ) (ps : List Piece) → 0 < n → Good false ps → Good false (ahead n ps)
@@ -121,7 +123,7 @@ ahead-free n a (spare m ∷ ps) h g =
 
 starts-from : (c a : ℕ) (ps : List Piece) → startsAt c (blocksFrom a ps) ≡ true → a ≤ c
 starts-from c a [] e = absurd (true≢false (sym e))
-starts-from c a (taken n ∷ ps) e = cases (eqb a c) (λ f. let q : a ≡ c = eqb-true a c f in omega (arith, q)) (λ f. let k : startsAt c (blocksFrom (a + n) ps) ≡ true = rw f at e in let ih : a + n ≤ c = starts-from c (a + n) ps k in omega (arith, ih))
+starts-from c a (taken n ∷ ps) e = by-bool (eqb a c) (λ f. let q : a ≡ c = eqb-true a c f in omega (arith, q)) (λ f. let k : startsAt c (blocksFrom (a + n) ps) ≡ true = rw f at e in let ih : a + n ≤ c = starts-from c (a + n) ps k in omega (arith, ih))
 starts-from c a (spare n ∷ ps) e = let ih : a + n ≤ c = starts-from c (a + n) ps e in omega (arith, ih)
 
 ahead-ahead : (n k : ℕ) (ps : List Piece) → ahead n (ahead k ps) ≡ ahead (n + k) ps
@@ -134,13 +136,13 @@ pub freed : (c a : ℕ) (after : Bool) (ps : List Piece) → Good after ps → s
 unfolding merged flipped ahead
 freed c a after [] g e = absurd (true≢false (sym e))
 freed c a after (taken n ∷ ps) g e =
-    cases (eqb a c)
+    by-bool (eqb a c)
     (λ f. let q : a ≡ c = eqb-true a c f in rw f (rw (merged-same false ps (g .1)) (ahead-free n a ps (g .0) (g .1) ∙ ap (λ (k : ℕ). joined (stretch k n) (freeFrom (a + n) ps)) q)))
     (λ f. let k : startsAt c (blocksFrom (a + n) ps) ≡ true = rw f at e in rw f (freed c (a + n) false ps (g .1) k))
 freed c a after (spare n ∷ []) g e = absurd (true≢false (sym e))
 freed c a after (spare n ∷ spare m ∷ ps) g e = absurd (true≢false (g .2 .1))
 freed c a after (spare n ∷ taken m ∷ ps) g e =
-    cases (eqb (a + n) c)
+    by-bool (eqb (a + n) c)
     (λ f.
     let q : a + n ≡ c = eqb-true (a + n) c f in
     let r : a + (n + m) ≡ a + n + m = omega arith in

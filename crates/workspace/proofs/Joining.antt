@@ -1,23 +1,25 @@
 -- A block that is given back at its place of a padded table is joined as the rules say.
 -- Assumes nothing.
 use mathlib.Core.Path.{_≡_, refl, sym, _∙_, ap, subst}
-use Prim.Native.Nat.{ℕ, zero, suc, _+_, _-_, _%_, _<_, _≤_, min}
+use Prim.Native.Nat.{ℕ, zero, suc, _+_, _-_, _%_, _<_, _≤_}
 use native.Mathlib.Nat.{not-suc-le-zero, le-of-suc-le-suc}
 use native.Mathlib.Omega.{arith}
 use mathlib.Core.Bool.{Bool, true, false, _&&_}
-use mathlib.Core.List.{List, [], _∷_, _++_}
+use mathlib.Core.List.{List, [], _∷_}
 use mathlib.Core.Logic.{_⊎_}
 use lib.ListN.{length, getD}
 use lib.Dec.{ltb, eqb}
 use borrow.Author.Tests.{ltb-true, ltb-false, eqb-true, lt-ltb, eq-eqb, ne-eqb}
 use Rattle.workspace.specs.declared.Stretch.{Stretch}
-use Rattle.workspace.specs.Rules.{if_then_else_, units, stretch, none, end}
+use Rattle.lists.specs.Lists.{bit}
+use Rattle.workspace.specs.Rules.{units, stretch, none, end}
 use Rattle.workspace.specs.Operations.{joined}
 use Rattle.workspace.specs.declared.Test.the-variants.{StartsBehind}
 use Rattle.workspace.specs.Places.{placeOf, passesOf, insertAt}
 use Rattle.workspace.specs.Steps.{touchesLow, touchesHigh, wholeAs, give, giveBack, countBack}
-use Rattle.workspace.proofs.Basics.{cases, ways, no}
-use Rattle.workspace.proofs.Pieces.{bit}
+use Rattle.lists.proofs.Tests.{ways}
+use Rattle.lists.proofs.ListLaws.{by-bool}
+use Rattle.workspace.proofs.Basics.{no}
 use Rattle.workspace.proofs.Words.{Chain}
 use Rattle.workspace.proofs.Padded.{pad, push, pad-snoc}
 
@@ -54,7 +56,7 @@ alone b K l h k = record {
 in-front : (b f : Stretch) (K : ℕ) (fs : List Stretch) → 0 < b .length → b .start < f .start → end b ≤ f .start → 0 < f .length → end f ≤ units → length (f ∷ fs) ≤ suc K → length (joined b (f ∷ fs)) ≤ suc K → Gives b (suc K) 0 (f ∷ fs)
 in-front b f K fs l lt h lf hf n j =
     let p : eqb (end f) (b .start) ≡ false = ne-eqb (end f) (b .start) (λ e. no (omega (arith, e, lt))) in
-    cases (eqb (end b) (f .start))
+    by-bool (eqb (end b) (f .start))
     (λ q.
     let e : end b ≡ f .start = eqb-true (end b) (f .start) q in
     record {
@@ -86,7 +88,7 @@ next-to b f K [] l e lf h c d n =
       high = false;
       is-low = p;
       is-high = ap (λ (s : Stretch). eqb (end b) (s .start)) (pad-first K) ∙ ne-eqb (end b) 0 (λ q. no (omega (arith, q, l)));
-      gives = rw p ((λ i. insertAt 0 (stretch (f .start) (let z : ((f .length + b .length) % 4294967296 + 0) % 4294967296 ≡ f .length + b .length = omega (arith, e, h) in z i)) (pad-snoc K [] (le-of-suc-le-suc n) i)) ∙ push (suc K) (stretch (f .start) (f .length + b .length)) [] (omega arith));
+      gives = rw p (λ i. stretch (f .start) (let z : ((f .length + b .length) % 4294967296 + 0) % 4294967296 ≡ f .length + b .length = omega (arith, e, h) in z i) ∷ pad K []);
       counts = rw p (omega arith);
     }
 next-to b f zero (g ∷ gs) l e lf h c d n = no (omega (arith, n))
@@ -95,7 +97,7 @@ next-to b f (suc K) (g ∷ gs) l e lf h c d n =
     let s : end f + 1 ≤ g .start = c .0 in
     let r : eqb (end g) (f .start) ≡ false = ne-eqb (end g) (f .start) (λ q. no (omega (arith, q, s))) in
     let o : f .start + (f .length + b .length) ≡ end b = omega (arith, e) in
-    cases (eqb (end b) (g .start))
+    by-bool (eqb (end b) (g .start))
     (λ q.
     let t : eqb (f .start + (f .length + b .length)) (g .start) ≡ true = ap (λ (n : ℕ). eqb n (g .start)) o ∙ q in
     let u : end b ≡ g .start = eqb-true (end b) (g .start) q in
@@ -105,8 +107,7 @@ next-to b f (suc K) (g ∷ gs) l e lf h c d n =
       high = true;
       is-low = p;
       is-high = q;
-      gives = rw (p, r, t) ((λ i. insertAt 0 (stretch (f .start) (let z : ((f .length + b .length) % 4294967296 + g .length) % 4294967296 ≡ f .length + b .length + g .length = omega (arith, e, u, v) in z i)) (pad-snoc K gs (le-of-suc-le-suc (le-of-suc-le-suc n)) i ++ none ∷ []))
-          ∙ ap (λ (l : List Stretch). insertAt 0 (stretch (f .start) (f .length + b .length + g .length)) l) (pad-snoc (suc K) gs (let m : length (f ∷ g ∷ gs) ≤ suc (suc K) = n in omega (arith, m))) ∙ push (suc (suc K)) (stretch (f .start) (f .length + b .length + g .length)) gs (let m : length (f ∷ g ∷ gs) ≤ suc (suc K) = n in omega (arith, m)));
+      gives = rw (p, r, t) (λ i. stretch (f .start) (let z : ((f .length + b .length) % 4294967296 + g .length) % 4294967296 ≡ f .length + b .length + g .length = omega (arith, e, u, v) in z i) ∷ pad-snoc K gs (le-of-suc-le-suc (le-of-suc-le-suc n)) i);
       counts = rw (p, r, t) (omega arith);
     })
     (λ q.
@@ -117,7 +118,7 @@ next-to b f (suc K) (g ∷ gs) l e lf h c d n =
       high = false;
       is-low = p;
       is-high = q;
-      gives = rw (p, r, t, w) ((λ i. insertAt 0 (stretch (f .start) (let z : ((f .length + b .length) % 4294967296 + 0) % 4294967296 ≡ f .length + b .length = omega (arith, e, h) in z i)) (pad-snoc (suc K) (g ∷ gs) (le-of-suc-le-suc n) i)) ∙ push (suc (suc K)) (stretch (f .start) (f .length + b .length)) (g ∷ gs) n);
+      gives = rw (p, r, t, w) (λ i. stretch (f .start) (let z : ((f .length + b .length) % 4294967296 + 0) % 4294967296 ≡ f .length + b .length = omega (arith, e, h) in z i) ∷ g ∷ pad K gs);
       counts = rw (p, r, t, w) (omega arith);
     })
 
@@ -170,7 +171,7 @@ gives-back b K a [] l h c d n j = alone b K l h j
 gives-back b zero a (f ∷ fs) l h c d n j = absurd (not-suc-le-zero n)
 gives-back b (suc K) a (f ∷ fs) l h c d n j =
     let lf : 0 < f .length = c .1 in
-    cases (ltb (b .start) (f .start))
+    by-bool (ltb (b .start) (f .start))
     (λ p.
     let lt : b .start < f .start = ltb-true (b .start) (f .start) p in
     let k : placeOf (passesOf StartsBehind (b .start)) (f ∷ fs) ≡ 0 = rw p refl in
@@ -180,7 +181,7 @@ gives-back b (suc K) a (f ∷ fs) l h c d n j =
     let le : f .start ≤ b .start = ltb-false (b .start) (f .start) p in
     let k : placeOf (passesOf StartsBehind (b .start)) (f ∷ fs) ≡ suc (placeOf (passesOf StartsBehind (b .start)) fs) = rw p refl in
     let e : end f ≤ b .start = ways (d .0) (λ q. no (omega (arith, q, l, le))) (λ q. q) in
-    cases (eqb (end f) (b .start))
+    by-bool (eqb (end f) (b .start))
     (λ q.
     let t : end f ≡ b .start = eqb-true (end f) (b .start) q in
     let z : placeOf (passesOf StartsBehind (b .start)) fs ≡ 0 = place-zero b (end f + 1) fs (omega (arith, t)) (c .3) in
@@ -189,13 +190,6 @@ gives-back b (suc K) a (f ∷ fs) l h c d n j =
     let r : joined b (f ∷ fs) ≡ f ∷ joined b fs = rw (q, ne-eqb (end b) (f .start) (λ t. no (omega (arith, t, l, le))), p) refl in
     let m : length (f ∷ joined b fs) ≤ suc K = subst (λ (u : List Stretch). length u ≤ suc K) r j in
     subst (λ (k : ℕ). Gives b (suc K) k (f ∷ fs)) (sym k) (one-on b f K (placeOf (passesOf StartsBehind (b .start)) fs) fs r q (gives-back b K (end f + 1) fs l h (c .3) (d .1) (le-of-suc-le-suc n) (le-of-suc-le-suc m)))))
-
-some : (b : Stretch) (fs : List Stretch) → 0 < length (joined b fs)
-some b [] = omega arith
-some b (f ∷ fs) =
-    cases (eqb (end f) (b .start))
-    (λ e. rw e (some (stretch (f .start) (f .length + b .length)) fs))
-    (λ e. cases (eqb (end b) (f .start)) (λ q. rw (e, q) (omega arith)) (λ q. cases (ltb (b .start) (f .start)) (λ t. rw (e, q, t) (omega arith)) (λ t. rw (e, q, t) (omega arith))))
 
 -- ---- what the code does
 module _ (b : Stretch) (a : ℕ) (fs : List Stretch) (l : 0 < b .length) (h : end b ≤ units) (c : Chain 1 a fs) (d : Clear b fs) (n : length fs ≤ 32) (j : length (joined b fs) ≤ 32) where
@@ -211,10 +205,4 @@ module _ (b : Stretch) (a : ℕ) (fs : List Stretch) (l : 0 < b .length) (h : en
 
   pub count-joined : countBack b k (length fs) (pad 32 fs) ≡ length (joined b fs)
   unfolding countBack
-  count-joined = (λ i. min (if g .is-high i then (if g .is-low i then length fs - 1 else length fs) - 1 else (if g .is-low i then length fs - 1 else length fs)) 32 + 1) ∙ by-flags (g .low) (g .high) (g .counts) (some b fs)
-    where
-      by-flags : (low high : Bool) → length (joined b fs) + bit low + bit high ≡ length fs + 1 → 0 < length (joined b fs) → min (if high then (if low then length fs - 1 else length fs) - 1 else (if low then length fs - 1 else length fs)) 32 + 1 ≡ length (joined b fs)
-      by-flags true true e p = omega (arith, e, n, j, p)
-      by-flags true false e p = omega (arith, e, n, j, p)
-      by-flags false true e p = omega (arith, e, n, j, p)
-      by-flags false false e p = omega (arith, e, n, j, p)
+  count-joined = let e : length (joined b fs) + bit (g .low) + bit (g .high) ≡ length fs + 1 = g .counts in (λ i. length fs + 1 - bit (g .is-low i) - bit (g .is-high i)) ∙ omega (arith, e)

@@ -6,7 +6,7 @@
 --     operates     the code meets it, where what is to be done says the outcome
 -- The signatures of the two are the same, and so are those of `requested` and `released`: each stands here by the name of the first.
 -- Assumes `Given`.
-use Rattle.workspace.proofs.Prelude.{_≡_, refl, _∙_, subst, ℕ, _<_, _^_, List, [], _∷_, length, URA, fullShare, named, erased, imm, mut, w32, Ty, tyInt, tyUnit, Val, vint, SProp, ent, emp, via, fst∗, snd∗, exE, Lft, Share, ftrue, fat, froom, fdies, flft, Memory, Routine, Heap, Env, WpFn, Calls, Loops, Tables, Atoms, sem, Fun, fact, Given, Item, _⊛_, ⋆, runs, atRet, Sq, _$_, _∵_, !, qed, by, move, drop, split, join, fsplit, fjoin, suffices, frame, done, agg, whole, sub, look-in, look, init, forget, stop, hop, fld, from, load, addr, of-opd, and-then, no-more, assigns, land, returns, enter, alloc1, alloc0, params1, pass1, pass0, free1, free0, FmC, fmOf, WpFn-mono, owns, Is, uint-vals, uint-tells, uint-makes, u32, RefT, MutSlice, Room, finally, slice-vals, mut-slice-tells, plain, nothing, owned, Vals, onEntry, Meets, tripleOf, Contract, Triple, ensured, lasts, says, Stays, gave-slice, stay-none, walkOf, AllGo, goes-gave-slice, goes-none, Walks, ends-at, walked, walk-meets, yes, ‵, lit, lit<, now, Body, assign, call, return, seq}
+use Rattle.workspace.proofs.Prelude.{_≡_, refl, _∙_, subst, ℕ, _<_, _^_, List, [], _∷_, length, URA, fullShare, named, erased, imm, mut, w32, Ty, tyInt, tyUnit, Val, vint, SProp, ent, emp, via, fst∗, snd∗, exE, Lft, Share, ftrue, fat, froom, fdies, flft, Memory, Routine, Heap, Env, WpFn, Calls, Loops, Tables, Atoms, sem, Fun, fact, Given, Item, _⊛_, ⋆, runs, atRet, Sq, _$_, _∵_, !, qed, by, move, drop, split, join, fsplit, fjoin, suffices, frame, done, agg, whole, sub, look-in, look, init, stop, hop, fld, from, load, addr, of-opd, and-then, no-more, assigns, land, returns, enter, alloc1, alloc0, params1, pass1, pass0, free0, FmC, fmOf, WpFn-mono, owns, Is, uint-vals, uint-tells, uint-makes, u32, RefT, MutSlice, Room, finally, slice-vals, mut-slice-tells, plain, nothing, owned, Vals, onEntry, Meets, tripleOf, Contract, Triple, ensured, lasts, says, Stays, gave-slice, stay-none, walkOf, AllGo, goes-gave-slice, goes-none, Walks, ends-at, walked, walk-meets, yes, ‵, lit, lit<, now, Body, assign, call, return, seq}
 use mir.Syntax.{Name, Fn, Local, local, valueLocal, Opd as Operand, copy, int, place, field, deref, addrOf, aggregate, rvOpd}
 use types.Kit.{Go, nth}
 use types.Run.{Opd}
@@ -19,6 +19,7 @@ use Rattle.workspace.specs.declared.Done.{Done}
 use Rattle.workspace.specs.Operations.{Outcome, answerOf, blocksAfter, freeAfter}
 use Rattle.workspace.specs.Seen.{laid, lookOf}
 use Rattle.workspace.proofs.Bridge.{Says}
+use Rattle.workspace.proofs.Walks.{lets-go}
 use Rattle.workspace.proofs.Calls.{Told, tells-struct, calls-told}
 use Rattle.workspace.proofs.Both.{ptr, slice, answer, counts, Counts, looked, Looked, low, Low, Lent, val, LookAt, WriteBack, looks, writes-back}
 use Rattle.workspace.proofs.Stretch as T
@@ -205,9 +206,7 @@ module _ {M : Type 1} (𝓤 : URA M) (H : Heap 𝓤) (A : Atoms 𝓤) (W : Given
         writes-back ! mem run κ₁ κ₂ q₁ q₂ t₁ t₂ r gr fm known-write-back (and-then ! (load ! (from ! (stop !)) (look ! 5 refl)) (and-then ! (load ! (from ! (stop !)) (look ! 1 refl)) (and-then ! (load ! (from ! (stop !)) (look ! 19 refl)) (no-more !)))) (λ us vs e n₁ n₂.
         land ! (from ! (stop !)) (init ! 12 refl (tt, tt)) $
         assigns ! (of-opd ! (load ! (from ! (fld ! refl (stop !))) (look-in ! 22 (sub ! 2 refl (whole !))))) (from ! (stop !)) (init ! 34 refl (LL.lawful R.the-type R′.the-laws 𝓤 H A W .typed (r .answer) _ (LL.owed N.the-type N′.the-laws r _ gr .1 .1 .0) .0)) $
-        returns ! (look ! 34 refl) $ forget ! 4 refl $ forget ! 6 refl $ forget ! 8 refl $ forget ! 10 refl $ forget ! 12 refl $ forget ! 14 refl $ forget ! 16 refl $ forget ! 18 refl $ forget ! 20 refl $ forget ! 22 refl $ forget ! 24 refl $ forget ! 26 refl $ forget ! 28 refl $ forget ! 30 refl $ forget ! 32 refl $ forget ! 34 refl $
-        move ! (34 ∷ 35 ∷ []) $ free1 ! $ move ! (32 ∷ 33 ∷ []) $ free1 ! $ move ! (30 ∷ 31 ∷ []) $ free1 ! $ move ! (28 ∷ 29 ∷ []) $ free1 ! $ move ! (26 ∷ 27 ∷ []) $ free1 ! $ move ! (24 ∷ 25 ∷ []) $ free1 ! $ move ! (22 ∷ 23 ∷ []) $ free1 ! $ move ! (20 ∷ 21 ∷ []) $ free1 ! $
-        move ! (18 ∷ 19 ∷ []) $ free1 ! $ move ! (16 ∷ 17 ∷ []) $ free1 ! $ move ! (14 ∷ 15 ∷ []) $ free1 ! $ move ! (12 ∷ 13 ∷ []) $ free1 ! $ move ! (10 ∷ 11 ∷ []) $ free1 ! $ move ! (8 ∷ 9 ∷ []) $ free1 ! $ move ! (6 ∷ 7 ∷ []) $ free1 ! $ move ! (4 ∷ 5 ∷ []) $ free1 ! $ free0 ! $
+        returns ! (look ! 34 refl) $ lets-go ! 34 refl refl $ lets-go ! 32 refl refl $ lets-go ! 30 refl refl $ lets-go ! 28 refl refl $ lets-go ! 26 refl refl $ lets-go ! 24 refl refl $ lets-go ! 22 refl refl $ lets-go ! 20 refl refl $ lets-go ! 18 refl refl $ lets-go ! 16 refl refl $ lets-go ! 14 refl refl $ lets-go ! 12 refl refl $ lets-go ! 10 refl refl $ lets-go ! 8 refl refl $ lets-go ! 6 refl refl $ lets-go ! 4 refl refl $ free0 ! $
         by ! (exits us vs e n₁ n₂ (LL.owed N.the-type N′.the-laws r _ gr .1 .1 .0)))))
 
   -- from the call on

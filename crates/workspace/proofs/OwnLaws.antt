@@ -14,7 +14,8 @@ use Rattle.workspace.specs.declared.Used.{Used}
 use Rattle.workspace.specs.declared.Look.{Look}
 use Rattle.workspace.specs.declared.Done.{Done}
 use Rattle.workspace.specs.declared.Test.the-variants.{HasUnits}
-use Rattle.workspace.specs.Rules.{every, none, isNone}
+use Rattle.lists.specs.Lists.{every}
+use Rattle.workspace.specs.Rules.{none, isNone}
 use Rattle.workspace.specs.Operations.{Outcome, freshOf, requestOf, releaseOf, blocksAfter, freeAfter, answerOf, unused}
 use Rattle.workspace.specs.Owning.{tablesAs, ownedAfter, ownedFresh}
 use Rattle.workspace.specs.Places.{placeOf, passesOf}
@@ -29,11 +30,11 @@ table-32 : (l : List Stretch) → length l ≡ 32 → _≡_ {A = Table} (record 
 unfolding tableOf
 table-32 l h = λ i. record { places = sym (over-same (replicate 32 none) l (replicate-length 32 none ∙ sym h)) i; clear = ap (every isNone) (sym (drop-of-length-le l (let k : length l ≤ 32 = omega (arith, h) in k))) i }
 
-pub looked-law : (b f : List Stretch) (n p : ℕ) (r : Look) → length b ≡ 32 → length f ≡ 32 → p ≡ placeOf (passesOf HasUnits n) (take 32 f) → r ≡ seenAs (record { places = b; clear = true }) (record { places = f; clear = true }) 32 32 p → r ≡ lookOf b f n
+pub looked-law : (b f : List Stretch) (n p : ℕ) → length b ≡ 32 → length f ≡ 32 → p ≡ placeOf (passesOf HasUnits n) (take 32 f) → record { blocks = b; free = f; long = true; clear = true; place = p } ≡ lookOf b f n
 unfolding lookOf
-looked-law b f n p r hb hf ep er =
+looked-law b f n p hb hf ep =
     let q : p ≡ placeOf (passesOf HasUnits n) f = ep ∙ ap (placeOf (passesOf HasUnits n)) (take-all 32 f (omega (arith, hf))) in
-    er ∙ (λ i. seenAs (table-32 b hb i) (table-32 f hf i) (sym hb i) (sym hf i) (q i))
+    λ i. seenAs (table-32 b hb i) (table-32 f hf i) (sym hb i) (sym hf i) (q i)
 
 -- all of a table of 32 places is written
 laid-32 : (t : Table) (l : List Stretch) → length l ≡ 32 → length (t .places) ≡ 32 → t .places ≡ laid t l

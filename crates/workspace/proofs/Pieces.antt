@@ -7,6 +7,7 @@ use native.Mathlib.Omega.{arith}
 use mathlib.Core.Bool.{Bool, true, false, true≢false}
 use mathlib.Core.List.{List, [], _∷_}
 use lib.ListN.{length}
+use Rattle.lists.specs.Lists.{bit}
 use Rattle.workspace.specs.declared.Stretch.{Stretch}
 use Rattle.workspace.specs.Rules.{units, stretch, end, total}
 
@@ -50,10 +51,6 @@ pub record Sound (blocks free : List Stretch) : Type 0 where
 abbrev pub Within : ℕ → ℕ → List Stretch → Type 0
 Within a e [] = Unit {0}
 Within a e (s ∷ ss) = ((a ≤ s .start) × (end s ≤ e)) × Within a e ss
-
-abbrev pub bit : Bool → ℕ
-bit true = 1
-bit false = 0
 
 -- "their lengths always add up to the area"
 pub adds-up : (a : ℕ) (ps : List Piece) → total (blocksFrom a ps) + total (freeFrom a ps) ≡ measure ps

@@ -12,8 +12,10 @@ use lib.Seq.{take-all, drop-cons}
 use lib.Dec.{ltb}
 use borrow.Author.Tests.{ltb-true, ltb-false, lt-ltb, le-ltb}
 use Rattle.workspace.specs.declared.Stretch.{Stretch}
-use Rattle.workspace.proofs.Basics.{cases, and-true}
-use Rattle.workspace.specs.Rules.{if_then_else_, every, none, isNone}
+use Rattle.lists.proofs.ListLaws.{by-bool}
+use Rattle.workspace.proofs.Basics.{and-true}
+use Rattle.lists.specs.Lists.{if_then_else_, every}
+use Rattle.workspace.specs.Rules.{none, isNone}
 use Rattle.workspace.specs.Places.{placeOf, over, removeAt, insertAt}
 use Rattle.workspace.specs.Seen.{tableOf, noteOf}
 
@@ -59,20 +61,20 @@ over-full (x ∷ xs) (y ∷ ys) (suc i) h = ap (λ (l : List _). y ∷ l) (over-
 
 pub over-all : {A : Type 0} (xs ys : List A) (i : ℕ) → min (length xs) (length ys) ≤ i → over xs (take i ys) ≡ over xs ys
 over-all xs ys i h =
-    cases (ltb i (length xs))
+    by-bool (ltb i (length xs))
     (λ e. ap (over xs) (take-all i ys (let f : i < length xs = ltb-true i (length xs) e in omega (arith, f, h))))
     (λ e. over-full xs ys i (ltb-false i (length xs) e))
 
 -- ---- all places from the k-th on are unused
 ltb-suc : (i k : ℕ) → ltb (suc i) (suc k) ≡ ltb i k
-ltb-suc i k = cases (ltb i k)
+ltb-suc i k = by-bool (ltb i k)
     (λ e. lt-ltb (suc i) (suc k) (let f : i < k = ltb-true i k e in omega (arith, f)) ∙ sym e)
     (λ e. le-ltb (suc i) (suc k) (let f : k ≤ i = ltb-false i k e in omega (arith, f)) ∙ sym e)
 
 every-suc : {A : Type 0} (p : A → Bool) (l : List A) (i : ℕ) (d : A) → i < length l → every p (take i l) && p (getD l i d) ≡ every p (take (suc i) l)
 every-suc p [] i d h = absurd (not-suc-le-zero h)
 every-suc p (x ∷ xs) zero d h = sym (and-true (p x))
-every-suc p (x ∷ xs) (suc i) d h = cases (p x) (λ e. simp (e, every-suc p xs i d (le-of-suc-le-suc h))) (λ e. simp e)
+every-suc p (x ∷ xs) (suc i) d h = by-bool (p x) (λ e. simp (e, every-suc p xs i d (le-of-suc-le-suc h))) (λ e. simp e)
 
 clear-suc : {A : Type 0} (p : A → Bool) (k : ℕ) (l : List A) (i : ℕ) (d : A) → i < length l → every p (drop k (take i l)) && (ltb i k || p (getD l i d)) ≡ every p (drop k (take (suc i) l))
 clear-suc p k [] i d h = absurd (not-suc-le-zero h)
@@ -101,20 +103,20 @@ getD-snoc [] (suc i) = refl
 getD-snoc (x ∷ xs) zero = refl
 getD-snoc (x ∷ xs) (suc i) = getD-snoc xs i
 
-remove-suc : (p : ℕ) (l : List Stretch) (i : ℕ) → getD (removeAt p l) i none ≡ (if ltb i p then getD l i none else getD l (suc i) none)
-remove-suc p [] i = cases (ltb i p) (λ e. rw e refl) (λ e. rw e refl)
-remove-suc zero (x ∷ xs) i = rw (le-ltb i 0 zero-le) (getD-snoc xs i)
-remove-suc (suc p) (x ∷ xs) zero = rw (lt-ltb 0 (suc p) (omega arith)) refl
-remove-suc (suc p) (x ∷ xs) (suc i) = rw (ltb-suc i p) (remove-suc p xs i)
-
-pub remove-at : (p : ℕ) (l : List Stretch) (i : ℕ) → getD (removeAt p l) i none ≡ (if ltb i p then getD l i none else getD l (i + 1) none)
-remove-at p l i = rw add-one (remove-suc p l i)
-
-pub remove-before : (p : ℕ) (l : List Stretch) (i : ℕ) → i < p → getD (removeAt p l) i none ≡ getD l i none
-remove-before p l i h = remove-at p l i ∙ ap (λ (b : Bool). if b then getD l i none else getD l (i + 1) none) (lt-ltb i p h)
+remove-suc : (p : ℕ) (l : List Stretch) (i : ℕ) → p ≤ i → getD (removeAt p l) i none ≡ getD l (suc i) none
+remove-suc p [] i h = refl
+remove-suc zero (x ∷ xs) i h = getD-snoc xs i
+remove-suc (suc p) (x ∷ xs) zero h = absurd (not-suc-le-zero h)
+remove-suc (suc p) (x ∷ xs) (suc i) h = remove-suc p xs i (le-of-suc-le-suc h)
 
 pub remove-behind : (p : ℕ) (l : List Stretch) (i : ℕ) → p ≤ i → getD (removeAt p l) i none ≡ getD l (i + 1) none
-remove-behind p l i h = remove-at p l i ∙ ap (λ (b : Bool). if b then getD l i none else getD l (i + 1) none) (le-ltb i p h)
+remove-behind p l i h = rw add-one (remove-suc p l i h)
+
+-- the places before p stay
+pub remove-front : (p : ℕ) (l : List Stretch) → l ≡ over l (take p (removeAt p l))
+remove-front zero l = sym (over-nil l)
+remove-front (suc p) [] = refl
+remove-front (suc p) (x ∷ xs) = ap (λ (l : List Stretch). x ∷ l) (remove-front p xs)
 
 snoc-length : (l : List Stretch) → length (l ++ none ∷ []) ≡ suc (length l)
 snoc-length [] = refl
@@ -141,6 +143,10 @@ over-same (x ∷ xs) (y ∷ ys) e = ap (λ (l : List _). y ∷ l) (over-same xs 
     suc-inj : {n m : ℕ} → suc n ≡ suc m → n ≡ m
     suc-inj q = omega (arith, q)
 
+-- a list of the same length is laid over in full
+pub over-laid : {A : Type 0} (xs ys : List A) (i : ℕ) → length ys ≡ length xs → length xs ≤ i → over xs (take i ys) ≡ ys
+over-laid xs ys i e h = over-all xs ys i (omega (arith, h)) ∙ over-same xs ys (sym e)
+
 -- ---- x is put in
 pub insert-length : (p : ℕ) (x : Stretch) (l : List Stretch) → length (insertAt p x l) ≡ length l
 insert-length p x [] = refl
@@ -153,11 +159,11 @@ insert-zero x (y ∷ []) i h = absurd (not-suc-le-zero (le-of-suc-le-suc h))
 insert-zero x (y ∷ z ∷ zs) zero h = refl
 insert-zero x (y ∷ z ∷ zs) (suc i) h = insert-zero y (z ∷ zs) i (le-of-suc-le-suc h)
 
-pub insert-before : (p : ℕ) (x : Stretch) (l : List Stretch) (i : ℕ) → i < p → getD (insertAt p x l) i none ≡ getD l i none
-insert-before p x [] i h = refl
-insert-before zero x (y ∷ ys) i h = absurd (not-suc-le-zero h)
-insert-before (suc p) x (y ∷ ys) zero h = refl
-insert-before (suc p) x (y ∷ ys) (suc i) h = insert-before p x ys i (le-of-suc-le-suc h)
+-- the places before p stay
+pub insert-front : (p : ℕ) (x : Stretch) (l : List Stretch) → l ≡ over l (take p (insertAt p x l))
+insert-front zero x l = sym (over-nil l)
+insert-front (suc p) x [] = refl
+insert-front (suc p) x (y ∷ ys) = ap (λ (l : List Stretch). y ∷ l) (insert-front p x ys)
 
 pub insert-here : (p : ℕ) (x : Stretch) (l : List Stretch) → p < length l → getD (insertAt p x l) p none ≡ x
 insert-here p x [] h = absurd (not-suc-le-zero h)
@@ -170,9 +176,8 @@ insert-suc zero x (y ∷ ys) i h k = insert-zero x (y ∷ ys) i k
 insert-suc (suc p) x (y ∷ ys) zero h k = absurd (not-suc-le-zero h)
 insert-suc (suc p) x (y ∷ ys) (suc i) h k = insert-suc p x ys i (le-of-suc-le-suc h) (le-of-suc-le-suc k)
 
-pub insert-behind : (p : ℕ) (x : Stretch) (l : List Stretch) (i : ℕ) → p < i → i < length l → getD (insertAt p x l) i none ≡ getD l (i - 1) none
-insert-behind p x l zero h k = absurd (not-suc-le-zero h)
-insert-behind p x l (suc i) h k = insert-suc p x l i (le-of-suc-le-suc h) k ∙ ap (λ (j : ℕ). getD l j none) (let e : i ≡ suc i - 1 = omega arith in e)
+pub insert-behind : (p : ℕ) (x : Stretch) (l : List Stretch) (i : ℕ) → p ≤ i → i + 1 < length l → getD (insertAt p x l) (i + 1) none ≡ getD l i none
+insert-behind p x l i h k = rw add-one (insert-suc p x l i h (let m : suc i < length l = omega (arith, k) in m))
 
 -- ---- the places used
 pub take-in : (n : ℕ) (l : List Stretch) (i : ℕ) → i < n → getD (take n l) i none ≡ getD l i none

@@ -6,18 +6,19 @@ use native.Mathlib.Nat.{not-suc-le-zero, le-of-suc-le-suc}
 use native.Mathlib.Omega.{arith}
 use mathlib.Core.Bool.{Bool, true, false, _&&_, _||_}
 use mathlib.Core.List.{List, [], _∷_, _++_}
-use lib.ListN.{length, getD, set, take, drop, replicate}
+use lib.ListN.{length, getD, set, take, replicate}
 use lib.Dec.{ltb}
 use borrow.Author.Tests.{ltb-true, ltb-false}
 use Rattle.workspace.specs.declared.Stretch.{Stretch}
 use Rattle.workspace.specs.declared.Table.{Table}
-use Rattle.workspace.specs.Rules.{if_then_else_, every, none, isNone}
+use Rattle.lists.specs.Lists.{if_then_else_}
+use Rattle.workspace.specs.Rules.{none, isNone}
 use Rattle.workspace.specs.Operations.{tableAfter}
 use Rattle.workspace.specs.Places.{over}
 use Rattle.workspace.specs.Seen.{tableOf, noteOf, placeAfter, laid}
-use Rattle.workspace.proofs.Basics.{cases}
-use Rattle.workspace.proofs.PlaceLaws.{over-nil, over-length, over-next, over-all, over-same, over-own}
-use Rattle.workspace.proofs.Padded.{pad, pad-nil, none-over, all-unused}
+use Rattle.lists.proofs.ListLaws.{by-bool}
+use Rattle.workspace.proofs.PlaceLaws.{over-length, over-next, over-laid, over-own}
+use Rattle.workspace.proofs.Padded.{pad, pad-nil, none-over}
 
 pub replicate-length : (n : ℕ) (x : Stretch) → length (replicate n x) ≡ n
 replicate-length zero x = refl
@@ -67,7 +68,7 @@ laid-at : (t : Table) (l : List Stretch) (i : ℕ) → length (t .places) ≡ 32
 unfolding laid
 laid-at t l i long h =
     let u : length (under (t .clear) l) ≡ length l = under-length (t .clear) l in
-    cases (ltb i 32)
+    by-bool (ltb i 32)
     (λ e. let k : i < 32 = ltb-true i 32 e in rw e (over-in (under (t .clear) l) (t .places) i (omega (arith, u, h)) (omega (arith, long, k))))
     (λ e. let k : 32 ≤ i = ltb-false i 32 e in rw e (over-out (under (t .clear) l) (t .places) i (omega (arith, long, k)) ∙ under-at (t .clear) l i))
 
@@ -79,19 +80,12 @@ lay-next t l i long h =
     ap (λ (x : Stretch). set (over l (take i (laid t l))) i x) (ap (placeAfter t i) (over-rest l (laid t l) i) ∙ sym (laid-at t l i long h)) ∙ over-next l (laid t l) i none (omega (arith, n, h))
 
 pub lay-all : (t : Table) (l : List Stretch) (i : ℕ) → length l ≤ i → over l (take i (laid t l)) ≡ laid t l
-lay-all t l i h =
-    let n : length (laid t l) ≡ length l = laid-length t l in
-    over-all l (laid t l) i (omega (arith, h)) ∙ over-same l (laid t l) (sym n)
+lay-all t l i h = over-laid l (laid t l) i (laid-length t l) h
 
--- ---- what is seen of a table, written to it again, is the table
-own-clear : (k : ℕ) (l : List Stretch) → every isNone (drop k l) ≡ true → over (replicate (length l) none) (pad k l) ≡ l
-own-clear zero l e = over-nil (replicate (length l) none) ∙ sym (all-unused l e)
-own-clear (suc k) [] e = refl
-own-clear (suc k) (x ∷ xs) e = ap (λ (l : List Stretch). x ∷ l) (own-clear k xs e)
-
-pub laid-own : (l : List Stretch) → laid (tableOf l) l ≡ l
+-- what is seen of a table, written to it again, is the table
+pub laid-own : (l : List Stretch) → laid (record { places = tableOf l .places; clear = false }) l ≡ l
 unfolding laid tableOf
-laid-own l = cases (every isNone (drop 32 l)) (λ e. rw e (own-clear 32 l e)) (λ e. rw e (over-own 32 l))
+laid-own l = over-own 32 l
 
 -- a list in 32 places, written to a table, is the table afterwards
 lay-over : (k m : ℕ) (l : List Stretch) → length l ≤ k → length l ≤ m → over (replicate m none) (pad k l) ≡ l ++ replicate (m - length l) none
@@ -109,6 +103,3 @@ laid-list l table h n = lay-over 32 (length table) l h n
 pub note-law : (t : Table) (i : ℕ) (x : Stretch) {places : List Stretch} {unused : Bool} → places ≡ set (t .places) i x → unused ≡ isNone x
     → _≡_ {A = Table} (record { places = places; clear = t .clear && (ltb i 32 || unused) }) (noteOf t i x)
 note-law t i x {places = places} ep eu = λ j. record { places = ep j; clear = t .clear && (ltb i 32 || eu j) }
-
-pub after-law : (t : Table) (i : ℕ) (x : Stretch) {noted rest r : Stretch} → noted ≡ getD (t .places) i none → rest ≡ (if t .clear then none else x) → r ≡ (if ltb i 32 then noted else rest) → r ≡ placeAfter t i x
-after-law t i x en es er = er ∙ (λ j. if ltb i 32 then en j else es j)

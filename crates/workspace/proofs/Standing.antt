@@ -1,7 +1,7 @@
 -- Two lent tables that keep the rules: what is seen of them is the list of blocks and the list of free stretches, and the code's check passes exactly there.
 -- Assumes nothing.
 use mathlib.Core.Path.{_≡_, sym, _∙_, ap}
-use Prim.Native.Nat.{ℕ, _≤_, min}
+use Prim.Native.Nat.{ℕ, _≤_}
 use native.Mathlib.Omega.{arith}
 use mathlib.Core.Bool.{Bool, true, false, _&&_}
 use mathlib.Core.List.{List}
@@ -11,11 +11,13 @@ use lib.Dec.{leb}
 use borrow.Author.Tests.{leb-true, le-leb}
 use Rattle.workspace.specs.declared.Stretch.{Stretch}
 use Rattle.workspace.specs.declared.Used.{Used}
-use Rattle.workspace.specs.Rules.{every, isNone, isKept, rulesKept}
+use Rattle.lists.specs.Lists.{every}
+use Rattle.workspace.specs.Rules.{isNone, isKept, rulesKept}
 use Rattle.workspace.specs.Seen.{tableOf, lookOf}
 use Rattle.workspace.specs.Check.{tiled}
 use Rattle.workspace.specs.Steps.{keepsSeen}
-use Rattle.workspace.proofs.Basics.{same-test, and-left, and-right, both, split7}
+use Rattle.lists.proofs.Tests.{and-first, and-second}
+use Rattle.workspace.proofs.Basics.{same-test, both, split7}
 use Rattle.workspace.proofs.Pieces.{Sound, suffice}
 use Rattle.workspace.proofs.CheckLaws.{check-sound, sound-check}
 use Rattle.workspace.proofs.Words.{kept-sound, sound-kept}
@@ -83,62 +85,56 @@ module _ (b f : List Stretch) (u : Used) where
     free-seen = ap (pad 32) (table-is (u .free) f (s .unused-free)) ∙ pad-clean 32 (length (drop (u .free) f)) fs
 
   -- ---- the code's check
-  min-is : (n : ℕ) → n ≤ 32 → min n 32 ≡ n
-  min-is n h = omega (arith, h)
-
   stands-checked : (n : ℕ) → Stands → keepsSeen (lookOf b f n) u ≡ true
   unfolding keepsSeen lookOf tableOf
   stands-checked n s =
       let hb : u .blocks ≤ 31 = s .few-blocks in
       let hf : u .free ≤ 32 = few s in
       let pb : 31 ≤ length b = s .block-places in
-      let pf : 32 ≤ length f = s .free-places in
-      let mb : min (u .blocks) 32 ≡ u .blocks = min-is (u .blocks) (omega (arith, hb)) in
-      let mf : min (u .free) 32 ≡ u .free = min-is (u .free) hf in
       let vb = unused-seen (u .blocks) 32 b (omega (arith, hb)) ∙ s .unused-blocks in
       let vf = unused-seen (u .free) 32 f hf ∙ s .unused-free in
       let lb : length bs ≤ 31 = at-most-31 s in
       let lf : length fs ≤ 32 = at-most-32 s in
       let t : tiled 64 false 0 bs fs ≡ true = sound-check 64 bs fs (omega (arith, lb, lf)) (s .sound) in
-      both (both (both (both (both (both (both (both
-      (le-leb 31 (length b) pb)
-      (le-leb 32 (length f) pf))
+      both (both (both (both
+      (both (le-leb 31 (length b) pb) (le-leb 32 (length f) (s .free-places)))
+      (both (and-second (every isNone (drop (u .blocks) (pad 32 b))) (every isNone (drop 32 b)) vb) (and-second (every isNone (drop (u .free) (pad 32 f))) (every isNone (drop 32 f)) vf)))
       (le-leb (u .blocks) 31 hb))
       (le-leb (u .free) 32 hf))
-      (and-right (every isNone (drop (u .blocks) (pad 32 b))) (every isNone (drop 32 b)) vb))
-      (and-right (every isNone (drop (u .free) (pad 32 f))) (every isNone (drop 32 f)) vf))
-      (ap (λ (m : ℕ). every isNone (drop m (pad 32 b))) mb ∙ and-left (every isNone (drop (u .blocks) (pad 32 b))) (every isNone (drop 32 b)) vb))
-      (ap (λ (m : ℕ). every isNone (drop m (pad 32 f))) mf ∙ and-left (every isNone (drop (u .free) (pad 32 f))) (every isNone (drop 32 f)) vf))
-      ((λ i. tiled 64 false 0 (take (mb i) (pad 32 b)) (take (mf i) (pad 32 f)))
-      ∙ (λ i. tiled 64 false 0 (take-seen (u .blocks) 32 b (let h : u .blocks ≤ 32 = omega (arith, hb) in h) (let h : u .blocks ≤ length b = omega (arith, hb, pb) in h) i) (take-seen (u .free) 32 f hf (s .few-free) i)) ∙ t)
+      (both (both
+      (and-first (every isNone (drop (u .blocks) (pad 32 b))) (every isNone (drop 32 b)) vb)
+      (and-first (every isNone (drop (u .free) (pad 32 f))) (every isNone (drop 32 f)) vf))
+      ((λ i. tiled 64 false 0 (take-seen (u .blocks) 32 b (let h : u .blocks ≤ 32 = omega (arith, hb) in h) (let h : u .blocks ≤ length b = omega (arith, hb, pb) in h) i) (take-seen (u .free) 32 f hf (s .few-free) i)) ∙ t))
 
   checked-stands : (n : ℕ) → keepsSeen (lookOf b f n) u ≡ true → Stands
   unfolding keepsSeen lookOf tableOf
   checked-stands n e =
-      let xb : Bool = every isNone (drop (min (u .blocks) 32) (pad 32 b)) in
-      let xf : Bool = every isNone (drop (min (u .free) 32) (pad 32 f)) in
-      let t : Bool = tiled 64 false 0 (take (min (u .blocks) 32) (pad 32 b)) (take (min (u .free) 32) (pad 32 f)) in
-      let k : Bool = leb 31 (length b) && leb 32 (length f) && leb (u .blocks) 31 && leb (u .free) 32 && every isNone (drop 32 b) && every isNone (drop 32 f) && xb in
-      let e₈ : k && xf ≡ true = and-left (k && xf) t e in
-      let w = split7 (leb 31 (length b)) (leb 32 (length f)) (leb (u .blocks) 31) (leb (u .free) 32) (every isNone (drop 32 b)) (every isNone (drop 32 f)) xb (and-left k xf e₈) in
-      let pb : 31 ≤ length b = leb-true 31 (length b) (w .0) in
-      let pf : 32 ≤ length f = leb-true 32 (length f) (w .1) in
-      let hb : u .blocks ≤ 31 = leb-true (u .blocks) 31 (w .2) in
-      let hf : u .free ≤ 32 = leb-true (u .free) 32 (w .3) in
-      let mb : min (u .blocks) 32 ≡ u .blocks = min-is (u .blocks) (omega (arith, hb)) in
-      let mf : min (u .free) 32 ≡ u .free = min-is (u .free) hf in
-      let vb : xb ≡ every isNone (drop (u .blocks) (pad 32 b)) = ap (λ (m : ℕ). every isNone (drop m (pad 32 b))) mb in
-      let vf : xf ≡ every isNone (drop (u .free) (pad 32 f)) = ap (λ (m : ℕ). every isNone (drop m (pad 32 f))) mf in
-      let sb : take (min (u .blocks) 32) (pad 32 b) ≡ bs = ap (λ (m : ℕ). take m (pad 32 b)) mb ∙ take-seen (u .blocks) 32 b (omega (arith, hb)) (omega (arith, hb, pb)) in
-      let sf : take (min (u .free) 32) (pad 32 f) ≡ fs = ap (λ (m : ℕ). take m (pad 32 f)) mf ∙ take-seen (u .free) 32 f hf (omega (arith, hf, pf)) in
+      let xb : Bool = every isNone (drop (u .blocks) (pad 32 b)) in
+      let xf : Bool = every isNone (drop (u .free) (pad 32 f)) in
+      let t : Bool = tiled 64 false 0 (take (u .blocks) (pad 32 b)) (take (u .free) (pad 32 f)) in
+      let long : Bool = leb 31 (length b) && leb 32 (length f) in
+      let clear : Bool = every isNone (drop 32 b) && every isNone (drop 32 f) in
+      let e₄ : long && clear && leb (u .blocks) 31 && leb (u .free) 32 ≡ true = and-first (long && clear && leb (u .blocks) 31 && leb (u .free) 32) (xb && xf && t) e in
+      let r : xb && xf && t ≡ true = and-second (long && clear && leb (u .blocks) 31 && leb (u .free) 32) (xb && xf && t) e in
+      let e₃ : long && clear && leb (u .blocks) 31 ≡ true = and-first (long && clear && leb (u .blocks) 31) (leb (u .free) 32) e₄ in
+      let e₂ : long && clear ≡ true = and-first (long && clear) (leb (u .blocks) 31) e₃ in
+      let el : long ≡ true = and-first long clear e₂ in
+      let ec : clear ≡ true = and-second long clear e₂ in
+      let pb : 31 ≤ length b = leb-true 31 (length b) (and-first (leb 31 (length b)) (leb 32 (length f)) el) in
+      let pf : 32 ≤ length f = leb-true 32 (length f) (and-second (leb 31 (length b)) (leb 32 (length f)) el) in
+      let hb : u .blocks ≤ 31 = leb-true (u .blocks) 31 (and-second (long && clear) (leb (u .blocks) 31) e₃) in
+      let hf : u .free ≤ 32 = leb-true (u .free) 32 (and-second (long && clear && leb (u .blocks) 31) (leb (u .free) 32) e₄) in
+      let x : xb && xf ≡ true = and-first (xb && xf) t r in
+      let sb : take (u .blocks) (pad 32 b) ≡ bs = take-seen (u .blocks) 32 b (omega (arith, hb)) (omega (arith, hb, pb)) in
+      let sf : take (u .free) (pad 32 f) ≡ fs = take-seen (u .free) 32 f hf (omega (arith, hf, pf)) in
       record {
         block-places = pb;
         free-places = pf;
         few-blocks = hb;
         few-free = omega (arith, hf, pf);
-        unused-blocks = sym (unused-seen (u .blocks) 32 b (omega (arith, hb))) ∙ both (sym vb ∙ w .6) (w .4);
-        unused-free = sym (unused-seen (u .free) 32 f hf) ∙ both (sym vf ∙ and-right k xf e₈) (w .5);
-        sound = check-sound 64 bs fs ((λ i. tiled 64 false 0 (sym sb i) (sym sf i)) ∙ and-right (k && xf) t e);
+        unused-blocks = sym (unused-seen (u .blocks) 32 b (omega (arith, hb))) ∙ both (and-first xb xf x) (and-first (every isNone (drop 32 b)) (every isNone (drop 32 f)) ec);
+        unused-free = sym (unused-seen (u .free) 32 f hf) ∙ both (and-second xb xf x) (and-second (every isNone (drop 32 b)) (every isNone (drop 32 f)) ec);
+        sound = check-sound 64 bs fs ((λ i. tiled 64 false 0 (sym sb i) (sym sf i)) ∙ and-second (xb && xf) t r);
       }
 
   -- the code's check passes exactly where the rules are kept

@@ -18,10 +18,13 @@ use lib.ListN.{length, take, drop, replicate, length-append}
 use lib.Dec.{leb, ltb, eqb}
 use borrow.Author.Tests.{leb-true, leb-false, le-leb, lt-leb, ltb-true, lt-ltb, eq-eqb}
 use Rattle.workspace.specs.declared.Stretch.{Stretch}
-use Rattle.workspace.specs.Rules.{if_then_else_, every, units, stretch, none, isNone, end, isKept, hasPlaces}
+use Rattle.lists.specs.Lists.{if_then_else_, every}
+use Rattle.workspace.specs.Rules.{units, stretch, none, isNone, end, isKept, hasPlaces}
 use Rattle.workspace.specs.Operations.{placed, fits, fitStart, cut, startsAt, lengthAt, without, joined, refused, took, freshOf, requestOf, releaseOf, tableAfter, BAD-STATE, NO-SPACE}
 use Rattle.workspace.specs.Runs.{Area, isSound, Op, ask, give, outcomeOf, after, stepOf, runOf, freshArea, refusalOf, valueOf, givesAll}
-use Rattle.workspace.proofs.Basics.{cases, no, both, and-left, and-right}
+use Rattle.lists.proofs.Tests.{and-first, and-second}
+use Rattle.lists.proofs.ListLaws.{by-bool}
+use Rattle.workspace.proofs.Basics.{no, both}
 use Rattle.workspace.proofs.Pieces.{Piece, taken, spare, blocksFrom, freeFrom, measure, Good, Sound, suffice, fresh-sound}
 use Rattle.workspace.proofs.Taking.{request-sound}
 use Rattle.workspace.proofs.Giving.{release-sound}
@@ -71,7 +74,7 @@ pub fresh-keeps : (b f : List Stretch) → hasPlaces b f ≡ true → isSound (f
 unfolding freshOf
 fresh-keeps b f e =
     rw e (stands-kept (tableAfter b []) (tableAfter f (stretch 0 units ∷ [])) (record { blocks = 0; free = 1 })
-    (took-stands b f [] (stretch 0 units ∷ []) (leb-true 31 (length b) (and-left (leb 31 (length b)) (leb 32 (length f)) e)) (leb-true 32 (length f) (and-right (leb 31 (length b)) (leb 32 (length f)) e)) (omega arith) fresh-sound))
+    (took-stands b f [] (stretch 0 units ∷ []) (leb-true 31 (length b) (and-first (leb 31 (length b)) (leb 32 (length f)) e)) (leb-true 32 (length f) (and-second (leb 31 (length b)) (leb 32 (length f)) e)) (omega arith) fresh-sound))
 
 module _ (a : Area) (e : isSound a ≡ true) where
   stands : Stands (a .blocks) (a .free) (a .used)
@@ -89,14 +92,14 @@ module _ (a : Area) (e : isSound a ≡ true) where
   ask-keeps : (n : ℕ) → isSound (stepOf a (ask n)) ≡ true
   unfolding requestOf
   ask-keeps n =
-      cases (leb 1 n && leb n 65535)
-      (λ e₁. cases (ltb (a .used .blocks) 31)
-      (λ e₂. cases (fits n fl)
+      by-bool (leb 1 n && leb n 65535)
+      (λ e₁. by-bool (ltb (a .used .blocks) 31)
+      (λ e₂. by-bool (fits n fl)
       (λ e₃.
       let h : a .used .blocks < 31 = ltb-true (a .used .blocks) 31 e₂ in
       let c : length bl ≡ a .used .blocks = count-blocks (a .blocks) (a .free) (a .used) stands in
       let p : length (placed (stretch (fitStart n fl) n) bl) ≡ length bl + 1 = placed-length (stretch (fitStart n fl) n) bl in
-      rw (e, e₁, e₂, e₃) (took-keeps (fitStart n fl) (placed (stretch (fitStart n fl) n) bl) (cut n fl) (omega (arith, h, c, p)) (request-sound n bl fl (leb-true 1 n (and-left (leb 1 n) (leb n 65535) e₁)) e₃ (stands .sound))))
+      rw (e, e₁, e₂, e₃) (took-keeps (fitStart n fl) (placed (stretch (fitStart n fl) n) bl) (cut n fl) (omega (arith, h, c, p)) (request-sound n bl fl (leb-true 1 n (and-first (leb 1 n) (leb n 65535) e₁)) e₃ (stands .sound))))
       (λ e₃. rw (e, e₁, e₂, e₃) e))
       (λ e₂. rw (e, e₁, e₂) e))
       (λ e₁. rw (e, e₁) e)
@@ -107,7 +110,7 @@ module _ (a : Area) (e : isSound a ≡ true) where
   give-keeps : (s : ℕ) → isSound (stepOf a (give s)) ≡ true
   unfolding releaseOf
   give-keeps s =
-      cases (startsAt s bl)
+      by-bool (startsAt s bl)
       (λ e₁. let h : length (without s bl) ≤ 30 = few-left s e₁ in rw (e, e₁) (took-keeps (lengthAt s bl) (without s bl) (joined (stretch s (lengthAt s bl)) fl) (omega (arith, h)) (release-sound s bl fl e₁ (stands .sound))))
       (λ e₁. rw (e, e₁) e)
 
@@ -122,15 +125,15 @@ sound-run a (o ∷ os) e = sound-run (stepOf a o) os (step-keeps a o e)
 sound-good : (a : Area) (o : Op) → isSound a ≡ true → refusalOf (outcomeOf a o) ≡ BAD-STATE → ⊥
 unfolding requestOf releaseOf
 sound-good a (ask n) e r =
-    cases (leb 1 n && leb n 65535)
-    (λ e₁. cases (ltb (a .used .blocks) 31)
-    (λ e₂. cases (fits n (take (a .used .free) (a .free)))
+    by-bool (leb 1 n && leb n 65535)
+    (λ e₁. by-bool (ltb (a .used .blocks) 31)
+    (λ e₂. by-bool (fits n (take (a .used .free) (a .free)))
     (λ e₃. let k : _≡_ {A = ℕ} 0 2 = rw (e, e₁, e₂, e₃) at r in no (omega (arith, k)))
     (λ e₃. let k : _≡_ {A = ℕ} 15 2 = rw (e, e₁, e₂, e₃) at r in no (omega (arith, k))))
     (λ e₂. let k : _≡_ {A = ℕ} 14 2 = rw (e, e₁, e₂) at r in no (omega (arith, k))))
     (λ e₁. let k : _≡_ {A = ℕ} 13 2 = rw (e, e₁) at r in no (omega (arith, k)))
 sound-good a (give s) e r =
-    cases (startsAt s (take (a .used .blocks) (a .blocks)))
+    by-bool (startsAt s (take (a .used .blocks) (a .blocks)))
     (λ e₁. let k : _≡_ {A = ℕ} 0 2 = rw (e, e₁) at r in no (omega (arith, k)))
     (λ e₁. let k : _≡_ {A = ℕ} 16 2 = rw (e, e₁) at r in no (omega (arith, k)))
 
@@ -160,13 +163,13 @@ isShort n s = ltb (s .length) n
 none-fits : (n : ℕ) (l : List Stretch) → fits n l ≡ false → every (isShort n) l ≡ true
 none-fits n [] e = refl
 none-fits n (f ∷ fs) e =
-    cases (leb n (f .length))
+    by-bool (leb n (f .length))
     (λ q. absurd (true≢false (let k : true ≡ false = rw q at e in k)))
     (λ q. let k : fits n fs ≡ false = rw q at e in both (lt-ltb (f .length) n (leb-false n (f .length) q)) (none-fits n fs k))
 
 fits-none : (n : ℕ) (l : List Stretch) → every (isShort n) l ≡ true → fits n l ≡ false
 fits-none n [] e = refl
-fits-none n (f ∷ fs) e = rw (lt-leb n (f .length) (ltb-true (f .length) n (and-left (isShort n f) (every (isShort n) fs) e))) (fits-none n fs (and-right (isShort n f) (every (isShort n) fs) e))
+fits-none n (f ∷ fs) e = rw (lt-leb n (f .length) (ltb-true (f .length) n (and-first (isShort n f) (every (isShort n) fs) e))) (fits-none n fs (and-second (isShort n f) (every (isShort n) fs) e))
 
 -- the rules are kept, the size is good and a place for a block is left
 abbrev pub MayTake : Area → ℕ → Type 0
@@ -176,7 +179,7 @@ pub no-space-exact : (a : Area) (n : ℕ) → MayTake a n → (every (isShort n)
 unfolding requestOf
 no-space-exact a n m = (
   (λ e. rw (m .0, m .1, m .2, fits-none n (take (a .used .free) (a .free)) e) refl),
-  (λ e. cases (fits n (take (a .used .free) (a .free)))
+  (λ e. by-bool (fits n (take (a .used .free) (a .free)))
       (λ q. let k : _≡_ {A = ℕ} 0 15 = rw (m .0, m .1, m .2, q) at (ap refusalOf e) in no (omega (arith, k)))
       (λ q. none-fits n (take (a .used .free) (a .free)) q)),
 )
@@ -185,9 +188,9 @@ no-space-exact a n m = (
 pub no-space-only : (a : Area) (n : ℕ) → refusalOf (outcomeOf a (ask n)) ≡ NO-SPACE → MayTake a n
 unfolding requestOf
 no-space-only a n e =
-    cases (isSound a)
-    (λ e₀. cases (leb 1 n && leb n 65535)
-    (λ e₁. cases (ltb (a .used .blocks) 31)
+    by-bool (isSound a)
+    (λ e₀. by-bool (leb 1 n && leb n 65535)
+    (λ e₁. by-bool (ltb (a .used .blocks) 31)
     (λ e₂. (e₀, e₁, e₂))
     (λ e₂. let k : _≡_ {A = ℕ} 14 15 = rw (e₀, e₁, e₂) at e in no (omega (arith, k))))
     (λ e₁. let k : _≡_ {A = ℕ} 13 15 = rw (e₀, e₁) at e in no (omega (arith, k))))
@@ -247,19 +250,19 @@ all-released a z t e =
 joined-fits : (n : ℕ) (b : Stretch) (fs : List Stretch) → n ≤ b .length → fits n (joined b fs) ≡ true
 joined-fits n b [] h = rw (le-leb n (b .length) h) refl
 joined-fits n b (f ∷ fs) h =
-    cases (eqb (end f) (b .start))
+    by-bool (eqb (end f) (b .start))
     (λ p. rw p (joined-fits n (stretch (f .start) (f .length + b .length)) fs (omega (arith, h))))
-    (λ p. cases (eqb (end b) (f .start))
+    (λ p. by-bool (eqb (end b) (f .start))
     (λ q. rw (p, q, le-leb n (b .length + f .length) (omega (arith, h))) refl)
-    (λ q. cases (ltb (b .start) (f .start))
+    (λ q. by-bool (ltb (b .start) (f .start))
     (λ t. rw (p, q, t, le-leb n (b .length) h) refl)
-    (λ t. rw (p, q, t) (cases (leb n (f .length)) (λ u. rw u refl) (λ u. rw u (joined-fits n b fs h))))))
+    (λ t. rw (p, q, t) (by-bool (leb n (f .length)) (λ u. rw u refl) (λ u. rw u (joined-fits n b fs h))))))
 
 -- the units that a release gave back are granted to a request for as many
 pub found-again : (a : Area) (s : ℕ) → isSound a ≡ true → refusalOf (outcomeOf a (give s)) ≡ 0 → valueOf (outcomeOf a (give s)) ≤ 65535 → refusalOf (outcomeOf (stepOf a (give s)) (ask (valueOf (outcomeOf a (give s))))) ≡ 0
 unfolding releaseOf requestOf
 found-again a s e r v =
-    cases (startsAt s (bl a e))
+    by-bool (startsAt s (bl a e))
     (λ q.
     let n : ℕ = lengthAt s (bl a e) in
     let cl : List Stretch = without s (bl a e) in

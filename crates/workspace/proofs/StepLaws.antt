@@ -1,92 +1,108 @@
 -- The steps whose parts are put together by hand: each law has an equation for each call's result.
 -- Assumes nothing.
-use mathlib.Core.Path.{_≡_, _∙_}
-use Prim.Native.Nat.{ℕ, _+_, _-_, _%_, min}
-use mathlib.Core.Bool.{Bool, false, _&&_}
-use mathlib.Core.List.{List, []}
-use lib.ListN.{getD, set, take, drop}
+use mathlib.Core.Path.{_≡_, refl, sym, _∙_, ap}
+use Prim.Native.Nat.{ℕ, zero, suc, _+_, _-_, _%_, _<_, _≤_, zero-le}
+use native.Mathlib.Omega.{arith}
+use mathlib.Core.Bool.{Bool, true, false, _&&_}
+use mathlib.Core.List.{List, [], _∷_}
+use lib.ListN.{length, getD, set, take, drop}
 use lib.Dec.{leb, ltb, eqb}
+use mir.Val.{boolByte}
+use borrow.Author.Tests.{leb-true, ltb-true, lt-ltb, le-ltb, ne-eqb}
+use Rattle.lists.specs.Lists.{if_then_else_, bit, every}
+use Rattle.lists.proofs.Tests.{and-first, and-second}
+use Rattle.lists.proofs.ListLaws.{by-bool}
+use Rattle.workspace.proofs.Basics.{no}
 use Rattle.workspace.specs.declared.Stretch.{Stretch}
-use Rattle.workspace.specs.declared.Table.{Table}
 use Rattle.workspace.specs.declared.Used.{Used}
 use Rattle.workspace.specs.declared.Look.{Look}
 use Rattle.workspace.specs.declared.Done.{Done}
-use Rattle.workspace.specs.Rules.{if_then_else_, every, units, stretch, none, isNone, end}
-use Rattle.workspace.specs.Operations.{unused}
-use Rattle.workspace.specs.Seen.{tableOf}
-use Rattle.workspace.specs.declared.Test.the-variants.{StartsAt, StartsBehind}
+use Rattle.workspace.specs.Rules.{stretch, none, isNone, end}
+use Rattle.workspace.specs.declared.Test.the-variants.{StartsBehind}
 use Rattle.workspace.specs.Places.{placeOf, passesOf, removeAt, insertAt}
 use Rattle.workspace.specs.Check.{tiled}
-use Rattle.workspace.specs.Steps.{hasSeen, keepsSeen, unlessRefused, doneAs, freshSeen, requestRefusal, cutAt, grantSeen, requestSeen, blockAt, releaseRefusal, touchesLow, touchesHigh, wholeAs, wholeAt, give, giveAt, giveBack, countAs, countBack, freeSeen, releaseSeen}
+use Rattle.workspace.specs.Steps.{isCounted, keepsSeen, refusedAs, doneAs, requestRefusal, cutAt, grantSeen, requestSeen, blockAt, touchesLow, touchesHigh, wholeAs, wholeAt, giveAt, giveBack, countBack, freeSeen, releaseSeen}
 
-pub keep-law : (s : Look) (u : Used) {m n : ℕ} {h x y t : Bool} → h ≡ hasSeen s → m ≡ min (u .blocks) 32 → n ≡ min (u .free) 32
-    → x ≡ every isNone (drop m (s .blocks .places)) → y ≡ every isNone (drop n (s .free .places)) → t ≡ tiled 64 false 0 (take m (s .blocks .places)) (take n (s .free .places))
-    → h && leb (u .blocks) 31 && leb (u .free) 32 && s .blocks .clear && s .free .clear && x && y && t ≡ keepsSeen s u
+-- ── the check ──
+
+pub keep-law : (s : Look) (u : Used) {x y t : Bool} → isCounted s u ≡ true → x ≡ every isNone (drop (u .blocks) (s .blocks)) → y ≡ every isNone (drop (u .free) (s .free)) → t ≡ tiled 64 false 0 (take (u .blocks) (s .blocks)) (take (u .free) (s .free))
+    → x && y && t ≡ keepsSeen s u
 unfolding keepsSeen
-keep-law s u eh em en ex ey et =
-    let k : Bool = hasSeen s && leb (u .blocks) 31 && leb (u .free) 32 && s .blocks .clear && s .free .clear in
-    (λ i. eh i && leb (u .blocks) 31 && leb (u .free) 32 && s .blocks .clear && s .free .clear && ex i && ey i && et i)
-    ∙ (λ i. ((k && every isNone (drop (em i) (s .blocks .places))) && every isNone (drop (en i) (s .free .places))) && tiled 64 false 0 (take (em i) (s .blocks .places)) (take (en i) (s .free .places)))
+keep-law s u e ex ey et = λ i. sym e i && (ex i && ey i && et i)
 
--- ── a fresh area ──
+pub break-law : (s : Look) (u : Used) → isCounted s u ≡ false → false ≡ keepsSeen s u
+unfolding keepsSeen
+break-law s u e = λ i. sym e i && (every isNone (drop (u .blocks) (s .blocks)) && every isNone (drop (u .free) (s .free)) && tiled 64 false 0 (take (u .blocks) (s .blocks)) (take (u .free) (s .free)))
 
-pub fresh-law : (s : Look) {t : Table} {one : List Stretch} {d r : Done} {h : Bool} {k : ℕ} → t ≡ tableOf [] → one ≡ set (t .places) 0 (stretch 0 units) → d ≡ doneAs (t .places) one 0 0 1
-    → h ≡ hasSeen s → k ≡ (if h then 0 else 2) → r ≡ unlessRefused k s unused d → r ≡ freshSeen s
-unfolding freshSeen
-fresh-law s {one = one} {k = k} et eo ed eh ek er =
-    let oo : one ≡ set (tableOf [] .places) 0 (stretch 0 units) = eo ∙ (λ i. set (et i .places) 0 (stretch 0 units)) in
-    let kk : k ≡ (if hasSeen s then 0 else 2) = ek ∙ (λ i. if eh i then 0 else 2) in
-    er ∙ (λ i. unlessRefused (kk i) s unused (ed i)) ∙ (λ i. unlessRefused (if hasSeen s then 0 else 2) s unused (doneAs (et i .places) (oo i) 0 0 1))
+-- where that is so, the numbers of places used are in range
+pub in-range : (s : Look) (u : Used) → isCounted s u ≡ true → (u .blocks ≤ 31) × (u .free ≤ 32)
+in-range s u c =
+    let b : s .long && s .clear && leb (u .blocks) 31 ≡ true = and-first (s .long && s .clear && leb (u .blocks) 31) (leb (u .free) 32) c in
+    (leb-true (u .blocks) 31 (and-second (s .long && s .clear) (leb (u .blocks) 31) b), leb-true (u .free) 32 (and-second (s .long && s .clear && leb (u .blocks) 31) (leb (u .free) 32) c))
+
+pub counted : (s : Look) (u : Used) → keepsSeen s u ≡ true → (u .blocks ≤ 31) × (u .free ≤ 32)
+unfolding keepsSeen
+counted s u e = in-range s u (and-first (isCounted s u) (every isNone (drop (u .blocks) (s .blocks)) && every isNone (drop (u .free) (s .free)) && tiled 64 false 0 (take (u .blocks) (s .blocks)) (take (u .free) (s .free))) e)
+
+-- ── a test as a number ──
+
+byte-bit : (b : Bool) → boolByte b ≡ bit b
+byte-bit true = refl
+byte-bit false = refl
+
+pub byte-most : (b : Bool) (n : ℕ) → 0 < n → boolByte b ≤ n
+byte-most true n h = h
+byte-most false n h = zero-le
 
 -- ── a request ──
 
-pub ask-law : (s : Look) (u : Used) (n : ℕ) {a b c r : ℕ} {k : Bool} → a ≡ (if ltb (s .place) (u .free) then 0 else 15) → b ≡ (if ltb (u .blocks) 31 then a else 14) → c ≡ (if leb 1 n && leb n 65535 then b else 13)
-    → k ≡ keepsSeen s u → r ≡ (if k then c else 2) → r ≡ requestRefusal s u n
+-- where the refusal is 0, all tests have passed
+pub granted-may : (s : Look) (u : Used) (n : ℕ) {kept : Bool} → kept ≡ keepsSeen s u → requestRefusal kept u (s .place) n ≡ 0 → (u .blocks ≤ 31) × (0 < u .free)
 unfolding requestRefusal
-ask-law s u n {b = b} {c = c} ea eb ec ek er =
-    let bb : b ≡ (if ltb (u .blocks) 31 then (if ltb (s .place) (u .free) then 0 else 15) else 14) = eb ∙ (λ i. if ltb (u .blocks) 31 then ea i else 14) in
-    let dd : c ≡ (if leb 1 n && leb n 65535 then (if ltb (u .blocks) 31 then (if ltb (s .place) (u .free) then 0 else 15) else 14) else 13) = ec ∙ (λ i. if leb 1 n && leb n 65535 then bb i else 13) in
-    er ∙ (λ i. if ek i then dd i else 2)
+granted-may s u n {kept = false} ek e = no (omega (arith, e))
+granted-may s u n {kept = true} ek e =
+    by-bool (leb 1 n && leb n 65535)
+    (λ z. by-bool (ltb (u .blocks) 31)
+    (λ b. by-bool (ltb (s .place) (u .free))
+    (λ p. let h : s .place < u .free = ltb-true (s .place) (u .free) p in (counted s u (sym ek) .0, omega (arith, h)))
+    (λ p. no (let q : 15 ≡ 0 = rw (z, b, p) at e in omega (arith, q))))
+    (λ b. no (let q : 14 ≡ 0 = rw (z, b) at e in omega (arith, q))))
+    (λ z. no (let q : 13 ≡ 0 = rw z at e in omega (arith, q)))
 
-pub cut-law : (l : List Stretch) (p n : ℕ) {f : Stretch} {start length : ℕ} {ws ps r : List Stretch} → f ≡ getD l p none → start ≡ (f .start + n) % 4294967296 → length ≡ f .length - n
-    → ws ≡ removeAt p l → ps ≡ set l p (stretch start length) → r ≡ (if eqb n (f .length) then ws else ps) → r ≡ cutAt p n l
-cut-law l p n {f = f} ef es el ew ep er =
-    let pp = ep ∙ (λ i. set l p (stretch (es i) (el i))) in
-    er ∙ (λ i. if eqb n (f .length) then ew i else pp i) ∙ (λ i. if eqb n (ef i .length) then removeAt p l else set l p (stretch ((ef i .start + n) % 4294967296) (ef i .length - n)))
+pub cut-part : (l : List Stretch) (p n : ℕ) {f : Stretch} {start : ℕ} {r : List Stretch} → f ≡ getD l p none → start ≡ (f .start + n) % 4294967296 → r ≡ set l p (stretch start (f .length - n)) → n < f .length → r ≡ cutAt p n l
+cut-part l p n {f = f} ef es er h =
+    er ∙ (λ i. set l p (stretch (es i) (f .length - n))) ∙ (λ i. if sym (lt-ltb n (f .length) h) i then set l p (stretch ((f .start + n) % 4294967296) (f .length - n)) else removeAt p l)
+    ∙ (λ i. if ltb n (ef i .length) then set l p (stretch ((ef i .start + n) % 4294967296) (ef i .length - n)) else removeAt p l)
 
-pub grant-law : (s : Look) (u : Used) (n : ℕ) {f : Stretch} {m k : ℕ} {bs fs : List Stretch} {more fewer left : ℕ} {r : Done}
-    → f ≡ getD (s .free .places) (s .place) none → m ≡ min (u .blocks) 32 → k ≡ placeOf (passesOf StartsBehind (f .start)) (take m (s .blocks .places)) → bs ≡ insertAt k (stretch (f .start) n) (s .blocks .places)
-    → fs ≡ cutAt (s .place) n (s .free .places) → more ≡ min (u .blocks) 32 + 1 → fewer ≡ u .free - 1 → left ≡ (if eqb n (f .length) then fewer else u .free) → r ≡ doneAs bs fs (f .start) more left → r ≡ grantSeen s u n
+pub cut-whole : (l : List Stretch) (p n : ℕ) {f : Stretch} {r : List Stretch} → f ≡ getD l p none → r ≡ removeAt p l → f .length ≤ n → r ≡ cutAt p n l
+cut-whole l p n {f = f} ef er h =
+    er ∙ (λ i. if sym (le-ltb n (f .length) h) i then set l p (stretch ((f .start + n) % 4294967296) (f .length - n)) else removeAt p l)
+    ∙ (λ i. if ltb n (ef i .length) then set l p (stretch ((ef i .start + n) % 4294967296) (ef i .length - n)) else removeAt p l)
+
+pub grant-law : (s : Look) (u : Used) (n : ℕ) {f : Stretch} {k : ℕ} {bs fs : List Stretch} {r : Done}
+    → f ≡ getD (s .free) (s .place) none → k ≡ placeOf (passesOf StartsBehind (f .start)) (take (u .blocks) (s .blocks)) → bs ≡ insertAt k (stretch (f .start) n) (s .blocks)
+    → fs ≡ cutAt (s .place) n (s .free) → r ≡ doneAs bs fs (f .start) (u .blocks + 1) (u .free - boolByte (leb (f .length) n)) → r ≡ grantSeen s u n
 unfolding grantSeen
-grant-law s u n {f = f} ef em ek eb e e1 e2 e3 er =
-    let kk = ek ∙ (λ i. placeOf (passesOf StartsBehind (f .start)) (take (em i) (s .blocks .places))) in
-    let bb = eb ∙ (λ i. insertAt (kk i) (stretch (f .start) n) (s .blocks .places)) in
-    let ll = e3 ∙ (λ i. if eqb n (f .length) then e2 i else u .free) in
+grant-law s u n {f = f} ef ek eb e er =
+    let bb = eb ∙ (λ i. insertAt (ek i) (stretch (f .start) n) (s .blocks)) in
     er
-    ∙ (λ i. doneAs (bb i) (e i) (f .start) (e1 i) (ll i))
-    ∙ (λ i. doneAs (insertAt (placeOf (passesOf StartsBehind (ef i .start)) (take (min (u .blocks) 32) (s .blocks .places))) (stretch (ef i .start) n) (s .blocks .places)) (cutAt (s .place) n (s .free .places)) (ef i .start) (min (u .blocks) 32 + 1)
-    (if eqb n (ef i .length) then u .free - 1 else u .free))
+    ∙ (λ i. doneAs (bb i) (e i) (f .start) (u .blocks + 1) (u .free - byte-bit (leb (f .length) n) i))
+    ∙ (λ i. doneAs (insertAt (placeOf (passesOf StartsBehind (ef i .start)) (take (u .blocks) (s .blocks))) (stretch (ef i .start) n) (s .blocks)) (cutAt (s .place) n (s .free)) (ef i .start) (u .blocks + 1) (u .free - bit (leb (ef i .length) n)))
 
-pub request-law : (s : Look) (u : Used) (n : ℕ) {k : ℕ} {d r : Done} → k ≡ requestRefusal s u n → d ≡ grantSeen s u n → r ≡ unlessRefused k s u d → r ≡ requestSeen s u n
+pub request-granted : (s : Look) (u : Used) (n : ℕ) {kept : Bool} {k : ℕ} {r : Done} → kept ≡ keepsSeen s u → k ≡ requestRefusal kept u (s .place) n → k ≡ 0 → r ≡ grantSeen s u n → r ≡ requestSeen s u n
 unfolding requestSeen
-request-law s u n ek ed er = er ∙ (λ i. unlessRefused (ek i) s u (ed i))
+request-granted s u n ek e z er = er ∙ rw (sym (e ∙ ap (λ (b : Bool). requestRefusal b u (s .place) n) ek) ∙ z) refl
+
+pub request-refused : (s : Look) (u : Used) (n : ℕ) {kept : Bool} {k : ℕ} {r : Done} → kept ≡ keepsSeen s u → k ≡ requestRefusal kept u (s .place) n → (k ≡ 0 → ⊥) → r ≡ refusedAs s u k → r ≡ requestSeen s u n
+unfolding requestSeen
+request-refused s u n ek e z er =
+    let f = e ∙ ap (λ (b : Bool). requestRefusal b u (s .place) n) ek in
+    er ∙ ap (refusedAs s u) f ∙ rw (ne-eqb (requestRefusal (keepsSeen s u) u (s .place) n) 0 (λ q. z (f ∙ q))) refl
 
 -- ── a release ──
 
-pub block-law : (s : Look) (u : Used) (a : ℕ) {m p : ℕ} → m ≡ min (u .blocks) 32 → p ≡ placeOf (passesOf StartsAt a) (take m (s .blocks .places)) → p ≡ blockAt s u a
-block-law s u a em ep = ep ∙ (λ i. placeOf (passesOf StartsAt a) (take (em i) (s .blocks .places)))
-
-pub tell-law : (s : Look) (u : Used) (a : ℕ) {p x r : ℕ} {k : Bool} → p ≡ blockAt s u a → x ≡ (if ltb p (u .blocks) then 0 else 16) → k ≡ keepsSeen s u → r ≡ (if k then x else 2) → r ≡ releaseRefusal s u a
-unfolding releaseRefusal
-tell-law s u a {x = x} ep ex ek er =
-    let xx : x ≡ (if ltb (blockAt s u a) (u .blocks) then 0 else 16) = ex ∙ (λ i. if ltb (ep i) (u .blocks) then 0 else 16) in
-    er ∙ (λ i. if ek i then xx i else 2)
-
-pub low-law : (b : Stretch) (k : ℕ) (l : List Stretch) {j e s : ℕ} {x : Stretch} → j ≡ k - 1 → x ≡ getD l j none → e ≡ end x → s ≡ b .start → ltb 0 k && eqb e s ≡ touchesLow b k l
-low-law b k l ej ex ee es = (λ i. ltb 0 k && eqb (ee i) (es i)) ∙ (λ i. ltb 0 k && eqb (end (ex i)) (b .start)) ∙ (λ i. ltb 0 k && eqb (end (getD l (ej i) none)) (b .start))
-
-pub high-law : (b : Stretch) (k : ℕ) (l : List Stretch) {e s : ℕ} {x : Stretch} → x ≡ getD l k none → e ≡ end b → s ≡ x .start → eqb e s ≡ touchesHigh b k l
-high-law b k l ex ee es = (λ i. eqb (ee i) (es i)) ∙ (λ i. eqb (end b) (ex i .start))
+pub low-law : (b : Stretch) (k : ℕ) (l : List Stretch) {j : ℕ} {x : Stretch} → j ≡ k - 1 → x ≡ getD l j none → ltb 0 k && eqb (end x) (b .start) ≡ touchesLow b k l
+low-law b k l ej ex = (λ i. ltb 0 k && eqb (end (ex i)) (b .start)) ∙ (λ i. ltb 0 k && eqb (end (getD l (ej i) none)) (b .start))
 
 pub whole-law : (low high : Bool) (b : Stretch) (k : ℕ) (l : List Stretch) {j : ℕ} {x y : Stretch} {start ahead behind front length : ℕ}
     → j ≡ k - 1 → x ≡ getD l j none → y ≡ getD l k none → start ≡ (if low then x .start else b .start) → ahead ≡ (if low then x .length else 0) → behind ≡ (if high then y .length else 0)
@@ -97,33 +113,48 @@ whole-law low high b k l ej ex ey es ea eb ef e =
     let ee = e ∙ (λ i. (ff i + eb i) % 4294967296) in
     (λ i. stretch (es i) (ee i)) ∙ (λ i. wholeAs low high (xx i) (ey i) b)
 
-pub give-law : (low high : Bool) (b : Stretch) (k : ℕ) (l : List Stretch) {w : Stretch} {j : ℕ} {fewer rest alone x y r : List Stretch}
-    → w ≡ wholeAt low high b k l → j ≡ k - 1 → fewer ≡ removeAt k l → rest ≡ (if high then fewer else l) → alone ≡ removeAt j rest → x ≡ insertAt j w alone → y ≡ insertAt k w rest
-    → r ≡ (if low then x else y) → r ≡ giveAt low high b k l
-give-law low high b k l {w = w} {j = j} ew ej ef er ea ex ey e =
-    let rr = er ∙ (λ i. if high then ef i else l) in
-    let xx = ex ∙ (λ i. insertAt j w (ea i)) ∙ (λ i. insertAt j w (removeAt j (rr i))) in
-    let yy = ey ∙ (λ i. insertAt k w (rr i)) in
-    e ∙ (λ i. if low then xx i else yy i) ∙ (λ i. give low high (ej i) k (ew i) l)
+pub give-low : (high : Bool) (b : Stretch) (k : ℕ) (l : List Stretch) {w : Stretch} {j : ℕ} {rest r : List Stretch} {low : Bool}
+    → w ≡ wholeAt low high b k l → rest ≡ (if high then removeAt k l else l) → j ≡ k - 1 → r ≡ set rest j w → low ≡ true → r ≡ giveAt low high b k l
+give-low high b k l ew er ej e el = e ∙ (λ i. set (er i) (ej i) (ew i)) ∙ rw el refl
 
-pub count-law : (low high : Bool) (n : ℕ) {fewer m least rest r : ℕ}
-    → fewer ≡ n - 1 → m ≡ (if low then fewer else n) → least ≡ m - 1 → rest ≡ (if high then least else m) → r ≡ min rest 32 + 1 → r ≡ countAs low high n
-count-law low high n {m = m} ef em e er e′ =
-    let mm = em ∙ (λ i. if low then ef i else n) in
-    e′ ∙ (λ i. min (er i) 32 + 1) ∙ (λ i. min (if high then e i else m) 32 + 1) ∙ (λ i. min (if high then mm i - 1 else mm i) 32 + 1)
+pub give-lone : (high : Bool) (b : Stretch) (k : ℕ) (l : List Stretch) {w : Stretch} {rest r : List Stretch} {low : Bool}
+    → w ≡ wholeAt low high b k l → rest ≡ (if high then removeAt k l else l) → r ≡ insertAt k w rest → low ≡ false → r ≡ giveAt low high b k l
+give-lone high b k l ew er e el = e ∙ (λ i. insertAt k (ew i) (er i)) ∙ rw el refl
 
-pub free-law : (s : Look) (u : Used) (p : ℕ) {b : Stretch} {n k : ℕ} {low high : Bool} {bs fs : List Stretch} {fewer left : ℕ} {r : Done}
-    → b ≡ getD (s .blocks .places) p none → n ≡ min (u .free) 32 → k ≡ placeOf (passesOf StartsBehind (b .start)) (take n (s .free .places)) → low ≡ touchesLow b k (s .free .places) → high ≡ touchesHigh b k (s .free .places)
-    → bs ≡ removeAt p (s .blocks .places) → fs ≡ giveAt low high b k (s .free .places) → fewer ≡ u .blocks - 1 → left ≡ countAs low high (u .free) → r ≡ doneAs bs fs (b .length) fewer left → r ≡ freeSeen s u p
+-- a place is found among those used, or behind them
+place-most : (p : Stretch → Bool) (n : ℕ) (l : List Stretch) → placeOf p (take n l) ≤ n
+place-most p zero l = zero-le
+place-most p (suc n) [] = zero-le
+place-most p (suc n) (x ∷ xs) = by-bool (p x) (λ e. rw e zero-le) (λ e. let ih : placeOf p (take n xs) ≤ n = place-most p n xs in rw e (omega (arith, ih)))
+
+-- at most as many free stretches are joined with a block as there are, and one more is put in
+pub joins-few : (b : Stretch) (p : Stretch → Bool) (n : ℕ) (l : List Stretch) {k : ℕ} (low high : Bool) → k ≡ placeOf p (take n l) → low ≡ touchesLow b k l → boolByte low + boolByte high ≤ n + 1
+joins-few b p n l {k = k} true high ek el =
+    let h : placeOf p (take n l) ≤ n = place-most p n l in
+    let z : 0 < k = ltb-true 0 k (and-first (ltb 0 k) (eqb (end (getD l (k - 1) none)) (b .start)) (sym el)) in
+    let m : boolByte high ≤ n = byte-most high n (omega (arith, z, ek, h)) in
+    omega (arith, m)
+joins-few b p n l false true ek el = omega arith
+joins-few b p n l false false ek el = omega arith
+
+pub free-law : (s : Look) (u : Used) (p : ℕ) {b : Stretch} {k : ℕ} {low high : Bool} {bs fs : List Stretch} {r : Done}
+    → b ≡ getD (s .blocks) p none → k ≡ placeOf (passesOf StartsBehind (b .start)) (take (u .free) (s .free)) → low ≡ touchesLow b k (s .free) → high ≡ touchesHigh b k (s .free)
+    → bs ≡ removeAt p (s .blocks) → fs ≡ giveAt low high b k (s .free) → r ≡ doneAs bs fs (b .length) (u .blocks - 1) (u .free + 1 - boolByte low - boolByte high) → r ≡ freeSeen s u p
 unfolding freeSeen giveBack countBack
-free-law s u p {b = b} {k = k} eb en ek el eh e₁ e₂ e₃ e₄ er =
-    let kk = ek ∙ (λ i. placeOf (passesOf StartsBehind (eb i .start)) (take (en i) (s .free .places))) in
-    let ff = e₂ ∙ (λ i. giveAt (el i) (eh i) b k (s .free .places)) in
-    let ll = e₄ ∙ (λ i. countAs (el i) (eh i) (u .free)) in
+free-law s u p {b = b} {k = k} {low = low} {high = high} eb ek el eh e₁ e₂ er =
+    let kk = ek ∙ (λ i. placeOf (passesOf StartsBehind (eb i .start)) (take (u .free) (s .free))) in
     er
-    ∙ (λ i. doneAs (e₁ i) (ff i) (b .length) (e₃ i) (ll i))
-    ∙ (λ i. doneAs (removeAt p (s .blocks .places)) (giveBack (eb i) (kk i) (s .free .places)) (eb i .length) (u .blocks - 1) (countBack (eb i) (kk i) (u .free) (s .free .places)))
+    ∙ (λ i. doneAs (e₁ i) ((e₂ ∙ (λ j. giveAt (el j) (eh j) b k (s .free))) i) (b .length) (u .blocks - 1) (u .free + 1 - (byte-bit low ∙ ap bit el) i - (byte-bit high ∙ ap bit eh) i))
+    ∙ (λ i. doneAs (removeAt p (s .blocks)) (giveBack (eb i) (kk i) (s .free)) (eb i .length) (u .blocks - 1) (countBack (eb i) (kk i) (u .free) (s .free)))
 
-pub release-law : (s : Look) (u : Used) (a : ℕ) {k p : ℕ} {d r : Done} → k ≡ releaseRefusal s u a → p ≡ blockAt s u a → d ≡ freeSeen s u p → r ≡ unlessRefused k s u d → r ≡ releaseSeen s u a
+pub release-freed : (s : Look) (u : Used) (a : ℕ) {kept : Bool} {p : ℕ} {r : Done} → kept ≡ keepsSeen s u → kept ≡ true → p ≡ blockAt s u a → p < u .blocks → r ≡ freeSeen s u p → r ≡ releaseSeen s u a
 unfolding releaseSeen
-release-law s u a ek ep ed er = er ∙ (λ i. unlessRefused (ek i) s u ((ed ∙ (λ j. freeSeen s u (ep j))) i))
+release-freed s u a ek e ep h er = er ∙ ap (freeSeen s u) ep ∙ rw (sym ek ∙ e, ap (λ (q : ℕ). ltb q (u .blocks)) (sym ep) ∙ lt-ltb _ (u .blocks) h) refl
+
+pub release-unknown : (s : Look) (u : Used) (a : ℕ) {kept : Bool} {p : ℕ} {r : Done} → kept ≡ keepsSeen s u → kept ≡ true → p ≡ blockAt s u a → u .blocks ≤ p → r ≡ refusedAs s u 16 → r ≡ releaseSeen s u a
+unfolding releaseSeen
+release-unknown s u a ek e ep h er = er ∙ rw (sym ek ∙ e, ap (λ (q : ℕ). ltb q (u .blocks)) (sym ep) ∙ le-ltb _ (u .blocks) h) refl
+
+pub release-unsound : (s : Look) (u : Used) (a : ℕ) {kept : Bool} {r : Done} → kept ≡ keepsSeen s u → kept ≡ false → r ≡ refusedAs s u 2 → r ≡ releaseSeen s u a
+unfolding releaseSeen
+release-unsound s u a ek e er = er ∙ rw (sym ek ∙ e) refl

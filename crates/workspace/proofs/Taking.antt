@@ -9,9 +9,11 @@ use mathlib.Core.List.{List, [], _∷_}
 use lib.Dec.{leb, eqb}
 use borrow.Author.Tests.{leb-true, eqb-true, eqb-false, lt-ltb, le-ltb}
 use Rattle.workspace.specs.declared.Stretch.{Stretch}
-use Rattle.workspace.specs.Rules.{if_then_else_, stretch}
+use Rattle.lists.specs.Lists.{if_then_else_}
+use Rattle.workspace.specs.Rules.{stretch}
 use Rattle.workspace.specs.Operations.{placed, fits, fitStart, cut}
-use Rattle.workspace.proofs.Basics.{cases, ways}
+use Rattle.lists.proofs.Tests.{ways}
+use Rattle.lists.proofs.ListLaws.{by-bool}
 use Rattle.workspace.proofs.Pieces.{Piece, taken, spare, blocksFrom, freeFrom, measure, Good, Sound, Within, blocks-within}
 
 -- ---- a request: n units off the front of the first spare piece that is long enough
@@ -25,8 +27,8 @@ unfolding given
 given-free n a [] = refl
 given-free n a (taken m ∷ ps) = given-free n (a + m) ps
 given-free n a (spare m ∷ ps) =
-    cases (leb n m)
-    (λ e. cases (eqb n m)
+    by-bool (leb n m)
+    (λ e. by-bool (eqb n m)
     (λ s. let t : n ≡ m = eqb-true n m s in rw (e, s) (ap (λ (k : ℕ). freeFrom (a + k) ps) t))
     (λ s. let le : n ≤ m = leb-true n m e in let t : a + n + (m - n) ≡ a + m = omega (arith, le) in rw (e, s) (ap (λ (k : ℕ). stretch (a + n) (m - n) ∷ freeFrom k ps) t)))
     (λ e. rw e (ap (λ (l : List Stretch). stretch a m ∷ l) (given-free n (a + m) ps)))
@@ -36,8 +38,8 @@ unfolding given
 given-measure n [] = refl
 given-measure n (taken m ∷ ps) = ap (λ (k : ℕ). m + k) (given-measure n ps)
 given-measure n (spare m ∷ ps) =
-    cases (leb n m)
-    (λ e. cases (eqb n m)
+    by-bool (leb n m)
+    (λ e. by-bool (eqb n m)
     (λ s. let t : n ≡ m = eqb-true n m s in rw (e, s) (ap (λ (k : ℕ). k + measure ps) t))
     (λ s. let le : n ≤ m = leb-true n m e in rw (e, s) (omega (arith, le))))
     (λ e. rw e (ap (λ (k : ℕ). m + k) (given-measure n ps)))
@@ -50,8 +52,8 @@ unfolding given
 given-good n after [] h g = tt
 given-good n after (taken m ∷ ps) h g = (g .0, given-good n false ps h (g .1))
 given-good n after (spare m ∷ ps) h g =
-    cases (leb n m)
-    (λ e. cases (eqb n m)
+    by-bool (leb n m)
+    (λ e. by-bool (eqb n m)
     (λ s. rw (e, s) (h, good-behind ps (g .2)))
     (λ s. rw (e, s) (h, (less n m (leb-true n m e) s, refl, g .2))))
     (λ e. rw e (g .0, g .1, given-good n true ps h (g .2)))
@@ -67,7 +69,7 @@ fit-from : (n a : ℕ) (ps : List Piece) → fits n (freeFrom a ps) ≡ true →
 fit-from n a [] e = absurd (true≢false (sym e))
 fit-from n a (taken m ∷ ps) e = let ih : a + m ≤ fitStart n (freeFrom (a + m) ps) = fit-from n (a + m) ps e in omega (arith, ih)
 fit-from n a (spare m ∷ ps) e =
-    cases (leb n m)
+    by-bool (leb n m)
     (λ f. rw f (le-refl a))
     (λ f. rw f (let k : fits n (freeFrom (a + m) ps) ≡ true = rw f at e in let ih : a + m ≤ fitStart n (freeFrom (a + m) ps) = fit-from n (a + m) ps k in omega (arith, ih)))
 
@@ -84,8 +86,8 @@ given-blocks n a after (taken m ∷ ps) g e =
     let k : a + m ≤ fitStart n (freeFrom (a + m) ps) = fit-from n (a + m) ps e in
     rw (le-ltb (fitStart n (freeFrom (a + m) ps)) a (omega (arith, k))) (ap (λ (l : List Stretch). stretch a m ∷ l) ih)
 given-blocks n a after (spare m ∷ ps) g e =
-    cases (leb n m)
-    (λ f. cases (eqb n m)
+    by-bool (leb n m)
+    (λ f. by-bool (eqb n m)
     (λ s. let t : n ≡ m = eqb-true n m s in rw (f, s) (ap (λ (k : ℕ). stretch a n ∷ blocksFrom (a + k) ps) t ∙ sym (in-front (stretch a n) (a + m) (a + m + measure ps) (blocksFrom (a + m) ps) (let h : 0 < m = g .0 in omega (arith, h)) (blocks-within (a + m) ps))))
     (λ s. let le : n ≤ m = leb-true n m f in let t : a + n + (m - n) ≡ a + m = omega (arith, le) in
     rw (f, s) (ap (λ (k : ℕ). stretch a n ∷ blocksFrom k ps) t ∙ sym (in-front (stretch a n) (a + m) (a + m + measure ps) (blocksFrom (a + m) ps) (let h : 0 < m = g .0 in omega (arith, h)) (blocks-within (a + m) ps)))))

@@ -11,11 +11,14 @@ use mathlib.Core.List.{List, [], _∷_, _++_}
 use mathlib.Core.Logic.{_⊎_, inl, inr}
 use lib.ListN.{length}
 use lib.Dec.{leb, eqb}
-use borrow.Author.Tests.{ltb-true, leb-true, leb-false, eqb-true, eqb-false, lt-ltb, le-leb, eq-eqb, ne-eqb}
+use borrow.Author.Tests.{ltb-true, leb-true, leb-false, eqb-true, eqb-false, lt-ltb, le-leb, eq-eqb, ne-eqb, not-true}
 use Rattle.workspace.specs.declared.Stretch.{Stretch}
-use Rattle.workspace.specs.Rules.{every, pairs, units, stretch, end, total, isBefore, isLong, isInside, isApart, isLoose, isKept}
-use Rattle.workspace.proofs.Basics.{cases, ways, no, and-left, and-right, both, not-flip, split7}
-use Rattle.workspace.proofs.Pieces.{Piece, taken, spare, blocksFrom, freeFrom, measure, Good, Sound, Within, bit, adds-up, wider, blocks-within, free-within}
+use Rattle.lists.specs.Lists.{every, bit}
+use Rattle.workspace.specs.Rules.{pairs, units, stretch, end, total, isBefore, isLong, isInside, isApart, isLoose, isKept}
+use Rattle.lists.proofs.Tests.{ways, and-first, and-second}
+use Rattle.lists.proofs.ListLaws.{by-bool}
+use Rattle.workspace.proofs.Basics.{no, both, split7}
+use Rattle.workspace.proofs.Pieces.{Piece, taken, spare, blocksFrom, freeFrom, measure, Good, Sound, Within, adds-up, wider, blocks-within, free-within}
 use Rattle.workspace.proofs.CheckLaws.{Cut}
 
 -- ---- tests of lists
@@ -23,10 +26,10 @@ abbrev pub All : (Stretch → Bool) → List Stretch → Type 0
 All p l = every p l ≡ true
 
 head-of : (p : Stretch → Bool) (x : Stretch) (l : List Stretch) → All p (x ∷ l) → p x ≡ true
-head-of p x l e = and-left (p x) (every p l) e
+head-of p x l e = and-first (p x) (every p l) e
 
 rest-of : (p : Stretch → Bool) (x : Stretch) (l : List Stretch) → All p (x ∷ l) → All p l
-rest-of p x l e = and-right (p x) (every p l) e
+rest-of p x l e = and-second (p x) (every p l) e
 
 -- a test that follows from three
 follows : (p q r w : Stretch → Bool) → ((t : Stretch) → p t ≡ true → q t ≡ true → r t ≡ true → w t ≡ true) → (l : List Stretch) → All p l → All q l → All r l → All w l
@@ -34,10 +37,10 @@ follows p q r w f [] a b c = refl
 follows p q r w f (x ∷ xs) a b c = both (f x (head-of p x xs a) (head-of q x xs b) (head-of r x xs c)) (follows p q r w f xs (rest-of p x xs a) (rest-of q x xs b) (rest-of r x xs c))
 
 pairs-head : (p : Stretch → Stretch → Bool) (x : Stretch) (l : List Stretch) → pairs p (x ∷ l) ≡ true → All (p x) l
-pairs-head p x l e = and-left (every (p x) l) (pairs p l) e
+pairs-head p x l e = and-first (every (p x) l) (pairs p l) e
 
 pairs-rest : (p : Stretch → Stretch → Bool) (x : Stretch) (l : List Stretch) → pairs p (x ∷ l) ≡ true → pairs p l ≡ true
-pairs-rest p x l e = and-right (every (p x) l) (pairs p l) e
+pairs-rest p x l e = and-second (every (p x) l) (pairs p l) e
 
 -- ---- two lists as one
 pub all-left : (p : Stretch → Bool) (l m : List Stretch) → All p (l ++ m) → All p l
@@ -118,8 +121,8 @@ in-order l = pairs-follow isBefore isApart (behind 0) (λ s t e f g. let h : end
 loosely : (s t : Stretch) → behind 0 s t ≡ true → isLoose s t ≡ true → behind 1 s t ≡ true
 loosely s t e f =
     let h : end s + 0 ≤ t .start = leb-true (end s + 0) (t .start) e in
-    let d : end s ≡ t .start → ⊥ = eqb-false (end s) (t .start) (or-false (eqb (end s) (t .start)) (eqb (end t) (s .start)) (not-flip (eqb (end s) (t .start) || eqb (end t) (s .start)) f)) in
-    cases (leb (end s + 1) (t .start)) (λ k. k) (λ k. let l : t .start < end s + 1 = leb-false (end s + 1) (t .start) k in absurd (d (omega (arith, h, l))))
+    let d : end s ≡ t .start → ⊥ = eqb-false (end s) (t .start) (or-false (eqb (end s) (t .start)) (eqb (end t) (s .start)) (not-true (eqb (end s) (t .start) || eqb (end t) (s .start)) f)) in
+    by-bool (leb (end s + 1) (t .start)) (λ k. k) (λ k. let l : t .start < end s + 1 = leb-false (end s + 1) (t .start) k in absurd (d (omega (arith, h, l))))
 
 not-touching : (l : List Stretch) → pairs (behind 0) l ≡ true → pairs isLoose l ≡ true → All isLong l → pairs (behind 1) l ≡ true
 not-touching l = pairs-follow (behind 0) isLoose (behind 1) (λ s t e f g. loosely s t e f) l

@@ -5,7 +5,8 @@ use mathlib.Core.List.{List, [], _∷_}
 use lib.Dec.{ltb, eqb}
 use Rattle.workspace.specs.declared.Stretch.{Stretch}
 use Rattle.workspace.specs.declared.Reach.{Reach}
-use Rattle.workspace.specs.Rules.{if_then_else_, units}
+use Rattle.lists.specs.Lists.{if_then_else_}
+use Rattle.workspace.specs.Rules.{units}
 
 -- a stretch begins at a, and is not empty
 abbrev pub beginsAt : ℕ → Stretch → Bool

@@ -7,7 +7,8 @@ use lib.Dec.{leb, ltb, eqb}
 use Rattle.workspace.specs.declared.Stretch.{Stretch}
 use Rattle.workspace.specs.declared.Used.{Used}
 use Rattle.workspace.specs.declared.Answer.{Answer}
-use Rattle.workspace.specs.Rules.{if_then_else_, units, stretch, none, end, hasPlaces, rulesKept}
+use Rattle.lists.specs.Lists.{if_then_else_}
+use Rattle.workspace.specs.Rules.{units, stretch, none, end, hasPlaces, rulesKept}
 
 -- a stretch put in its place in address order
 abbrev pub placed : Stretch → List Stretch → List Stretch

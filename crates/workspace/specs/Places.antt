@@ -6,7 +6,8 @@ use lib.Dec.{leb, ltb, eqb}
 use Rattle.workspace.specs.declared.Stretch.{Stretch}
 use Rattle.workspace.specs.declared.Test.{Test}
 use Rattle.workspace.specs.declared.Test.the-variants.{StartsAt, StartsBehind, HasUnits}
-use Rattle.workspace.specs.Rules.{if_then_else_, none}
+use Rattle.lists.specs.Lists.{if_then_else_}
+use Rattle.workspace.specs.Rules.{none}
 
 -- the place of the first stretch that passes the test; the number of places where none does
 abbrev pub placeOf : (Stretch → Bool) → List Stretch → ℕ

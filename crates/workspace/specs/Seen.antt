@@ -3,11 +3,12 @@ use Prim.Native.Nat.{ℕ}
 use mathlib.Core.Bool.{_&&_, _||_}
 use mathlib.Core.List.{List}
 use lib.ListN.{length, getD, set, drop, replicate}
-use lib.Dec.{ltb}
+use lib.Dec.{leb, ltb}
 use Rattle.workspace.specs.declared.Stretch.{Stretch}
 use Rattle.workspace.specs.declared.Table.{Table}
 use Rattle.workspace.specs.declared.Look.{Look}
-use Rattle.workspace.specs.Rules.{if_then_else_, every, none, isNone}
+use Rattle.lists.specs.Lists.{if_then_else_, every}
+use Rattle.workspace.specs.Rules.{none, isNone}
 use Rattle.workspace.specs.declared.Test.the-variants.{HasUnits}
 use Rattle.workspace.specs.Places.{placeOf, passesOf, over}
 
@@ -27,9 +28,9 @@ placeAfter t i x = if ltb i 32 then getD (t .places) i none else (if t .clear th
 unfoldable pub laid : Table → List Stretch → List Stretch
 laid t l = over (if t .clear then replicate (length l) none else l) (t .places)
 
--- the parts of what is seen
+-- the parts of what is seen, of tables of m and n places
 abbrev pub seenAs : Table → Table → ℕ → ℕ → ℕ → Look
-seenAs b f m n place = record { blocks = b; free = f; places = record { blocks = m; free = n }; place = place }
+seenAs b f m n place = record { blocks = b .places; free = f .places; long = leb 31 m && leb 32 n; clear = b .clear && f .clear; place = place }
 
 -- what is seen of two lent tables, and the place of the first free stretch of n units
 unfoldable pub lookOf : List Stretch → List Stretch → ℕ → Look

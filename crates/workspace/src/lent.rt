@@ -3,8 +3,6 @@ use crate::Done;
 use crate::Look;
 use crate::Stretch;
 use crate::Table;
-use crate::Used;
-use crate::picks::pick_stretch;
 use crate::places::is_none;
 use crate::places::nth;
 use crate::places::with_at;
@@ -71,14 +69,18 @@ pub fn loaded(table: &[Stretch]) -> Table
 pub fn place_after(t: Table, i: usize, x: Stretch) -> Stretch
     ensures { λ r. ⌜ r ≡ placeAfter t i x ⌝ }
 {
-    let places = t.places;
-    let noted = nth(places, i);
-    let none = Stretch {
-        start: 0,
-        length: 0,
-    };
-    let rest = pick_stretch(t.clear, none, x);
-    pick_stretch(i < 32, noted, rest)
+    if i < 32 {
+        let places = t.places;
+        return nth(places, i);
+    }
+    if t.clear {
+        Stretch {
+            start: 0,
+            length: 0,
+        }
+    } else {
+        x
+    }
 }
 
 // Writes each place of a table.
@@ -92,15 +94,17 @@ pub fn stored(table: &mut [Stretch], t: Table)
     }
 }
 
-// The parts of what is seen.
+// The parts of what is seen, of tables of m and n places.
 pub fn seen_as(b: Table, f: Table, m: usize, n: usize, place: usize) -> Look
     ensures { λ r. ⌜ r ≡ seenAs b f m n place ⌝ }
 {
-    let places = Used { blocks: m, free: n };
+    let blocks = b.places;
+    let free = f.places;
     Look {
-        blocks: b,
-        free: f,
-        places,
+        blocks,
+        free,
+        long: (31 <= m) & (32 <= n),
+        clear: b.clear & f.clear,
         place,
     }
 }

@@ -7,7 +7,6 @@ mod places; // places.rt: 32 places by value: searched, set, taken out, put in
 mod rules; // rules.rt: the check that two tables keep the rules
 mod steps; // steps.rt: what each operation does to the places
 pub mod owned; // owned.rt: the same operations on two tables by value
-mod picks; // picks.rt: one of two values, and small sums
 
 use lent::look_at;
 use lent::write_back;
@@ -49,11 +48,13 @@ struct Table {
     clear: bool,
 }
 
-// What is seen of the two lent tables, how many places each has, and the place of the first free stretch that is long enough.
+// What is seen of the two lent tables: the first 32 places of each, whether there are 31 and 32, whether all places behind them are
+// unused, and the place of the first free stretch that is long enough.
 struct Look {
-    blocks: Table,
-    free: Table,
-    places: Used,
+    blocks: [Stretch; 32],
+    free: [Stretch; 32],
+    long: bool,
+    clear: bool,
     place: usize,
 }
 

@@ -4,14 +4,13 @@ use crate::Look;
 use crate::Table;
 use crate::Tables;
 use crate::Test;
-use crate::lent::seen_as;
 use crate::places::place_of;
 use crate::steps::made;
 use crate::steps::released;
 use crate::steps::requested;
 ghost use mathlib.Core.Path.{_≡_};
 ghost use lib.ListN.{length};
-ghost use Rattle.workspace.specs.Operations.{freshOf, requestOf, releaseOf};
+ghost use Rattle.workspace.specs.Operations.{requestOf, releaseOf};
 ghost use Rattle.workspace.specs.Seen.{lookOf};
 ghost use Rattle.workspace.specs.Owning.{tablesAs, ownedFresh, ownedAfter};
 
@@ -21,16 +20,14 @@ fn looked(area: Tables, size: u32) -> Look
 {
     let blocks = area.blocks;
     let free = area.free;
-    let b = Table {
-        places: blocks,
-        clear: true,
-    };
-    let f = Table {
-        places: free,
-        clear: true,
-    };
     let place = place_of(free, 32, Test::HasUnits, size);
-    seen_as(b, f, 32, 32, place)
+    Look {
+        blocks,
+        free,
+        long: true,
+        clear: true,
+        place,
+    }
 }
 
 // The parts of what is left.

@@ -1,24 +1,17 @@
 // Tables of 32 places by value: searched, set, taken out and put in.
 use crate::Stretch;
 use crate::Test;
-use crate::picks::wide;
 ghost use mathlib.Core.Path.{_≡_};
-ghost use Prim.Native.Nat.{_<_, _≤_};
+ghost use Prim.Native.Nat.{_≤_};
 ghost use lib.ListN.{getD, set, take, drop};
-ghost use Rattle.workspace.specs.Rules.{every, none, isNone, end};
+ghost use Rattle.lists.specs.Lists.{every};
+ghost use Rattle.workspace.specs.Rules.{none, isNone};
 ghost use Rattle.workspace.specs.Places.{placeOf, passesOf, removeAt, insertAt};
 
 pub fn is_none(x: Stretch) -> bool
     ensures { λ r. ⌜ r ≡ isNone x ⌝ }
 {
     (x.start == 0) & (x.length == 0)
-}
-
-// The first unit behind x.
-pub fn end_of(x: Stretch) -> u64
-    ensures { λ r. ⌜ r ≡ end x ⌝ }
-{
-    wide(x.start) + wide(x.length)
 }
 
 // What a search looks for.
@@ -107,38 +100,18 @@ pub fn all_none(a: [Stretch; 32], n: usize) -> bool
     true
 }
 
-// What stands at place i once the place p is taken out.
-pub fn behind(a: [Stretch; 32], p: usize, i: usize) -> Stretch
-    requires { ⌜ i < 32 ⌝ }
-    ensures { λ r. ⌜ r ≡ getD (removeAt p a) i none ⌝ }
-{
-    if i < p { nth(a, i) } else { nth(a, i + 1) }
-}
-
-// The places without the one at p: those behind it move up.
+// The places without the one at p: those behind it move up, and the last is unused.
 pub fn closed(a: [Stretch; 32], p: usize) -> [Stretch; 32]
     ensures { λ r. ⌜ r ≡ removeAt p a ⌝ }
 {
     let mut r = a;
-    let mut i = 0;
+    let mut i = p;
     while i < 32 {
-        let x = behind(a, p, i);
+        let x = nth(a, i + 1);
         r[i] = x;
         i += 1;
     }
     r
-}
-
-// What stands at place i once x is put in at place p.
-pub fn put_in(a: [Stretch; 32], p: usize, x: Stretch, i: usize) -> Stretch
-    requires { ⌜ i < 32 ⌝ }
-    ensures { λ r. ⌜ r ≡ getD (insertAt p x a) i none ⌝ }
-{
-    if i < p {
-        nth(a, i)
-    } else {
-        if p < i { nth(a, i - 1) } else { x }
-    }
 }
 
 // The places with x put in at p: those from p on move down, and the last is left out.
@@ -146,10 +119,12 @@ pub fn opened(a: [Stretch; 32], p: usize, x: Stretch) -> [Stretch; 32]
     ensures { λ r. ⌜ r ≡ insertAt p x a ⌝ }
 {
     let mut r = a;
-    let mut i = 0;
+    let mut y = x;
+    let mut i = p;
     while i < 32 {
-        let y = put_in(a, p, x, i);
+        let next = nth(a, i);
         r[i] = y;
+        y = next;
         i += 1;
     }
     r

@@ -6,27 +6,31 @@ use crate::Stretch;
 use crate::Table;
 use crate::Test;
 use crate::Used;
-use crate::lent::empty;
-use crate::picks::at_most_32;
-use crate::picks::down;
-use crate::picks::less;
-use crate::picks::pick_done;
-use crate::picks::pick_places;
-use crate::picks::pick_u8;
-use crate::picks::pick_u32;
-use crate::picks::pick_usize;
-use crate::picks::up;
-use crate::picks::wide;
 use crate::places::closed;
-use crate::places::end_of;
 use crate::places::nth;
 use crate::places::opened;
 use crate::places::place_of;
 use crate::places::with_at;
-use crate::rules::has_seen;
 use crate::rules::keeps;
 ghost use mathlib.Core.Path.{_≡_};
-ghost use Rattle.workspace.specs.Steps.{unlessRefused, doneAs, freshSeen, requestRefusal, cutAt, grantSeen, requestSeen, blockAt, releaseRefusal, touchesLow, touchesHigh, wholeAt, giveAt, countAs, freeSeen, releaseSeen};
+ghost use Prim.Native.Nat.{_<_, _≤_, _-_};
+ghost use Rattle.lists.specs.Lists.{if_then_else_};
+ghost use Rattle.workspace.specs.Places.{removeAt};
+ghost use Rattle.workspace.specs.Steps.{refusedAs, doneAs, freshSeen, requestRefusal, cutAt, grantSeen, requestSeen, touchesLow, touchesHigh, wholeAt, giveAt, freeSeen, releaseSeen};
+
+// x or y.
+pub fn pick_u32(b: bool, x: u32, y: u32) -> u32
+    ensures { λ r. ⌜ r ≡ (if b then x else y) ⌝ }
+{
+    if b { x } else { y }
+}
+
+// One place before, down to the first.
+pub fn down(n: usize) -> usize
+    ensures { λ r. ⌜ r ≡ n - 1 ⌝ }
+{
+    if 0 < n { n - 1 } else { 0 }
+}
 
 // The parts of what is done: the places of both tables, the answer, and the number of places used.
 pub fn done_as(bs: [Stretch; 32], fs: [Stretch; 32], value: u32, m: usize, n: usize) -> Done
@@ -53,114 +57,122 @@ pub fn done_as(bs: [Stretch; 32], fs: [Stretch; 32], value: u32, m: usize, n: us
     }
 }
 
-// A refusal changes nothing; with the number 0 the step is made.
-pub fn unless_refused(refusal: u8, seen: Look, used: Used, taken: Done) -> Done
-    ensures { λ r. ⌜ r ≡ unlessRefused refusal seen used taken ⌝ }
+// A refusal changes nothing.
+pub fn refused(seen: Look, used: Used, refusal: u8) -> Done
+    ensures { λ r. ⌜ r ≡ refusedAs seen used refusal ⌝ }
 {
-    let blocks = seen.blocks;
-    let free = seen.free;
+    let bs = seen.blocks;
+    let fs = seen.free;
+    let blocks = Table {
+        places: bs,
+        clear: false,
+    };
+    let free = Table {
+        places: fs,
+        clear: false,
+    };
     let answer = Answer {
         refusal,
         value: 0,
         used,
     };
-    let same = Done {
+    Done {
         blocks,
         free,
         answer,
-    };
-    pick_done(refusal == 0, taken, same)
+    }
 }
 
 // A fresh area is one free stretch.
 pub fn made(seen: Look) -> Done
     ensures { λ r. ⌜ r ≡ freshSeen seen ⌝ }
 {
-    let e = empty();
-    let places = e.places;
-    let all = Stretch {
-        start: 0,
-        length: 65536,
-    };
-    let one = with_at(places, 0, all);
-    let area = done_as(places, one, 0, 0, 1);
-    let h = has_seen(seen);
-    let refusal = pick_u8(h, 0, 2);
-    let used = Used { blocks: 0, free: 0 };
-    unless_refused(refusal, seen, used, area)
+    if seen.long {
+        let none = Stretch {
+            start: 0,
+            length: 0,
+        };
+        let blocks = [none; 32];
+        let all = Stretch {
+            start: 0,
+            length: 65536,
+        };
+        let free = with_at(blocks, 0, all);
+        done_as(blocks, free, 0, 0, 1)
+    } else {
+        let used = Used { blocks: 0, free: 0 };
+        refused(seen, used, 2)
+    }
 }
 
-// The refusal of a request, 0 if there is none.
-pub fn request_refusal(seen: Look, used: Used, size: u32) -> u8
-    ensures { λ r. ⌜ r ≡ requestRefusal seen used size ⌝ }
+// The refusal of a request, for which a free stretch is found at `place`; 0 if there is none.
+pub fn request_refusal(kept: bool, used: Used, place: usize, size: u32) -> u8
+    ensures { λ r. ⌜ r ≡ requestRefusal kept used place size ⌝ }
 {
-    let a = pick_u8(seen.place < used.free, 0, 15);
-    let b = pick_u8(used.blocks < 31, a, 14);
-    let c = pick_u8((1 <= size) & (size <= 65535), b, 13);
-    let k = keeps(seen, used);
-    pick_u8(k, c, 2)
+    if !kept {
+        return 2;
+    }
+    let sized = (1 <= size) & (size <= 65535);
+    if !sized {
+        return 13;
+    }
+    if 31 <= used.blocks {
+        return 14;
+    }
+    if used.free <= place {
+        return 15;
+    }
+    0
 }
 
-// The free stretches once `size` units are taken off the front of the one at place p.
+// The free stretches once `size` units are taken off the front of the one at place p, or all of it.
 pub fn cut_at(l: [Stretch; 32], p: usize, size: u32) -> [Stretch; 32]
     ensures { λ r. ⌜ r ≡ cutAt p size l ⌝ }
 {
     let s = nth(l, p);
-    let start = std::num::wrapping_add_u32(s.start, size);
-    let length = less(s.length, size);
-    let rest = Stretch { start, length };
-    let whole = closed(l, p);
-    let part = with_at(l, p, rest);
-    pick_places(size == s.length, whole, part)
+    if size < s.length {
+        let start = std::num::wrapping_add_u32(s.start, size);
+        let rest = Stretch {
+            start,
+            length: s.length - size,
+        };
+        with_at(l, p, rest)
+    } else {
+        closed(l, p)
+    }
 }
 
 // The front of the stretch found becomes a block.
 pub fn granted(seen: Look, used: Used, size: u32) -> Done
+    requires { ⌜ used .blocks ≤ 31 ⌝ }
+    requires { ⌜ 0 < used .free ⌝ }
     ensures { λ r. ⌜ r ≡ grantSeen seen used size ⌝ }
 {
-    let bs = seen.blocks.places;
-    let fs = seen.free.places;
+    let bs = seen.blocks;
+    let fs = seen.free;
     let p = seen.place;
     let s = nth(fs, p);
-    let m = at_most_32(used.blocks);
-    let k = place_of(bs, m, Test::StartsBehind, s.start);
+    let k = place_of(bs, used.blocks, Test::StartsBehind, s.start);
     let block = Stretch {
         start: s.start,
         length: size,
     };
     let blocks = opened(bs, k, block);
     let free = cut_at(fs, p, size);
-    let more = up(used.blocks);
-    let fewer = down(used.free);
-    let left = pick_usize(size == s.length, fewer, used.free);
-    done_as(blocks, free, s.start, more, left)
+    let left = used.free - (s.length <= size) as usize;
+    done_as(blocks, free, s.start, used.blocks + 1, left)
 }
 
 pub fn requested(seen: Look, used: Used, size: u32) -> Done
     ensures { λ r. ⌜ r ≡ requestSeen seen used size ⌝ }
 {
-    let refusal = request_refusal(seen, used, size);
-    let taken = granted(seen, used, size);
-    unless_refused(refusal, seen, used, taken)
-}
-
-// The place of the block that starts at `start`; behind all blocks where there is none.
-pub fn block_at(seen: Look, used: Used, start: u32) -> usize
-    ensures { λ r. ⌜ r ≡ blockAt seen used start ⌝ }
-{
-    let bs = seen.blocks.places;
-    let m = at_most_32(used.blocks);
-    place_of(bs, m, Test::StartsAt, start)
-}
-
-// The refusal of a release, 0 if there is none.
-pub fn release_refusal(seen: Look, used: Used, start: u32) -> u8
-    ensures { λ r. ⌜ r ≡ releaseRefusal seen used start ⌝ }
-{
-    let p = block_at(seen, used, start);
-    let a = pick_u8(p < used.blocks, 0, 16);
-    let k = keeps(seen, used);
-    pick_u8(k, a, 2)
+    let kept = keeps(seen, used);
+    let refusal = request_refusal(kept, used, seen.place, size);
+    if refusal == 0 {
+        granted(seen, used, size)
+    } else {
+        refused(seen, used, refusal)
+    }
 }
 
 // The free stretch before place k touches b.
@@ -169,9 +181,7 @@ pub fn touches_low(b: Stretch, k: usize, l: [Stretch; 32]) -> bool
 {
     let j = down(k);
     let x = nth(l, j);
-    let e = end_of(x);
-    let s = wide(b.start);
-    (0 < k) & (e == s)
+    (0 < k) & (x.start as u64 + x.length as u64 == b.start as u64)
 }
 
 // The free stretch at place k touches b.
@@ -179,9 +189,7 @@ pub fn touches_high(b: Stretch, k: usize, l: [Stretch; 32]) -> bool
     ensures { λ r. ⌜ r ≡ touchesHigh b k l ⌝ }
 {
     let x = nth(l, k);
-    let e = end_of(b);
-    let s = wide(x.start);
-    e == s
+    b.start as u64 + b.length as u64 == x.start as u64
 }
 
 // b, which goes to the place k, with the neighbours that touch it.
@@ -199,54 +207,58 @@ pub fn whole_of(low: bool, high: bool, b: Stretch, k: usize, l: [Stretch; 32]) -
     Stretch { start, length }
 }
 
+// The free stretches without the one at place k, where that one touches.
+pub fn rest_of(high: bool, k: usize, l: [Stretch; 32]) -> [Stretch; 32]
+    ensures { λ r. ⌜ r ≡ (if high then removeAt k l else l) ⌝ }
+{
+    if high { closed(l, k) } else { l }
+}
+
 // The neighbours that touch b are taken out, and the whole is put in.
 pub fn give_back(low: bool, high: bool, b: Stretch, k: usize, l: [Stretch; 32]) -> [Stretch; 32]
     ensures { λ r. ⌜ r ≡ giveAt low high b k l ⌝ }
 {
     let whole = whole_of(low, high, b, k, l);
-    let j = down(k);
-    let fewer = closed(l, k);
-    let rest = pick_places(high, fewer, l);
-    let alone = closed(rest, j);
-    let x = opened(alone, j, whole);
-    let y = opened(rest, k, whole);
-    pick_places(low, x, y)
-}
-
-// How many free stretches there are then, of n.
-pub fn count_back(low: bool, high: bool, n: usize) -> usize
-    ensures { λ r. ⌜ r ≡ countAs low high n ⌝ }
-{
-    let fewer = down(n);
-    let m = pick_usize(low, fewer, n);
-    let least = down(m);
-    let rest = pick_usize(high, least, m);
-    up(rest)
+    let rest = rest_of(high, k, l);
+    if low {
+        let j = down(k);
+        with_at(rest, j, whole)
+    } else {
+        opened(rest, k, whole)
+    }
 }
 
 // The block at place p becomes free.
 pub fn freed(seen: Look, used: Used, p: usize) -> Done
+    requires { ⌜ 0 < used .blocks ⌝ }
+    requires { ⌜ used .free ≤ 32 ⌝ }
     ensures { λ r. ⌜ r ≡ freeSeen seen used p ⌝ }
 {
-    let bs = seen.blocks.places;
-    let fs = seen.free.places;
+    let bs = seen.blocks;
+    let fs = seen.free;
     let b = nth(bs, p);
-    let n = at_most_32(used.free);
-    let k = place_of(fs, n, Test::StartsBehind, b.start);
+    let k = place_of(fs, used.free, Test::StartsBehind, b.start);
     let low = touches_low(b, k, fs);
     let high = touches_high(b, k, fs);
     let blocks = closed(bs, p);
     let free = give_back(low, high, b, k, fs);
-    let fewer = down(used.blocks);
-    let left = count_back(low, high, used.free);
-    done_as(blocks, free, b.length, fewer, left)
+    let left = used.free + 1 - low as usize - high as usize;
+    done_as(blocks, free, b.length, used.blocks - 1, left)
 }
 
 pub fn released(seen: Look, used: Used, start: u32) -> Done
     ensures { λ r. ⌜ r ≡ releaseSeen seen used start ⌝ }
 {
-    let refusal = release_refusal(seen, used, start);
-    let p = block_at(seen, used, start);
-    let taken = freed(seen, used, p);
-    unless_refused(refusal, seen, used, taken)
+    let kept = keeps(seen, used);
+    if kept {
+        let bs = seen.blocks;
+        let p = place_of(bs, used.blocks, Test::StartsAt, start);
+        if p < used.blocks {
+            freed(seen, used, p)
+        } else {
+            refused(seen, used, 16)
+        }
+    } else {
+        refused(seen, used, 2)
+    }
 }

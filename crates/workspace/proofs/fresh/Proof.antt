@@ -1,7 +1,7 @@
 -- `workspace::fresh` meets its contract: a walk of its MIR, by hand. Both tables are looked at, a covered function works out what is to be done, and the tables are written.
 --     begins       the body, once the parameters are in their locals
 -- Assumes nothing.
-use Rattle.workspace.proofs.Prelude.{_≡_, refl, _∙_, ℕ, _<_, List, [], _∷_, length, URA, fullShare, named, erased, imm, mut, tyUnit, Val, SProp, ent, emp, via, fst∗, snd∗, exE, Lft, Share, ftrue, fat, froom, fdies, flft, Memory, Routine, Heap, Env, WpFn, Calls, Loops, Tables, Atoms, sem, Fun, fact, givenOf, tables, tablesOf, Given, Item, _⊛_, ⋆, runs, atRet, Sq, _$_, _∵_, !, qed, by, move, drop, split, join, fsplit, fjoin, suffices, frame, done, agg, whole, sub, look-in, look, init, forget, stop, hop, fld, from, load, addr, of-opd, and-then, no-more, lit, lit<, assigns, land, returns, enter, alloc1, alloc0, params1, pass1, pass0, free1, free0, FmC, fmOf, WpFn-mono, owns, Is, RefT, MutSlice, Room, finally, slice-vals, mut-slice-tells, plain, nothing, owned, Vals, onEntry, Meets, tripleOf, Contract, Triple, ensured, lasts, entered, cited, says, Stays, gave-slice, walkOf, AllGo, goes-gave-slice, Walks, ends-at, walked, walk-meets, ‵}
+use Rattle.workspace.proofs.Prelude.{_≡_, refl, _∙_, ℕ, _<_, List, [], _∷_, length, URA, fullShare, named, erased, imm, mut, tyUnit, Val, SProp, ent, emp, via, fst∗, snd∗, exE, Lft, Share, ftrue, fat, froom, fdies, flft, Memory, Routine, Heap, Env, WpFn, Calls, Loops, Tables, Atoms, sem, Fun, fact, givenOf, tables, tablesOf, Given, Item, _⊛_, ⋆, runs, atRet, Sq, _$_, _∵_, !, qed, by, move, drop, split, join, fsplit, fjoin, suffices, frame, done, agg, whole, sub, look-in, look, init, stop, hop, fld, from, load, addr, of-opd, and-then, no-more, lit, lit<, assigns, land, returns, enter, alloc1, alloc0, params1, pass1, pass0, free0, FmC, fmOf, WpFn-mono, owns, Is, RefT, MutSlice, Room, finally, slice-vals, mut-slice-tells, plain, nothing, owned, Vals, onEntry, Meets, tripleOf, Contract, Triple, ensured, lasts, entered, cited, says, Stays, gave-slice, walkOf, AllGo, goes-gave-slice, Walks, ends-at, walked, walk-meets, ‵}
 use denote.Struct.Laws as LL
 use Rattle.workspace.specs.declared.Stretch.{Stretch}
 use Rattle.workspace.specs.declared.Look.{Look}
@@ -10,8 +10,9 @@ use Rattle.workspace.specs.Operations.{freshOf, unused}
 use Rattle.workspace.specs.Seen.{laid, lookOf}
 use Rattle.workspace.specs.Steps.{freshSeen}
 use Rattle.workspace.proofs.Bridge.{Says, fresh-says}
+use Rattle.workspace.proofs.Walks.{lets-go}
 use Rattle.workspace.proofs.Calls.{Told, tells-struct, calls-told}
-use Rattle.workspace.proofs.Both.{ptr, slice, answer, looked, Looked, low, Low, Lent, val, LookAt, WriteBack, looks, writes-back}
+use Rattle.workspace.proofs.Both.{ptr, slice, answer, looked, Looked, low, Low, Lent, val, LookAt, WriteBack, looks, writes-back, knows-look-at, knows-write-back}
 use Rattle.workspace.proofs.Stretch as T
 use Rattle.workspace.proofs.Look as L
 use Rattle.workspace.proofs.Look.Laws as L′
@@ -19,12 +20,8 @@ use Rattle.workspace.proofs.Answer as R
 use Rattle.workspace.proofs.Answer.Laws as R′
 use Rattle.workspace.proofs.Done as N
 use Rattle.workspace.proofs.Done.Laws as N′
-use Rattle.workspace.proofs.lent.look_at.Symbol as look-at-def
 use Rattle.workspace.proofs.lent.look_at.Symbol.{name as #workspace·look-at}
-use Rattle.workspace.proofs.lent.look_at.Met as look-at-thm
-use Rattle.workspace.proofs.lent.write_back.Symbol as write-back-def
 use Rattle.workspace.proofs.lent.write_back.Symbol.{name as #workspace·write-back}
-use Rattle.workspace.proofs.lent.write_back.Met as write-back-thm
 use Rattle.workspace.proofs.steps.made as made
 use Rattle.workspace.proofs.steps.made.Symbol as made-def
 use Rattle.workspace.proofs.steps.made.Symbol.{name as #workspace·made}
@@ -120,9 +117,7 @@ module _ {M : Type 1} (𝓤 : URA M) (H : Heap 𝓤) (A : Atoms 𝓤) (W : Given
         writes-back ! mem run κ₁ κ₂ q₁ q₂ t₁ t₂ r gr fm known-write-back (and-then ! (load ! (from ! (stop !)) (look ! 5 refl)) (and-then ! (load ! (from ! (stop !)) (look ! 1 refl)) (and-then ! (load ! (from ! (stop !)) (look ! 19 refl)) (no-more !)))) (λ us vs e n₁ n₂.
         land ! (from ! (stop !)) (init ! 12 refl (tt, tt)) $
         assigns ! (of-opd ! (load ! (from ! (fld ! refl (stop !))) (look-in ! 22 (sub ! 2 refl (whole !))))) (from ! (stop !)) (init ! 30 refl (LL.lawful R.the-type R′.the-laws 𝓤 H A W .typed (r .answer) _ (LL.owed N.the-type N′.the-laws r _ gr .1 .1 .0) .0)) $
-        returns ! (look ! 30 refl) $ forget ! 4 refl $ forget ! 6 refl $ forget ! 8 refl $ forget ! 10 refl $ forget ! 12 refl $ forget ! 14 refl $ forget ! 16 refl $ forget ! 18 refl $ forget ! 20 refl $ forget ! 22 refl $ forget ! 24 refl $ forget ! 26 refl $ forget ! 28 refl $ forget ! 30 refl $
-        move ! (30 ∷ 31 ∷ []) $ free1 ! $ move ! (28 ∷ 29 ∷ []) $ free1 ! $ move ! (26 ∷ 27 ∷ []) $ free1 ! $ move ! (24 ∷ 25 ∷ []) $ free1 ! $ move ! (22 ∷ 23 ∷ []) $ free1 ! $ move ! (20 ∷ 21 ∷ []) $ free1 ! $
-        move ! (18 ∷ 19 ∷ []) $ free1 ! $ move ! (16 ∷ 17 ∷ []) $ free1 ! $ move ! (14 ∷ 15 ∷ []) $ free1 ! $ move ! (12 ∷ 13 ∷ []) $ free1 ! $ move ! (10 ∷ 11 ∷ []) $ free1 ! $ move ! (8 ∷ 9 ∷ []) $ free1 ! $ move ! (6 ∷ 7 ∷ []) $ free1 ! $ move ! (4 ∷ 5 ∷ []) $ free1 ! $ free0 ! $
+        returns ! (look ! 30 refl) $ lets-go ! 30 refl refl $ lets-go ! 28 refl refl $ lets-go ! 26 refl refl $ lets-go ! 24 refl refl $ lets-go ! 22 refl refl $ lets-go ! 20 refl refl $ lets-go ! 18 refl refl $ lets-go ! 16 refl refl $ lets-go ! 14 refl refl $ lets-go ! 12 refl refl $ lets-go ! 10 refl refl $ lets-go ! 8 refl refl $ lets-go ! 6 refl refl $ lets-go ! 4 refl refl $ free0 ! $
         by ! (exits us vs e n₁ n₂ (LL.owed N.the-type N′.the-laws r _ gr .1 .1 .0)))))
 
   walk : (C : Calls 𝓤 H) (Λ : Loops 𝓤 H) → FmC 𝓤 H (W .laws) C → Triple 𝓤 (C #workspace·look-at) (LookAt 𝓤 H A mem run) → Triple 𝓤 (C #workspace·made) (Made 𝓤 H A mem run) → Triple 𝓤 (C #workspace·write-back) (WriteBack 𝓤 H A mem run)
@@ -154,6 +149,6 @@ fresh-spec 𝓤 H 𝓜 𝓖 𝓡 =
     entered 𝓤 H (tripleOf 𝓤 H (𝓖 .A) f.signature (f.spec 𝓤 H (𝓖 .A) (𝓜 .mem) (𝓡 .run)))
     (tables 𝓤 H 𝓜 𝓡 code.env .C) (tables 𝓤 H 𝓜 𝓡 code.env .Λ) #workspace·fresh code.function (code.unfolded 𝓤 H 𝓜 𝓡)
     (fresh-meets 𝓤 H (𝓖 .A) (givenOf 𝓤 H 𝓜 𝓖) (𝓜 .mem) (𝓡 .run) (tablesOf 𝓤 H 𝓜 (tables 𝓤 H 𝓜 𝓡 code.env))
-    (cited 𝓤 H (LookAt 𝓤 H (𝓖 .A) (𝓜 .mem) (𝓡 .run)) 𝓜 𝓡 code.env #workspace·look-at look-at-def.routine code.calls-workspace·lent·look-at (look-at-thm.met 𝓤 H 𝓜 𝓖 𝓡))
+    (knows-look-at 𝓤 H 𝓜 𝓖 𝓡 code.env code.calls-workspace·lent·look-at)
     (cited 𝓤 H (Made 𝓤 H (𝓖 .A) (𝓜 .mem) (𝓡 .run)) 𝓜 𝓡 code.env #workspace·made made-def.routine code.calls-workspace·steps·made (made-thm.met 𝓤 H 𝓜 𝓖 𝓡))
-    (cited 𝓤 H (WriteBack 𝓤 H (𝓖 .A) (𝓜 .mem) (𝓡 .run)) 𝓜 𝓡 code.env #workspace·write-back write-back-def.routine code.calls-workspace·lent·write-back (write-back-thm.met 𝓤 H 𝓜 𝓖 𝓡)))
+    (knows-write-back 𝓤 H 𝓜 𝓖 𝓡 code.env code.calls-workspace·lent·write-back))

@@ -10,7 +10,7 @@ use Rattle.workspace.specs.declared.Table.{Table}
 use Rattle.workspace.specs.Rules.{none}
 use Rattle.workspace.specs.Seen.{tableOf, noteOf}
 use Rattle.workspace.proofs.PlaceLaws.{load-none, load-next, load-all}
-use Rattle.workspace.proofs.Walks.{tail, scaled}
+use Rattle.workspace.proofs.Walks.{lets-go, tail, scaled}
 use Rattle.workspace.proofs.Calls.{Told, tells-struct, seen, Seen, calls-told}
 use Rattle.workspace.proofs.Stretch as T
 use Rattle.workspace.proofs.Stretch.Laws as T′
@@ -137,8 +137,7 @@ module _ {M : Type 1} (𝓤 : URA M) (H : Heap 𝓤) (A : Atoms 𝓤) (W : Given
     leaves i all =
         qed W (At i) ∵ exec ! C Λ En text.t-4 (atRet En Post) $
         assigns ! (of-opd ! (load ! (from ! (stop !)) (look ! 12 refl))) (from ! (stop !)) (init ! 16 refl (LL.lawful U.the-type U′.the-laws 𝓤 H A W .typed (upto (i .0)) _ (i .2) .0)) $
-        returns ! (look ! 16 refl) $ forget ! 10 refl $ forget ! 12 refl $ forget ! 14 refl $ forget ! 16 refl $
-        move ! (16 ∷ 17 ∷ []) $ free1 ! $ move ! (14 ∷ 15 ∷ []) $ free1 ! $ move ! (12 ∷ 13 ∷ []) $ free1 ! $ move ! (10 ∷ 11 ∷ []) $ free1 ! $ move ! (8 ∷ 9 ∷ []) $ free1 ! $ move ! (6 ∷ 7 ∷ []) $ free1 ! $ move ! (4 ∷ 5 ∷ []) $ free1 ! $ move ! (2 ∷ 3 ∷ []) $ free1 ! $ free0 ! $
+        returns ! (look ! 16 refl) $ lets-go ! 16 refl refl $ lets-go ! 14 refl refl $ lets-go ! 12 refl refl $ lets-go ! 10 refl refl $ move ! (8 ∷ 9 ∷ []) $ free1 ! $ move ! (6 ∷ 7 ∷ []) $ free1 ! $ move ! (4 ∷ 5 ∷ []) $ free1 ! $ move ! (2 ∷ 3 ∷ []) $ free1 ! $ free0 ! $
         -- [the token; the borrow; table's fact; res]
         move ! (3 ∷ 1 ∷ []) $ fjoin ! $ move ! (2 ∷ 0 ∷ []) $ fjoin ! $ move ! (1 ∷ 0 ∷ []) $ by ! (exits (upto (i .0)) (i .2) (load-all ys (i .0) all))
 

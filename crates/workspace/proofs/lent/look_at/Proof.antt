@@ -1,7 +1,7 @@
 -- `workspace::look_at` meets its contract: a walk of its MIR, by hand. Both tables are lent as `&[Stretch]`, and each is handed on.
 --     begins       the body, once the parameters are in their locals
 -- Assumes nothing.
-use Rattle.workspace.proofs.Prelude.{_≡_, refl, ℕ, _<_, _^_, List, [], _∷_, length, URA, fullShare, Ty, named, imm, w32, w64, tyInt, tyRef, Val, vint, SProp, ent, emp, via, fst∗, snd∗, exE, Lft, GName, Share, ftrue, fat, froom, fdies, flft, Memory, Routine, Heap, Env, WpFn, Calls, Loops, Tables, Atoms, sem, Fun, fact, givenOf, tables, tablesOf, Given, Item, _⊛_, ⋆, runs, atRet, Sq, _$_, _∵_, !, qed, by, move, drop, split, join, fsplit, fjoin, suffices, frame, done, whole, sub, look-in, look, init, forget, stop, fld, from, load, of-opd, and-then, no-more, assigns, land, returns, enter, alloc1, alloc0, params1, pass1, pass0, free1, free0, FmC, fmOf, WpFn-mono, owns, Is, pointee, uint-vals, uint-tells, uint-makes, usize, u32, RefT, sliceTy, sliceVal, ShrSlice, Room, slice-vals, shr-slice-tells, plain, nothing, owned, Vals, onEntry, Meets, tripleOf, Contract, Triple, ensured, lasts, entered, cited, says, Stays, stay-none-slice, stay-none, walkOf, AllGo, goes-none-slice, goes-none, Walks, ends-at, walked, walk-meets, yes, ‵}
+use Rattle.workspace.proofs.Prelude.{_≡_, refl, ℕ, _<_, _^_, List, [], _∷_, length, URA, fullShare, Ty, named, imm, w32, w64, tyInt, tyRef, Val, vint, SProp, ent, emp, via, fst∗, snd∗, exE, Lft, GName, Share, ftrue, fat, froom, fdies, flft, Memory, Routine, Heap, Env, WpFn, Calls, Loops, Tables, Atoms, sem, Fun, fact, givenOf, tables, tablesOf, Given, Item, _⊛_, ⋆, runs, atRet, Sq, _$_, _∵_, !, qed, by, move, drop, split, join, fsplit, fjoin, suffices, frame, done, whole, sub, look-in, look, init, stop, fld, from, load, of-opd, and-then, no-more, assigns, land, returns, enter, alloc1, alloc0, params1, pass1, pass0, free0, FmC, fmOf, WpFn-mono, owns, Is, pointee, uint-vals, uint-tells, uint-makes, usize, u32, RefT, sliceTy, sliceVal, ShrSlice, Room, slice-vals, shr-slice-tells, plain, nothing, owned, Vals, onEntry, Meets, tripleOf, Contract, Triple, ensured, lasts, entered, cited, says, Stays, stay-none-slice, stay-none, walkOf, AllGo, goes-none-slice, goes-none, Walks, ends-at, walked, walk-meets, yes, ‵}
 use denote.Struct.Laws as LL
 use Rattle.workspace.specs.declared.Stretch.{Stretch}
 use Rattle.workspace.specs.declared.Table.{Table}
@@ -9,6 +9,7 @@ use Rattle.workspace.specs.declared.Look.{Look}
 use Rattle.workspace.specs.declared.Test.the-variants.{HasUnits}
 use Rattle.workspace.specs.Places.{placeOf, passesOf}
 use Rattle.workspace.specs.Seen.{tableOf, seenAs, lookOf}
+use Rattle.workspace.proofs.Walks.{lets-go}
 use Rattle.workspace.proofs.Calls.{Told, tells-struct, seen, Seen, calls-told, Loaded, FirstFit, loads, searches}
 use Rattle.workspace.proofs.Stretch as T
 use Rattle.workspace.proofs.Table as U
@@ -116,8 +117,7 @@ module _ {M : Type 1} (𝓤 : URA M) (H : Heap 𝓤) (A : Atoms 𝓤) (W : Given
         (looked (lookOf xs ys size)) (Is L.the-row (lookOf xs ys size) (looked (lookOf xs ys size) ∷ [])) (tells-seen-as 𝓤 H A W mem run (tableOf xs) (tableOf ys) (length xs) (length ys) (placeOf (passesOf HasUnits size) ys))
         (and-then ! (load ! (from ! (stop !)) (look ! 13 refl)) (and-then ! (load ! (from ! (stop !)) (look ! 11 refl)) (and-then ! (load ! (from ! (stop !)) (look ! 7 refl)) (and-then ! (load ! (from ! (stop !)) (look ! 5 refl)) (and-then ! (load ! (from ! (stop !)) (look ! 9 refl)) (no-more !)))))) (λ g.
         land ! (from ! (stop !)) (init ! 20 refl (LL.lawful L.the-type L′.the-laws 𝓤 H A W .typed (lookOf xs ys size) _ g .0)) $
-        returns ! (look ! 20 refl) $ forget ! 4 refl $ forget ! 6 refl $ forget ! 8 refl $ forget ! 10 refl $ forget ! 12 refl $ forget ! 14 refl $ forget ! 16 refl $ forget ! 18 refl $ forget ! 20 refl $
-        move ! (20 ∷ 21 ∷ []) $ free1 ! $ move ! (18 ∷ 19 ∷ []) $ free1 ! $ move ! (16 ∷ 17 ∷ []) $ free1 ! $ move ! (14 ∷ 15 ∷ []) $ free1 ! $ move ! (12 ∷ 13 ∷ []) $ free1 ! $ move ! (10 ∷ 11 ∷ []) $ free1 ! $ move ! (8 ∷ 9 ∷ []) $ free1 ! $ move ! (6 ∷ 7 ∷ []) $ free1 ! $ move ! (4 ∷ 5 ∷ []) $ free1 ! $ free0 ! $
+        returns ! (look ! 20 refl) $ lets-go ! 20 refl refl $ lets-go ! 18 refl refl $ lets-go ! 16 refl refl $ lets-go ! 14 refl refl $ lets-go ! 12 refl refl $ lets-go ! 10 refl refl $ lets-go ! 8 refl refl $ lets-go ! 6 refl refl $ lets-go ! 4 refl refl $ free0 ! $
         by ! (exits (lookOf xs ys size) g refl)))))
 
   walk : (C : Calls 𝓤 H) (Λ : Loops 𝓤 H) → FmC 𝓤 H (W .laws) C → Triple 𝓤 (C #workspace·loaded) (Loaded 𝓤 H A mem run) → Triple 𝓤 (C #workspace·first-fit) (FirstFit 𝓤 H A mem run) → Triple 𝓤 (C #workspace·seen-as) (SeenAs 𝓤 H A mem run)

@@ -12,7 +12,7 @@ use Rattle.workspace.specs.Places.{over}
 use Rattle.workspace.specs.Seen.{placeAfter, laid}
 use Rattle.workspace.proofs.PlaceLaws.{mapped-long, over-none, over-length}
 use Rattle.workspace.proofs.SeenLaws.{lay-next, lay-all}
-use Rattle.workspace.proofs.Walks.{tail, scaled}
+use Rattle.workspace.proofs.Walks.{lets-go, tail, scaled}
 use Rattle.workspace.proofs.Calls.{Told, tells-struct, calls-told}
 use Rattle.workspace.proofs.Stretch as T
 use Rattle.workspace.proofs.Stretch.Laws as T′
@@ -165,8 +165,7 @@ module _ {M : Type 1} (𝓤 : URA M) (H : Heap 𝓤) (A : Atoms 𝓤) (W : Given
     leaves i all =
         qed W (At i) ∵ exec ! C Λ En text.t-3 (atRet En Post) $
         assigns ! (of-opd ! (unit-lit !)) (from ! (stop !)) (init ! 23 refl (tt, tt)) $
-        returns ! (look ! 23 refl) $ forget ! 17 refl $ forget ! 19 refl $ forget ! 21 refl $ forget ! 23 refl $
-        move ! (23 ∷ 24 ∷ []) $ free1 ! $ move ! (21 ∷ 22 ∷ []) $ free1 ! $ move ! (19 ∷ 20 ∷ []) $ free1 ! $ move ! (17 ∷ 18 ∷ []) $ free1 ! $ move ! (15 ∷ 16 ∷ []) $ free1 ! $ move ! (13 ∷ 14 ∷ []) $ free1 ! $ move ! (11 ∷ 12 ∷ []) $ free1 ! $ move ! (9 ∷ 10 ∷ []) $ free1 ! $ move ! (7 ∷ 8 ∷ []) $ free1 ! $ move ! (5 ∷ 6 ∷ []) $ free1 ! $ move ! (3 ∷ 4 ∷ []) $ free1 ! $ free0 ! $
+        returns ! (look ! 23 refl) $ lets-go ! 23 refl refl $ lets-go ! 21 refl refl $ lets-go ! 19 refl refl $ lets-go ! 17 refl refl $ move ! (15 ∷ 16 ∷ []) $ free1 ! $ move ! (13 ∷ 14 ∷ []) $ free1 ! $ move ! (11 ∷ 12 ∷ []) $ free1 ! $ move ! (9 ∷ 10 ∷ []) $ free1 ! $ move ! (7 ∷ 8 ∷ []) $ free1 ! $ move ! (5 ∷ 6 ∷ []) $ free1 ! $ move ! (3 ∷ 4 ∷ []) $ free1 ! $ free0 ! $
         by ! (exits (upto (i .0)) (as-long (i .0)) (lay-all t ys (i .0) all))
 
     -- a turn's postcondition: it ends nearer to the end, or the loop is left and the rest of the body runs

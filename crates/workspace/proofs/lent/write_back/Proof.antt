@@ -1,11 +1,12 @@
 -- `workspace::write_back` meets its contract: a walk of its MIR, by hand. Both tables are lent as `&mut [Stretch]`, and each is handed on for good.
 --     begins       the body, once the parameters are in their locals
 -- Assumes nothing.
-use Rattle.workspace.proofs.Prelude.{_≡_, refl, ℕ, List, [], _∷_, length, URA, fullShare, Ty, Lifetime, named, erased, mut, tyUnit, tyRef, Val, vunit, SProp, ent, emp, via, fst∗, Lft, GName, Share, ftrue, fat, froom, fdies, flft, Memory, Routine, Heap, Env, WpFn, Calls, Loops, Tables, Atoms, Fun, givenOf, tables, tablesOf, Given, Item, _⊛_, ⋆, runs, atRet, Sq, _$_, _∵_, !, qed, by, move, drop, split, join, fsplit, fjoin, feqI, suffices, frame, done, agg, whole, sub, look-in, look, init, store, forget, stop, hop, fld, from, load, addr, unit-lit, of-opd, and-then, no-more, assigns, land, returns, enter, alloc1, alloc0, params1, pass1, pass0, free1, free0, FmC, fmOf, WpFn-mono, owns, Is, pointee, RefT, sliceTy, sliceVal, MutSlice, Room, finally, slice-vals, mut-slice-tells, plain, nothing, owned, Vals, onEntry, Meets, tripleOf, Triple, entered, cited, says, Stays, gave-slice, stay-none, walkOf, AllGo, goes-gave-slice, goes-none, Walks, ends-at, walked, walk-meets, yes, ‵}
+use Rattle.workspace.proofs.Prelude.{_≡_, refl, ℕ, List, [], _∷_, length, URA, fullShare, Ty, Lifetime, named, erased, mut, tyUnit, tyRef, Val, vunit, SProp, ent, emp, via, fst∗, Lft, GName, Share, ftrue, fat, froom, fdies, flft, Memory, Routine, Heap, Env, WpFn, Calls, Loops, Tables, Atoms, Fun, givenOf, tables, tablesOf, Given, Item, _⊛_, ⋆, runs, atRet, Sq, _$_, _∵_, !, qed, by, move, drop, split, join, fsplit, fjoin, feqI, suffices, frame, done, agg, whole, sub, look-in, look, init, store, stop, hop, fld, from, load, addr, unit-lit, of-opd, and-then, no-more, assigns, land, returns, enter, alloc1, alloc0, params1, pass1, pass0, free0, FmC, fmOf, WpFn-mono, owns, Is, pointee, RefT, sliceTy, sliceVal, MutSlice, Room, finally, slice-vals, mut-slice-tells, plain, nothing, owned, Vals, onEntry, Meets, tripleOf, Triple, entered, cited, says, Stays, gave-slice, stay-none, walkOf, AllGo, goes-gave-slice, goes-none, Walks, ends-at, walked, walk-meets, yes, ‵}
 use denote.Struct.Laws as LL
 use Rattle.workspace.specs.declared.Stretch.{Stretch}
 use Rattle.workspace.specs.declared.Done.{Done}
 use Rattle.workspace.specs.Seen.{laid}
+use Rattle.workspace.proofs.Walks.{lets-go}
 use Rattle.workspace.proofs.Calls.{Stored, stores}
 use Rattle.workspace.proofs.Stretch as T
 use Rattle.workspace.proofs.Done as N
@@ -77,8 +78,7 @@ module _ {M : Type 1} (𝓤 : URA M) (H : Heap 𝓤) (A : Atoms 𝓤) (W : Given
         stores ! mem run (named 1) κ₂ q₂ b₂ o₂ γ₂ ys (d .free) (LL.owed N.the-type N′.the-laws d _ gd .1 .0) fm known (and-then ! (load ! (from ! (stop !)) (look ! 3 refl)) (and-then ! (load ! (from ! (fld ! refl (stop !))) (look-in ! 13 (sub ! 1 refl (whole !)))) (no-more !))) (λ ys′ e₂ n₂.
         land ! (from ! (stop !)) (store ! 12 refl (tt, tt)) $
         assigns ! (of-opd ! (unit-lit !)) (from ! (stop !)) (init ! 20 refl (tt, tt)) $
-        returns ! (look ! 20 refl) $ forget ! 4 refl $ forget ! 6 refl $ forget ! 8 refl $ forget ! 10 refl $ forget ! 12 refl $ forget ! 14 refl $ forget ! 16 refl $ forget ! 18 refl $ forget ! 20 refl $
-        move ! (20 ∷ 21 ∷ []) $ free1 ! $ move ! (18 ∷ 19 ∷ []) $ free1 ! $ move ! (16 ∷ 17 ∷ []) $ free1 ! $ move ! (14 ∷ 15 ∷ []) $ free1 ! $ move ! (12 ∷ 13 ∷ []) $ free1 ! $ move ! (10 ∷ 11 ∷ []) $ free1 ! $ move ! (8 ∷ 9 ∷ []) $ free1 ! $ move ! (6 ∷ 7 ∷ []) $ free1 ! $ move ! (4 ∷ 5 ∷ []) $ free1 ! $ free0 ! $
+        returns ! (look ! 20 refl) $ lets-go ! 20 refl refl $ lets-go ! 18 refl refl $ lets-go ! 16 refl refl $ lets-go ! 14 refl refl $ lets-go ! 12 refl refl $ lets-go ! 10 refl refl $ lets-go ! 8 refl refl $ lets-go ! 6 refl refl $ lets-go ! 4 refl refl $ free0 ! $
         by ! (exits xs′ ys′ (e₁, e₂) n₁ n₂)))
 
   walk : (C : Calls 𝓤 H) (Λ : Loops 𝓤 H) → FmC 𝓤 H (W .laws) C → Triple 𝓤 (C #workspace·stored) (Stored 𝓤 H A mem run)

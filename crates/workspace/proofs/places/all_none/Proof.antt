@@ -3,7 +3,8 @@ use Prim.Native.Nat.{_≤_, _<_, _-_}
 use native.Mathlib.Omega.{arith}
 use borrow.Author.Needs.{needs}
 use lib.ListN.{length, drop}
-use Rattle.workspace.specs.Rules.{every, isNone}
+use Rattle.lists.specs.Lists.{every}
+use Rattle.workspace.specs.Rules.{isNone}
 use Rattle.workspace.proofs.PlaceLaws.{mapped-long, unused-on, unused-stop, unused-end}
 use Rattle.workspace.proofs.places.all_none.Statement.{statement}
 use Rattle.workspace.proofs.places.all_none.Tie as tie

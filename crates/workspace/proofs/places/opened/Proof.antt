@@ -2,59 +2,46 @@ use mathlib.Core.Path.{_≡_, sym, _∙_}
 use Prim.Native.Nat.{_≤_, _<_, _-_}
 use native.Mathlib.Omega.{arith}
 use borrow.Author.Needs.{needs}
-use lib.ListN.{length, take, set}
+use lib.ListN.{length, getD, take, set}
 use Rattle.workspace.specs.Rules.{none}
 use Rattle.workspace.specs.Places.{over, insertAt}
-use Rattle.workspace.proofs.PlaceLaws.{mapped-long, over-none, over-next, over-all, over-same, insert-length}
+use Rattle.workspace.proofs.PlaceLaws.{mapped-long, over-next, over-laid, insert-length, insert-here, insert-behind, insert-front}
 use Rattle.workspace.proofs.places.opened.Statement.{statement}
 use Rattle.workspace.proofs.places.opened.Tie as tie
 
+-- y is what belongs at the place i
 abbrev Inv-loop : tie.InvT-loop
-Inv-loop a p x r₀ i₀ r i = (i ≤ 32) × (length a ≡ 32) × (r ≡ over a (take i (insertAt p x a)))
+Inv-loop a p r₀ x i₀ r y i = (p ≤ i) × (length a ≡ 32) × (r ≡ over a (take i (insertAt p x a))) × (i < 32 → y ≡ getD (insertAt p x a) i none)
 
 abbrev μ-loop : tie.MeasureT-loop
-μ-loop a p x r₀ i₀ r i = 32 - i
+μ-loop a p r₀ x i₀ r y i = 32 - i
 
 loop-holds : tie.Need-loop-holds Inv-loop μ-loop
-loop-holds c = (omega arith, search (needs, mapped-long), sym (over-none (c .args .a) (insertAt (c .args .p) (c .args .x) (c .args .a))))
+loop-holds c =
+    let a = c .args in
+    let n : length (a .a) ≡ 32 = search (needs, mapped-long) in
+    (omega arith, n, insert-front (a .p) (a .x) (a .a), λ h. sym (insert-here (a .p) (a .x) (a .a) (omega (arith, h, n))))
 
 loop-less : tie.Need-loop-less Inv-loop μ-loop
 loop-less c = let h : c .before .before .loop .i < 32 = search needs in omega (arith, h)
 
 loop-again : tie.Need-loop-again Inv-loop μ-loop
 loop-again c =
-    let a = c .before .before .before .args .a in
-    let p = c .before .before .before .args .p in
-    let x = c .before .before .before .args .x in
-    let i = c .before .before .loop .i in
-    let inv = c .before .before .loop .inv in
-    let h : i < 32 = search needs in
-    let n : length (insertAt p x a) ≡ 32 = insert-length p x a ∙ inv .1 in
-    (omega (arith, h), inv .1, (λ j. set (inv .2 j) i (c .put-in .ensures j)) ∙ over-next a (insertAt p x a) i none (omega (arith, h, n)))
+    let l = c .before .before .loop in
+    let a = c .before .before .before .args in
+    let h : l .i < 32 = search needs in
+    let k : a .p ≤ l .i = l .inv .0 in
+    let m : length (a .a) ≡ 32 = l .inv .1 in
+    let n : length (insertAt (a .p) (a .x) (a .a)) ≡ 32 = insert-length (a .p) (a .x) (a .a) ∙ m in
+    (omega (arith, k), m, (λ j. set (l .inv .2 j) (l .i) (l .inv .3 h j)) ∙ over-next (a .a) (insertAt (a .p) (a .x) (a .a)) (l .i) none (omega (arith, h, n)), λ h′. c .nth .ensures ∙ sym (insert-behind (a .p) (a .x) (a .a) (l .i) k (omega (arith, h′, m))))
 
 returns : tie.Need-returns Inv-loop μ-loop
 returns c =
-    let a = c .before .before .args .a in
-    let p = c .before .before .args .p in
-    let x = c .before .before .args .x in
-    let i = c .before .loop .i in
-    let inv = c .before .loop .inv in
-    let h : 32 ≤ i = search needs in
-    let n : length (insertAt p x a) ≡ length a = insert-length p x a in
-    let m : length a ≡ 32 = inv .1 in
-    inv .2 ∙ over-all a (insertAt p x a) i (omega (arith, h, n, m)) ∙ over-same a (insertAt p x a) (sym n)
+    let l = c .before .loop in
+    let a = c .before .before .args in
+    let h : 32 ≤ l .i = search needs in
+    let m : length (a .a) ≡ 32 = l .inv .1 in
+    l .inv .2 ∙ over-laid (a .a) (insertAt (a .p) (a .x) (a .a)) (l .i) (insert-length (a .p) (a .x) (a .a)) (omega (arith, h, m))
 
 pub opened-spec : {M : Type 1} → statement M
-opened-spec =
-    tie.close
-    (tie.spec
-    Inv-loop
-    μ-loop
-    loop-holds
-    (λ c κs. search needs)
-    (λ c. search needs)
-    (λ c. search needs)
-    (λ c. search needs)
-    loop-less
-    loop-again
-    returns)
+opened-spec = tie.close (tie.spec Inv-loop μ-loop loop-holds (λ c κs. search needs) (λ c. search needs) (λ c. search needs) (λ c. search needs) loop-less loop-again returns)

@@ -1,4 +1,4 @@
-use mathlib.Core.Path.{_≡_, refl, sym, _∙_, ap, subst}
+use mathlib.Core.Path.{_≡_, refl, sym, _∙_, ap}
 use Prim.Native.Nat.{ℕ, _≤_, _<_, _-_, _+_, _*_, zero-le}
 use native.Mathlib.Omega.{arith}
 use mathlib.Core.Bool.{false}
@@ -6,7 +6,6 @@ use borrow.Author.Needs.{needs}
 use lib.Seq.{length-take-le}
 use lib.ListN.{length, take}
 use Rattle.workspace.specs.Check.{tiled}
-use Rattle.workspace.specs.declared.Reach.{Reach}
 use Rattle.workspace.proofs.PlaceLaws.{mapped-long}
 use Rattle.workspace.proofs.CheckLaws.{Rest, stop-law, again-law, bounds-law}
 use Rattle.workspace.proofs.rules.tiles.Statement.{statement}
@@ -22,12 +21,11 @@ abbrev μ-loop : tie.MeasureT-loop
 
 loop-holds : tie.Need-loop-holds Inv-loop μ-loop
 loop-holds c =
-    let a = c .before .args in
+    let a = c .args in
     let lb : length (a .b) ≡ 32 = search (needs, mapped-long) in
     let lf : length (a .f) ≡ 32 = search (needs, mapped-long) in
     let hm : a .m ≤ 32 = search needs in
     let hn : a .n ≤ 32 = search needs in
-    subst (λ (t : Reach). Inv-loop (a .b) (a .m) (a .f) (a .n) (c .start-reach .result) 0 t 0) (sym (c .start-reach .ensures))
     (zero-le, zero-le, zero-le, zero-le, zero-le, zero-le, length-take-le (a .m) (a .b) (omega (arith, lb, hm)), length-take-le (a .n) (a .f) (omega (arith, lf, hn)), refl)
 
 reached-requires : tie.Need-reached-requires Inv-loop μ-loop
@@ -43,7 +41,7 @@ returns : tie.Need-returns Inv-loop μ-loop
 returns c =
     let r = c .before .before in
     let l = r .before .before .before .before .loop in
-    let a = r .before .before .before .before .before .before .args in
+    let a = r .before .before .before .before .before .args in
     let h : l .k < 64 = search needs in
     stop-law (l .k) (l .t) (r .reached .result) (take (a .m) (a .b)) (take (a .n) (a .f)) (r .before .before .used-at .result) (r .before .used-at2 .result) (tiled 64 false 0 (take (a .m) (a .b)) (take (a .n) (a .f)))
     h (r .before .before .used-at .ensures) (r .before .used-at2 .ensures) (r .reached .ensures) (l .inv .8) (a .m) (a .n) (c .before .if1 .taken) (l .inv .6) (l .inv .7) (l .inv .4) (l .inv .5)
@@ -57,7 +55,7 @@ loop-again : tie.Need-loop-again Inv-loop μ-loop
 loop-again c =
     let r = c .before in
     let l = r .before .before .before .before .loop in
-    let a = r .before .before .before .before .before .before .args in
+    let a = r .before .before .before .before .before .args in
     let h : l .k < 64 = search needs in
     let hx : r .before .before .used-at .result .length < 4294967296 = r .before .before .used-at .ok .1 .1 .1 .0 .1 in
     let hy : r .before .used-at2 .result .length < 4294967296 = r .before .used-at2 .ok .1 .1 .1 .0 .1 in
@@ -78,7 +76,7 @@ returns-2 c =
     let inv = c .before .loop .inv in
     let h : 64 ≤ c .before .loop .k = search needs in
     let z : 64 - c .before .loop .k ≡ 0 = omega (arith, h) in
-    sym (inv .8 ∙ ap (λ (n : ℕ). Rest n (c .before .loop .t) (take (c .before .before .before .args .m) (c .before .before .before .args .b)) (take (c .before .before .before .args .n) (c .before .before .before .args .f))) z)
+    sym (inv .8 ∙ ap (λ (n : ℕ). Rest n (c .before .loop .t) (take (c .before .before .args .m) (c .before .before .args .b)) (take (c .before .before .args .n) (c .before .before .args .f))) z)
 
 pub tiles-spec : {M : Type 1} → statement M
 tiles-spec =
@@ -86,7 +84,6 @@ tiles-spec =
     (tie.spec
     Inv-loop
     μ-loop
-    (λ c κs. search needs)
     loop-holds
     (λ c κs. search needs)
     (λ c κs. search needs)

@@ -1,26 +1,23 @@
-use Rattle.workspace.proofs.StepLaws.{cut-law}
+use Prim.Native.Nat.{_<_, _≤_}
 use borrow.Author.Needs.{needs}
+use Rattle.workspace.proofs.StepLaws.{cut-part, cut-whole}
 use Rattle.workspace.proofs.steps.cut_at.Statement.{statement}
 use Rattle.workspace.proofs.steps.cut_at.Tie as tie
 
 returns : tie.Need-returns
 returns c =
-    let part = c .before .before in
-    let whole = part .before in
-    let length = whole .before in
-    let start = length .before in
-    let s = start .before in
+    let start = c .before .before in
+    let s = start .before .before .before in
     let a = s .before .args in
-    cut-law (a .l) (a .p) (a .size) (s .nth .ensures) (start .wrapping-add-u32 .ensures) (length .less .ensures) (whole .closed .ensures) (part .with-at .ensures) (c .pick-places .ensures)
+    let h : a .size < s .nth .result .length = search needs in
+    cut-part (a .l) (a .p) (a .size) (s .nth .ensures) (start .wrapping-add-u32 .ensures) (c .with-at .ensures) h
+
+returns-2 : tie.Need-returns-2
+returns-2 c =
+    let s = c .before .before .before in
+    let a = s .before .args in
+    let h : s .nth .result .length ≤ a .size = search needs in
+    cut-whole (a .l) (a .p) (a .size) (s .nth .ensures) (c .closed .ensures) h
 
 pub cut-at-spec : {M : Type 1} → statement M
-cut-at-spec =
-    tie.close
-    (tie.spec
-    (λ c κs. search needs)
-    (λ c κs. search needs)
-    (λ c κs. search needs)
-    (λ c κs. search needs)
-    (λ c κs. search needs)
-    (λ c κs. search needs)
-    returns)
+cut-at-spec = tie.close (tie.spec (λ c κs. search needs) (λ c κs. search needs) (λ c. search needs) (λ c κs. search needs) (λ c κs. search needs) returns returns-2)

@@ -1,24 +1,53 @@
-use Rattle.workspace.proofs.StepLaws.{ask-law}
+use mathlib.Core.Path.{_≡_, refl}
+use Prim.Native.Nat.{_<_, _≤_}
+use mathlib.Core.Bool.{true, _&&_}
+use lib.Dec.{leb}
 use borrow.Author.Needs.{needs}
+use borrow.Author.Tests.{lt-ltb, le-ltb, not-true, not-false}
+use Rattle.workspace.specs.Steps.{requestRefusal}
 use Rattle.workspace.proofs.steps.request_refusal.Statement.{statement}
 use Rattle.workspace.proofs.steps.request_refusal.Tie as tie
 
+-- the tests that were passed, in order
+kept : (c : tie.Else1) → c .before .args .kept ≡ true
+kept c = not-false (c .before .args .kept) (c .if1 .left)
+
+sized : (c : tie.Else2) → leb 1 (c .before .before .args .size) && leb (c .before .before .args .size) 65535 ≡ true
+sized c = let n = c .before .before .args .size in not-false (leb 1 n && leb n 65535) (c .if2 .left)
+
 returns : tie.Need-returns
-returns c =
-    let k = c .before in
-    let third = k .before in
-    let second = third .before in
-    let first = second .before .before in
-    let a = first .before .before .before .args in
-    ask-law (a .seen) (a .used) (a .size) (first .pick-u8 .ensures) (second .pick-u82 .ensures) (third .pick-u83 .ensures) (k .keeps .ensures) (c .pick-u84 .ensures)
+unfolding requestRefusal
+returns c = rw (not-true (c .before .args .kept) (c .if1 .taken)) refl
+
+returns-2 : tie.Need-returns-2
+unfolding requestRefusal
+returns-2 c = let n = c .before .before .args .size in rw (kept (c .before), not-true (leb 1 n && leb n 65535) (c .if2 .taken)) refl
+
+returns-3 : tie.Need-returns-3
+unfolding requestRefusal
+returns-3 c =
+    let passed = c .before .before in
+    let used = passed .before .before .args .used in
+    let h : 31 ≤ used .blocks = search needs in
+    rw (kept (passed .before), sized passed, le-ltb (used .blocks) 31 h) refl
+
+returns-4 : tie.Need-returns-4
+unfolding requestRefusal
+returns-4 c =
+    let passed = c .before .before .before .before in
+    let a = passed .before .before .args in
+    let h : a .used .blocks < 31 = search needs in
+    let k : a .used .free ≤ a .place = search needs in
+    rw (kept (passed .before), sized passed, lt-ltb (a .used .blocks) 31 h, le-ltb (a .place) (a .used .free) k) refl
+
+returns-5 : tie.Need-returns-5
+unfolding requestRefusal
+returns-5 c =
+    let passed = c .before .before .before .before in
+    let a = passed .before .before .args in
+    let h : a .used .blocks < 31 = search needs in
+    let k : a .place < a .used .free = search needs in
+    rw (kept (passed .before), sized passed, lt-ltb (a .used .blocks) 31 h, lt-ltb (a .place) (a .used .free) k) refl
 
 pub request-refusal-spec : {M : Type 1} → statement M
-request-refusal-spec =
-    tie.close
-    (tie.spec
-    (λ c κs. search needs)
-    (λ c κs. search needs)
-    (λ c κs. search needs)
-    (λ c κs. search needs)
-    (λ c κs. search needs)
-    returns)
+request-refusal-spec = tie.close (tie.spec returns returns-2 returns-3 returns-4 returns-5)

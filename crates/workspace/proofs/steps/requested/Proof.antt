@@ -1,15 +1,32 @@
-use Rattle.workspace.proofs.StepLaws.{request-law}
+use mathlib.Core.Path.{_≡_, sym, _∙_}
 use borrow.Author.Needs.{needs}
+use Rattle.workspace.proofs.StepLaws.{granted-may, request-granted, request-refused}
 use Rattle.workspace.proofs.steps.requested.Statement.{statement}
 use Rattle.workspace.proofs.steps.requested.Tie as tie
 
+granted-requires : tie.Need-granted-requires
+granted-requires c κs =
+    let refusal = c .before in
+    let kept = refusal .before in
+    let a = kept .before .args in
+    let z : refusal .request-refusal .result ≡ 0 = search needs in
+    granted-may (a .seen) (a .used) (a .size) (kept .keeps .ensures) (sym (refusal .request-refusal .ensures) ∙ z)
+
 returns : tie.Need-returns
 returns c =
-    let taken = c .before in
-    let refusal = taken .before in
-    let a = refusal .before .args in
-    request-law (a .seen) (a .used) (a .size) (refusal .request-refusal .ensures) (taken .granted .ensures) (c .unless-refused .ensures)
+    let refusal = c .before .before in
+    let kept = refusal .before in
+    let a = kept .before .args in
+    let z : refusal .request-refusal .result ≡ 0 = search needs in
+    request-granted (a .seen) (a .used) (a .size) (kept .keeps .ensures) (refusal .request-refusal .ensures) z (c .granted .ensures)
+
+returns-2 : tie.Need-returns-2
+returns-2 c =
+    let refusal = c .before .before in
+    let kept = refusal .before in
+    let a = kept .before .args in
+    let z : refusal .request-refusal .result ≡ 0 → ⊥ = search needs in
+    request-refused (a .seen) (a .used) (a .size) (kept .keeps .ensures) (refusal .request-refusal .ensures) z (c .refused .ensures)
 
 pub requested-spec : {M : Type 1} → statement M
-requested-spec =
-    tie.close (tie.spec (λ c κs. search needs) (λ c κs. search needs) (λ c κs. search needs) returns)
+requested-spec = tie.close (tie.spec (λ c κs. search needs) (λ c κs. search needs) granted-requires (λ c κs. search needs) returns returns-2)
