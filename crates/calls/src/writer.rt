@@ -1,9 +1,10 @@
 // The writer of call records.
 ghost use mathlib.Core.Path.{_≡_};
-ghost use mathlib.Core.List.{_∷_};
-ghost use Rattle.calls.specs.Duration.{bytesOf};
+ghost use mathlib.Core.List.{[], _∷_};
+ghost use Rattle.calls.specs.Duration.{bitsOf, bytesOf};
 ghost use Rattle.calls.specs.Record.{callMode, callTime, selectMode, selectTime, encode};
 ghost use Rattle.calls.specs.Writing.{writtenOf, roomAfter};
+ghost use Rattle.calls.specs.Parts.{packet};
 use super::Call;
 use super::CallMode;
 use super::SelectMode;
@@ -28,13 +29,28 @@ fn put(bytes: &[u8], room: &mut [u8]) -> Written
     }
 }
 
-// Puts a record whose only field is a number of four bytes.
-fn put_number(tag: u8, n: u32, room: &mut [u8]) -> Written
-    ensures { λ r. ⌜ r ≡ writtenOf (tag ∷ 0 ∷ 4 ∷ bytesOf n) (now (room .entry)) ⌝ }
-    ensures { λ r. ⌜ now (room .exit) ≡ roomAfter (tag ∷ 0 ∷ 4 ∷ bytesOf n) (now (room .entry)) ⌝ }
+// A record before it is put: its bytes, with 0 behind them, and how many they are.
+struct Packet {
+    bytes: [u8; 10],
+    count: usize,
+}
+
+// A record without fields.
+fn bare_record(tag: u8) -> Packet
+    ensures { λ r. ⌜ r ≡ packet (tag ∷ 0 ∷ 0 ∷ []) ⌝ }
 {
-    put(
-        &[
+    Packet {
+        bytes: [tag, 0, 0, 0, 0, 0, 0, 0, 0, 0],
+        count: 3,
+    }
+}
+
+// A record whose only field is a number of four bytes.
+fn number_record(tag: u8, n: u32) -> Packet
+    ensures { λ r. ⌜ r ≡ packet (tag ∷ 0 ∷ 4 ∷ bytesOf n) ⌝ }
+{
+    Packet {
+        bytes: [
             tag,
             0,
             4,
@@ -42,18 +58,20 @@ fn put_number(tag: u8, n: u32, room: &mut [u8]) -> Written
             (n / 65536 % 256) as u8,
             (n / 256 % 256) as u8,
             (n % 256) as u8,
+            0,
+            0,
+            0,
         ],
-        room,
-    )
+        count: 7,
+    }
 }
 
-// Puts the record of a CALL, by its mode's number and the bits of its duration.
-fn put_call(target: u8, entry: u8, m: u8, n: u32, room: &mut [u8]) -> Written
-    ensures { λ r. ⌜ r ≡ writtenOf (3 ∷ 0 ∷ 7 ∷ target ∷ entry ∷ m ∷ bytesOf n) (now (room .entry)) ⌝ }
-    ensures { λ r. ⌜ now (room .exit) ≡ roomAfter (3 ∷ 0 ∷ 7 ∷ target ∷ entry ∷ m ∷ bytesOf n) (now (room .entry)) ⌝ }
+// The record of a CALL, by its mode's number and the bits of its duration.
+fn call_record(target: u8, entry: u8, m: u8, n: u32) -> Packet
+    ensures { λ r. ⌜ r ≡ packet (3 ∷ 0 ∷ 7 ∷ target ∷ entry ∷ m ∷ bytesOf n) ⌝ }
 {
-    put(
-        &[
+    Packet {
+        bytes: [
             3,
             0,
             7,
@@ -65,17 +83,16 @@ fn put_call(target: u8, entry: u8, m: u8, n: u32, room: &mut [u8]) -> Written
             (n / 256 % 256) as u8,
             (n % 256) as u8,
         ],
-        room,
-    )
+        count: 10,
+    }
 }
 
-// Puts the record of a SELECT, likewise.
-fn put_select(set: u8, m: u8, n: u32, room: &mut [u8]) -> Written
-    ensures { λ r. ⌜ r ≡ writtenOf (4 ∷ 0 ∷ 6 ∷ set ∷ m ∷ bytesOf n) (now (room .entry)) ⌝ }
-    ensures { λ r. ⌜ now (room .exit) ≡ roomAfter (4 ∷ 0 ∷ 6 ∷ set ∷ m ∷ bytesOf n) (now (room .entry)) ⌝ }
+// The record of a SELECT, likewise.
+fn select_record(set: u8, m: u8, n: u32) -> Packet
+    ensures { λ r. ⌜ r ≡ packet (4 ∷ 0 ∷ 6 ∷ set ∷ m ∷ bytesOf n) ⌝ }
 {
-    put(
-        &[
+    Packet {
+        bytes: [
             4,
             0,
             6,
@@ -85,48 +102,70 @@ fn put_select(set: u8, m: u8, n: u32, room: &mut [u8]) -> Written
             (n / 65536 % 256) as u8,
             (n / 256 % 256) as u8,
             (n % 256) as u8,
+            0,
         ],
-        room,
-    )
-}
-
-fn call_number(mode: CallMode) -> u8
-    ensures { λ r. ⌜ r ≡ callMode mode ⌝ }
-{
-    match mode {
-        CallMode::Simple => 0,
-        CallMode::Timed(_) => 1,
-        CallMode::Conditional => 2,
+        count: 9,
     }
 }
 
-fn call_time(mode: CallMode) -> i32
-    ensures { λ r. ⌜ r ≡ callTime mode ⌝ }
+// A mode as it is written: its number, and the bits of its duration.
+struct Mode {
+    number: u8,
+    bits: u32,
+}
+
+fn mode_of_call(mode: CallMode) -> Mode
+    ensures { λ r. ⌜ r ≡ record { number = callMode mode; bits = bitsOf (callTime mode) } ⌝ }
 {
     match mode {
-        CallMode::Simple => 0,
-        CallMode::Timed(d) => d,
-        CallMode::Conditional => 0,
+        CallMode::Simple => Mode { number: 0, bits: 0 },
+        CallMode::Timed(d) => Mode {
+            number: 1,
+            bits: duration_bits(d),
+        },
+        CallMode::Conditional => Mode { number: 2, bits: 0 },
     }
 }
 
-fn select_number(mode: SelectMode) -> u8
-    ensures { λ r. ⌜ r ≡ selectMode mode ⌝ }
+fn mode_of_select(mode: SelectMode) -> Mode
+    ensures { λ r. ⌜ r ≡ record { number = selectMode mode; bits = bitsOf (selectTime mode) } ⌝ }
 {
     match mode {
-        SelectMode::Plain => 0,
-        SelectMode::Delay(_) => 1,
-        SelectMode::Else => 2,
+        SelectMode::Plain => Mode { number: 0, bits: 0 },
+        SelectMode::Delay(d) => Mode {
+            number: 1,
+            bits: duration_bits(d),
+        },
+        SelectMode::Else => Mode { number: 2, bits: 0 },
     }
 }
 
-fn select_time(mode: SelectMode) -> i32
-    ensures { λ r. ⌜ r ≡ selectTime mode ⌝ }
+// The record of a call.
+fn record_of(c: Call) -> Packet
+    ensures { λ r. ⌜ r ≡ packet (encode c) ⌝ }
 {
-    match mode {
-        SelectMode::Plain => 0,
-        SelectMode::Delay(d) => d,
-        SelectMode::Else => 0,
+    match c {
+        Call::Create { priority, entries } => Packet {
+            bytes: [1, 0, 2, priority, entries, 0, 0, 0, 0, 0],
+            count: 5,
+        },
+        Call::Delay(d) => number_record(2, duration_bits(d)),
+        Call::Call {
+            target,
+            entry,
+            mode,
+        } => {
+            let m = mode_of_call(mode);
+            call_record(target, entry, m.number, m.bits)
+        }
+        Call::Select { open, mode } => {
+            let m = mode_of_select(mode);
+            select_record(open, m.number, m.bits)
+        }
+        Call::End => bare_record(5),
+        Call::Finish => bare_record(6),
+        Call::Tick => bare_record(7),
+        Call::Advance(n) => number_record(8, n),
     }
 }
 
@@ -135,24 +174,8 @@ pub fn write_record(c: Call, room: &mut [u8]) -> Written
     ensures { λ r. ⌜ r ≡ writtenOf (encode c) (now (room .entry)) ⌝ }
     ensures { λ r. ⌜ now (room .exit) ≡ roomAfter (encode c) (now (room .entry)) ⌝ }
 {
-    match c {
-        Call::Create { priority, entries } => put(&[1, 0, 2, priority, entries], room),
-        Call::Delay(d) => put_number(2, duration_bits(d), room),
-        Call::Call {
-            target,
-            entry,
-            mode,
-        } => {
-            let m = call_number(mode);
-            put_call(target, entry, m, duration_bits(call_time(mode)), room)
-        }
-        Call::Select { open, mode } => {
-            let m = select_number(mode);
-            put_select(open, m, duration_bits(select_time(mode)), room)
-        }
-        Call::End => put(&[5, 0, 0], room),
-        Call::Finish => put(&[6, 0, 0], room),
-        Call::Tick => put(&[7, 0, 0], room),
-        Call::Advance(n) => put_number(8, n, room),
-    }
+    let p = record_of(c);
+    let bytes = p.bytes;
+    let n = p.count;
+    put(&bytes[0..n], room)
 }

@@ -91,11 +91,8 @@ pub all-turns : (n : ℕ) → n - 0 ≡ n
 all-turns n = omega arith
 
 module _ (b : List ℕ) (n i : ℕ) (h : i < n) where
-  pub are-pass : isTask (drop (5 + i * 10) b) ≡ true → areTasks (n - i) (drop (5 + i * 10) b) ≡ areTasks (n - (i + 1)) (drop (5 + (i + 1) * 10) b)
-  are-pass e = rw (turns n i h, next-place i, are-turn (n - (i + 1)) (5 + i * 10) b, e)
-
-  pub are-fail : isTask (drop (5 + i * 10) b) ≡ false → areTasks (n - i) (drop (5 + i * 10) b) ≡ false
-  are-fail e = rw (turns n i h, are-turn (n - (i + 1)) (5 + i * 10) b, e)
+  pub are-next : areTasks (n - i) (drop (5 + i * 10) b) ≡ (isTask (drop (5 + i * 10) b) && areTasks (n - (i + 1)) (drop (5 + (i + 1) * 10) b))
+  are-next = rw (turns n i h, next-place i) (are-turn (n - (i + 1)) (5 + i * 10) b)
 
   pub from-next : (tasks : List Task) (x : Task) → i < length tasks → x ≡ taskFrom (drop (5 + i * 10) b)
       → take i tasks ++ tasksFrom (n - i) (drop (5 + i * 10) b) ≡ take (i + 1) (set tasks i x) ++ tasksFrom (n - (i + 1)) (drop (5 + (i + 1) * 10) b)

@@ -1,22 +1,23 @@
--- The tasks of the table that are not read are blank: their bytes are 0. Assumes nothing.
+-- The tasks of the table that are not read are blank: their bytes are 0. So a loop over the others reads the state. Assumes nothing.
 use Prim.Native.Nat.{ℕ, zero, suc, _+_, _-_, _*_, _<_, _≤_}
-use mathlib.Core.Path.{_≡_, refl, sym, ap, _∙_}
+use mathlib.Core.Path.{_≡_, refl, sym, ap, subst, _∙_}
 use mathlib.Core.Bool.{Bool, true, false, _&&_}
 use mathlib.Core.List.{List, [], _∷_, _++_, append-nil}
 use native.Mathlib.Omega.{arith}
-use borrow.Author.Tests.{eqb-true, ltb-false, lt-ltb, le-ltb}
+use borrow.Author.Tests.{eqb-true, ltb-true, ltb-false, lt-ltb, le-ltb}
 use lib.ListN.{length, replicate, set, take, drop, take-append-drop, length-set}
 use lib.Seq.{getD-take, getD-drop, drop-drop, drop-set-lt}
 use lib.Dec.{eqb, ltb}
 use Rattle.lists.specs.Lists.{if_then_else_}
-use Rattle.lists.proofs.ListLaws.{by-test}
+use Rattle.lists.proofs.ListLaws.{by-bool, by-test}
 use Rattle.lists.proofs.Tests.{and-first, and-second}
 use Rattle.calls.specs.Record.{byte}
 use Rattle.rules.specs.State.{blank}
 use Rattle.rules.specs.declared.Task.{Task}
-use Rattle.codec.specs.Layout.{isTask, taskFrom, areTasks, tasksFrom, lost}
-use Rattle.codec.specs.Used.{areZero, tableFrom, usedTasks}
-use Rattle.codec.proofs.CodecLaws.{turns, all-turns, rest-cons, are-turn, from-turn, from-next}
+use Rattle.rules.specs.declared.Supervisor.{Supervisor}
+use Rattle.codec.specs.Layout.{isTask, taskFrom, areTasks, tasksFrom, decode, lost, stateIn}
+use Rattle.codec.specs.Used.{areZero, tableFrom, usedTasks, withTasks, bareIn}
+use Rattle.codec.proofs.CodecLaws.{turns, all-turns, rest-cons, are-turn, from-turn, are-next, from-next, state-short, state-tested}
 
 and-true : (a : Bool) → (a && true) ≡ a
 and-true true = refl
@@ -103,65 +104,138 @@ Fits b m = (m ≤ 31) × ((j : ℕ) → 5 + m * 10 ≤ j → j < 315 → byte b 
 all-fit : (b : List ℕ) → Fits b 31
 all-fit b = (omega arith, λ j h k. absurd (omega arith))
 
-used-fits : (b : List ℕ) → Fits b (usedTasks b)
+used-fits : (b : List ℕ) → 439 ≤ length b → Fits b (usedTasks b)
 unfolding usedTasks
-used-fits b =
-    by-test (Fits b) (ltb 31 (byte b 4)) (λ e. all-fit b)
+used-fits b h =
+    rw (le-ltb (length b) 439 h)
+    (by-test (Fits b) (ltb 31 (byte b 4)) (λ e. all-fit b)
     (λ e. by-test (Fits b) (areZero (tableFrom b (5 + byte b 4 * 10)))
     (λ f. (ltb-false 31 (byte b 4) e, zero-at b (5 + byte b 4 * 10) f))
-    (λ f. all-fit b))
+    (λ f. all-fit b)))
 
 -- what the code finds
-pub used-over : (b : List ℕ) → 31 < byte b 4 → 31 ≡ usedTasks b
+pub used-short : (b : List ℕ) → length b < 439 → 0 ≡ usedTasks b
 unfolding usedTasks
-used-over b h = rw (lt-ltb 31 (byte b 4) h)
+used-short b h = rw (lt-ltb (length b) 439 h)
 
-pub used-tested : (b : List ℕ) (t : Bool) → byte b 4 ≤ 31 → areZero (tableFrom b (5 + byte b 4 * 10)) ≡ t → (if t then byte b 4 else 31) ≡ usedTasks b
+pub used-over : (b : List ℕ) → 439 ≤ length b → 31 < byte b 4 → 31 ≡ usedTasks b
 unfolding usedTasks
-used-tested b t h e = rw (le-ltb 31 (byte b 4) h, e)
+used-over b long h = rw (le-ltb (length b) 439 long, lt-ltb 31 (byte b 4) h)
+
+pub used-tested : (b : List ℕ) (t : Bool) → 439 ≤ length b → byte b 4 ≤ 31 → areZero (tableFrom b (5 + byte b 4 * 10)) ≡ t → (if t then byte b 4 else 31) ≡ usedTasks b
+unfolding usedTasks
+used-tested b t long h e = rw (le-ltb (length b) 439 long, le-ltb 31 (byte b 4) h, e)
+
+-- where a task is read, the bytes are enough
+pub used-long : (b : List ℕ) → 0 < usedTasks b → 439 ≤ length b
+used-long b h =
+    by-bool (ltb (length b) 439)
+    (λ e. let none = used-short b (ltb-true (length b) 439 e) in absurd (omega arith))
+    (ltb-false (length b) 439)
 
 pub used-small : (b : List ℕ) → usedTasks b ≤ 31
-used-small b = used-fits b .0
+used-small b =
+    by-bool (ltb (length b) 439)
+    (λ e. let none = used-short b (ltb-true (length b) 439 e) in omega arith)
+    (λ e. used-fits b (ltb-false (length b) 439 e) .0)
 
-used-front : (b : List ℕ) → (areTasks 31 (drop 5 b) ≡ areTasks (usedTasks b) (drop 5 b)) × (tasksFrom 31 (drop 5 b) ≡ tasksFrom (usedTasks b) (drop 5 b) ++ replicate (31 - usedTasks b) blank)
-used-front b =
+used-front : (b : List ℕ) → 439 ≤ length b → (areTasks 31 (drop 5 b) ≡ areTasks (usedTasks b) (drop 5 b)) × (tasksFrom 31 (drop 5 b) ≡ tasksFrom (usedTasks b) (drop 5 b) ++ replicate (31 - usedTasks b) blank)
+used-front b h =
     let m = usedTasks b in
-    let f = used-fits b in
-    let small = used-small b in
+    let f = used-fits b h in
+    let small = f .0 in
     let all : 31 ≡ m + (31 - m) = omega arith in
     let r = front m (31 - m) 5 b (λ j l u. f .1 j l (omega arith)) in
     (ap (λ (n : ℕ). areTasks n (drop 5 b)) all ∙ r .0, ap (λ (n : ℕ). tasksFrom n (drop 5 b)) all ∙ r .1)
 
-pub used-are : (b : List ℕ) → areTasks 31 (drop 5 b) ≡ areTasks (usedTasks b) (drop 5 b)
-used-are b = used-front b .0
-
-pub used-from : (b : List ℕ) → tasksFrom 31 (drop 5 b) ≡ tasksFrom (usedTasks b) (drop 5 b) ++ replicate (31 - usedTasks b) blank
-used-from b = used-front b .1
-
 -- ── the table, filled from its front ──
 
 -- of n tasks the first i are made, and blank ones stand behind them
-abbrev pub Filled : List ℕ → ℕ → ℕ → List Task → Type 0
+abbrev Filled : List ℕ → ℕ → ℕ → List Task → Type 0
 Filled b n i tasks = (length tasks ≡ 31) × (take i tasks ++ tasksFrom (n - i) (drop (5 + i * 10) b) ≡ tasksFrom n (drop 5 b)) × (drop i tasks ≡ replicate (31 - i) blank)
 
-pub filled-start : (b : List ℕ) (n : ℕ) → Filled b n 0 (lost .tasks)
+filled-start : (b : List ℕ) (n : ℕ) → Filled b n 0 (lost .tasks)
 unfolding lost
 filled-start b n = (refl, ap (λ (k : ℕ). tasksFrom k (drop 5 b)) (all-turns n), refl)
 
-pub filled-next : (b : List ℕ) (n i : ℕ) (tasks : List Task) (x : Task) → i < n → n ≤ 31 → x ≡ taskFrom (drop (5 + i * 10) b) → Filled b n i tasks → Filled b n (i + 1) (set tasks i x)
+filled-next : (b : List ℕ) (n i : ℕ) (tasks : List Task) (x : Task) → i < n → n ≤ 31 → x ≡ taskFrom (drop (5 + i * 10) b) → Filled b n i tasks → Filled b n (i + 1) (set tasks i x)
 filled-next b n i tasks x h k e f =
     let long : length tasks ≡ 31 = f .0 in
     let one : drop (i + 1) tasks ≡ replicate (31 - (i + 1)) blank =
     sym (drop-drop 1 i tasks) ∙ ap (λ (l : List Task). drop 1 l) (f .2 ∙ ap (λ (n : ℕ). replicate n blank) (turns 31 i (omega arith))) in
     (length-set tasks i x ∙ long, sym (from-next b n i h tasks x (omega arith) e) ∙ f .1, drop-set-lt (i + 1) tasks i x (omega arith) ∙ one)
 
-pub filled-end : (b : List ℕ) (n i : ℕ) (tasks : List Task) → i ≡ n → n ≡ usedTasks b → Filled b n i tasks → tasks ≡ tasksFrom 31 (drop 5 b)
-filled-end b n i tasks z e f =
-    let none : n - i ≡ 0 = omega arith in
-    let made : take i tasks ≡ tasksFrom n (drop 5 b) =
-    sym (ap (λ (k : ℕ). take i tasks ++ tasksFrom k (drop (5 + i * 10) b)) none ∙ ap (λ (l : List Task). take i tasks ++ l) (from-none (drop (5 + i * 10) b)) ∙ append-nil (take i tasks)) ∙ f .1 in
-    sym (take-append-drop i tasks)
-    ∙ (λ j. made j ++ f .2 j)
-    ∙ ap (λ (k : ℕ). tasksFrom n (drop 5 b) ++ replicate (31 - k) blank) z
-    ∙ ap (λ (m : ℕ). tasksFrom m (drop 5 b) ++ replicate (31 - m) blank) e
-    ∙ sym (used-from b)
+filled-end : (b : List ℕ) (tasks : List Task) → 439 ≤ length b → Filled b (usedTasks b) (usedTasks b) tasks → tasks ≡ tasksFrom 31 (drop 5 b)
+filled-end b tasks long f =
+    let n = usedTasks b in
+    let none : n - n ≡ 0 = omega arith in
+    let made : take n tasks ≡ tasksFrom n (drop 5 b) =
+    sym (ap (λ (k : ℕ). take n tasks ++ tasksFrom k (drop (5 + n * 10) b)) none ∙ ap (λ (l : List Task). take n tasks ++ l) (from-none (drop (5 + n * 10) b)) ∙ append-nil (take n tasks)) ∙ f .1 in
+    sym (take-append-drop n tasks) ∙ (λ j. made j ++ f .2 j) ∙ sym (used-front b long .1)
+
+-- ── the state, by what a loop over the used tasks has read ──
+
+-- of n tasks the first i are read: whether they and the rest are tasks, and a state with those of them that are made
+abbrev pub Reading : List ℕ → ℕ → ℕ → Supervisor → Bool → Type 0
+Reading b n i s good = ((good && areTasks (n - i) (drop (5 + i * 10) b)) ≡ areTasks n (drop 5 b)) × (s ≡ withTasks (bareIn b) (s .tasks)) × Filled b n i (s .tasks)
+
+pub bare-short : (b : List ℕ) → length b < 439 → bareIn b ≡ lost
+unfolding bareIn
+bare-short b h = rw (lt-ltb (length b) 439 h)
+
+bare-long : (b : List ℕ) → 439 ≤ length b → bareIn b ≡ withTasks (decode b) (lost .tasks)
+unfolding bareIn
+bare-long b h = rw (le-ltb (length b) 439 h)
+
+pub is-bare : (b : List ℕ) {s : Supervisor} → 439 ≤ length b → s ≡ withTasks (decode b) (lost .tasks) → s ≡ bareIn b
+is-bare b h e = e ∙ sym (bare-long b h)
+
+bare-tasks : (b : List ℕ) → bareIn b .tasks ≡ lost .tasks
+unfolding bareIn
+bare-tasks b = by-test (λ (s : Supervisor). s .tasks ≡ lost .tasks) (ltb (length b) 439) (λ e. refl) (λ e. refl)
+
+pub reading-start : (b : List ℕ) (n : ℕ) (s : Supervisor) → s ≡ bareIn b → Reading b n 0 s true
+reading-start b n s e =
+    let filled = subst (Filled b n 0) (sym (bare-tasks b)) (filled-start b n) in
+    subst (λ (s : Supervisor). Reading b n 0 s true) (sym e) (ap (λ (k : ℕ). areTasks k (drop 5 b)) (all-turns n), refl, filled)
+
+and-three : (a b c : Bool) → (a && (b && c)) ≡ ((a && b) && c)
+and-three true b c = refl
+and-three false b c = refl
+
+pub reading-next : (b : List ℕ) (n i : ℕ) (s : Supervisor) (good right : Bool) (x : Task) → i < n → n ≤ 31 → right ≡ isTask (drop (5 + i * 10) b) → x ≡ taskFrom (drop (5 + i * 10) b)
+    → Reading b n i s good → Reading b n (i + 1) (withTasks s (set (s .tasks) i x)) (good && right)
+reading-next b n i s good right x h k e q r =
+    let more = areTasks (n - (i + 1)) (drop (5 + (i + 1) * 10) b) in
+    let one = are-next b n i h ∙ ap (λ (t : Bool). t && more) (sym e) in
+    let all = sym (and-three good right more) ∙ ap (λ (t : Bool). good && t) (sym one) ∙ r .0 in
+    (all, ap (λ (s′ : Supervisor). withTasks s′ (set (s .tasks) i x)) (r .1), filled-next b n i (s .tasks) x h k q (r .2))
+
+module _ (b : List ℕ) (s : Supervisor) (good : Bool) (r : Reading b (usedTasks b) (usedTasks b) s good) where
+  read-tasks : areTasks (usedTasks b) (drop 5 b) ≡ good
+  read-tasks =
+      let n = usedTasks b in
+      let none : n - n ≡ 0 = omega arith in
+      sym (r .0) ∙ ap (λ (k : ℕ). good && areTasks k (drop (5 + n * 10) b)) none ∙ ap (λ (t : Bool). good && t) (are-none (drop (5 + n * 10) b)) ∙ and-true good
+
+  read-short : length b < 439 → s ≡ lost
+  unfolding lost
+  read-short h =
+      let all = subst (λ (n : ℕ). drop n (s .tasks) ≡ replicate (31 - n) blank) (sym (used-short b h)) (r .2 .2) in
+      r .1 ∙ (λ i. withTasks (bare-short b h i) (all i))
+
+  read-long : 439 ≤ length b → s ≡ decode b
+  unfolding decode
+  read-long h = r .1 ∙ (λ i. withTasks (bare-long b h i) (filled-end b (s .tasks) h (r .2) i))
+
+  pub read-good : good ≡ true → s ≡ stateIn b
+  read-good e =
+      by-bool (ltb (length b) 439)
+      (λ h. let short = ltb-true (length b) 439 h in state-short b s short (read-short short))
+      (λ h. let long = ltb-false (length b) 439 h in state-tested b s true long (used-front b long .0 ∙ read-tasks ∙ e) (read-long long))
+
+  pub read-bad : good ≡ false → lost ≡ stateIn b
+  read-bad e =
+      by-bool (ltb (length b) 439)
+      (λ h. state-short b lost (ltb-true (length b) 439 h) refl)
+      (λ h. let long = ltb-false (length b) 439 h in state-tested b lost false long (used-front b long .0 ∙ read-tasks ∙ e) refl)

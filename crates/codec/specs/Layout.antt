@@ -18,6 +18,7 @@ use Rattle.rules.specs.declared.Timer.the-variants.{Off, Due}
 use Rattle.rules.specs.declared.Place.{Place}
 use Rattle.rules.specs.declared.Place.the-variants.{Blank, Ready, Delayed, Queued, Held, Accepting, Completed}
 use Rattle.rules.specs.declared.Supervisor.{Supervisor}
+use Rattle.codec.specs.declared.Fields.{Fields}
 
 -- ── the bytes of a state ──
 
@@ -100,18 +101,38 @@ placeFrom tag a b =
 abbrev pub timerFrom : ℕ → ℕ → Timer
 timerFrom tag due = if eqb tag 0 then Off else Due due
 
+-- the numbers that stand in the first ten bytes
+abbrev pub fieldsOf : List ℕ → Fields
+fieldsOf b = record {
+  priority = byte b 0;
+  entries = byte b 1;
+  tag = byte b 2;
+  first = byte b 3;
+  second = byte b 4;
+  timed = byte b 5;
+  due = fourFrom b 6;
+}
+
+-- the numbers are those of a task
+abbrev pub fieldsGood : Fields → Bool
+fieldsGood f = isPlace (f .tag) (f .first) (f .second) && isTimer (f .timed) (f .due)
+
+-- the task of the numbers
+abbrev pub fieldsTask : Fields → Task
+fieldsTask f = record {
+  priority = f .priority;
+  entries = f .entries;
+  place = placeFrom (f .tag) (f .first) (f .second);
+  timer = timerFrom (f .timed) (f .due);
+}
+
 -- the first ten bytes are a task
 abbrev pub isTask : List ℕ → Bool
-isTask b = isPlace (byte b 2) (byte b 3) (byte b 4) && isTimer (byte b 5) (fourFrom b 6)
+isTask b = fieldsGood (fieldsOf b)
 
 -- the task of the first ten bytes
 abbrev pub taskFrom : List ℕ → Task
-taskFrom b = record {
-  priority = byte b 0;
-  entries = byte b 1;
-  place = placeFrom (byte b 2) (byte b 3) (byte b 4);
-  timer = timerFrom (byte b 5) (fourFrom b 6);
-}
+taskFrom b = fieldsTask (fieldsOf b)
 
 -- the first n times ten bytes are tasks
 unfoldable pub areTasks : ℕ → List ℕ → Bool

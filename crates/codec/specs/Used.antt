@@ -1,11 +1,14 @@
--- How many tasks of the table have to be read. The contracts of the functions for C and Ada do not speak of it.
+-- The parts in which a state is read: how many of its tasks, and all but the tasks. The contracts of the functions for C and Ada do not speak of them.
 use Prim.Native.Nat.{ℕ, _+_, _-_, _*_}
 use mathlib.Core.Bool.{Bool}
 use mathlib.Core.List.{List}
-use lib.ListN.{take, drop}
+use lib.ListN.{length, take, drop}
 use lib.Dec.{eqb, ltb}
 use Rattle.lists.specs.Lists.{if_then_else_, every}
 use Rattle.calls.specs.Record.{byte}
+use Rattle.rules.specs.declared.Task.{Task}
+use Rattle.rules.specs.declared.Supervisor.{Supervisor}
+use Rattle.codec.specs.Layout.{decode, lost}
 
 -- every byte is 0
 abbrev pub areZero : List ℕ → Bool
@@ -15,9 +18,26 @@ areZero = every (λ x. eqb x 0)
 abbrev pub tableFrom : List ℕ → ℕ → List ℕ
 tableFrom b from = take (315 - from) (drop from b)
 
--- the created tasks, where every byte of the table behind them is 0; else all 31
+-- the created tasks, where every byte of the table behind them is 0; else all 31; none where the bytes are too few for a state
 unfoldable pub usedTasks : List ℕ → ℕ
 usedTasks b =
-    if ltb 31 (byte b 4) then 31
+    if ltb (length b) 439 then 0
+    else if ltb 31 (byte b 4) then 31
     else if areZero (tableFrom b (5 + byte b 4 * 10)) then byte b 4
     else 31
+
+-- a state with other tasks
+abbrev pub withTasks : Supervisor → List Task → Supervisor
+withTasks s tasks = record {
+  clock = s .clock;
+  created = s .created;
+  tasks = tasks;
+  ready = s .ready;
+  callers = s .callers;
+  held = s .held;
+  delays = s .delays;
+}
+
+-- the state with which bytes begin before its tasks are read: all are blank
+unfoldable pub bareIn : List ℕ → Supervisor
+bareIn b = if ltb (length b) 439 then lost else withTasks (decode b) (lost .tasks)

@@ -1,9 +1,10 @@
 // A supervisor in lent bytes: reading it, and putting it there.
 ghost use mathlib.Core.Path.{_≡_};
 ghost use Prim.Native.Nat.{_+_, _≤_};
+ghost use mathlib.Core.List.{[], _∷_};
 ghost use lib.ListN.{length, take, drop};
-ghost use Rattle.codec.specs.Layout.{placeTag, placeFirst, placeSecond, timerTag, timerDue, taskBytes, tasksBytes, isPlace, isTimer, placeFrom, timerFrom, isTask, taskFrom, areTasks, lost, stateIn, putAt, placedAt, placedLines, stored};
-ghost use Rattle.codec.specs.Used.{areZero, tableFrom, usedTasks};
+ghost use Rattle.codec.specs.Layout.{placeTag, placeFirst, placeSecond, timerTag, timerDue, taskBytes, tasksBytes, isPlace, isTimer, placeFrom, timerFrom, fieldsOf, fieldsGood, fieldsTask, lost, stateIn, putAt, placedAt, placedLines, stored};
+ghost use Rattle.codec.specs.Used.{areZero, tableFrom, usedTasks, bareIn};
 use calls::word;
 use rules::Meeting;
 use rules::Offer;
@@ -14,48 +15,18 @@ use rules::Timer;
 use rules::Waiting;
 use table::tasks::blank_task;
 
-// A place's tag.
-fn place_tag(p: Place) -> u8
-    ensures { λ r. ⌜ r ≡ placeTag p ⌝ }
+// The three bytes of a place: its tag; the called task, the holder or the open set; the called entry.
+fn place_bytes(p: Place) -> [u8; 3]
+    ensures { λ r. ⌜ r ≡ placeTag p ∷ placeFirst p ∷ placeSecond p ∷ [] ⌝ }
 {
     match p {
-        Place::Blank => 0,
-        Place::Ready => 1,
-        Place::Delayed => 2,
-        Place::Queued(_) => 3,
-        Place::Held(_) => 4,
-        Place::Accepting(_) => 5,
-        Place::Completed => 6,
-    }
-}
-
-// The first byte of a place: the called task, the holder or the open set.
-fn place_first(p: Place) -> u8
-    ensures { λ r. ⌜ r ≡ placeFirst p ⌝ }
-{
-    match p {
-        Place::Blank => 0,
-        Place::Ready => 0,
-        Place::Delayed => 0,
-        Place::Queued(q) => q.target,
-        Place::Held(m) => m.holder,
-        Place::Accepting(o) => o.opens,
-        Place::Completed => 0,
-    }
-}
-
-// The second byte of a place: the called entry.
-fn place_second(p: Place) -> u8
-    ensures { λ r. ⌜ r ≡ placeSecond p ⌝ }
-{
-    match p {
-        Place::Blank => 0,
-        Place::Ready => 0,
-        Place::Delayed => 0,
-        Place::Queued(q) => q.entry,
-        Place::Held(m) => m.entry,
-        Place::Accepting(_) => 0,
-        Place::Completed => 0,
+        Place::Blank => [0, 0, 0],
+        Place::Ready => [1, 0, 0],
+        Place::Delayed => [2, 0, 0],
+        Place::Queued(q) => [3, q.target, q.entry],
+        Place::Held(m) => [4, m.holder, m.entry],
+        Place::Accepting(o) => [5, o.opens, 0],
+        Place::Completed => [6, 0, 0],
     }
 }
 
@@ -83,19 +54,17 @@ fn timer_due(w: Timer) -> u32
 fn task_bytes(x: Task) -> [u8; 10]
     ensures { λ r. ⌜ r ≡ taskBytes x ⌝ }
 {
-    let p = x.place;
+    let place = x.place;
     let w = x.timer;
-    let tag = place_tag(p);
-    let a = place_first(p);
-    let b = place_second(p);
+    let p = place_bytes(place);
     let timed = timer_tag(w);
     let d = timer_due(w);
     [
         x.priority,
         x.entries,
-        tag,
-        a,
-        b,
+        p[0],
+        p[1],
+        p[2],
         timed,
         (d / 16777216) as u8,
         (d / 65536 % 256) as u8,
@@ -150,24 +119,50 @@ fn timer_from(tag: u8, due: u32) -> Timer
     }
 }
 
-// Whether the first ten bytes are a task.
-fn is_task(b: &[u8]) -> bool
-    requires { ⌜ 10 ≤ length (now b) ⌝ }
-    ensures { λ r. ⌜ r ≡ isTask (now (b .entry)) ⌝ }
-{
-    is_place(b[2], b[3], b[4]) & is_timer(b[5], word(b[6], b[7], b[8], b[9]))
+// The numbers that stand in the ten bytes of a task.
+struct Fields {
+    priority: u8,
+    entries: u8,
+    tag: u8,
+    first: u8,
+    second: u8,
+    timed: u8,
+    due: u32,
 }
 
-// The task of the first ten bytes.
-fn task_from(b: &[u8]) -> Task
+// The numbers of the first ten bytes.
+fn fields_of(b: &[u8]) -> Fields
     requires { ⌜ 10 ≤ length (now b) ⌝ }
-    ensures { λ r. ⌜ r ≡ taskFrom (now (b .entry)) ⌝ }
+    ensures { λ r. ⌜ r ≡ fieldsOf (now (b .entry)) ⌝ }
 {
-    let place = place_from(b[2], b[3], b[4]);
-    let timer = timer_from(b[5], word(b[6], b[7], b[8], b[9]));
-    Task {
+    let due = word(b[6], b[7], b[8], b[9]);
+    Fields {
         priority: b[0],
         entries: b[1],
+        tag: b[2],
+        first: b[3],
+        second: b[4],
+        timed: b[5],
+        due,
+    }
+}
+
+// Whether numbers are those of a task.
+fn is_task(f: Fields) -> bool
+    ensures { λ r. ⌜ r ≡ fieldsGood f ⌝ }
+{
+    is_place(f.tag, f.first, f.second) & is_timer(f.timed, f.due)
+}
+
+// The task of numbers.
+fn task_from(f: Fields) -> Task
+    ensures { λ r. ⌜ r ≡ fieldsTask f ⌝ }
+{
+    let place = place_from(f.tag, f.first, f.second);
+    let timer = timer_from(f.timed, f.due);
+    Task {
+        priority: f.priority,
+        entries: f.entries,
         place,
         timer,
     }
@@ -189,33 +184,17 @@ fn are_zero(b: &[u8], from: usize) -> bool
 
 // How many tasks of the table have to be read: the bytes behind them are 0, which is blank tasks.
 fn used_tasks(b: &[u8]) -> usize
-    requires { ⌜ 439 ≤ length (now b) ⌝ }
     ensures { λ r. ⌜ r ≡ usedTasks (now (b .entry)) ⌝ }
 {
+    if b.len() < 439 {
+        return 0;
+    }
     let n = b[4] as usize;
     if 31 < n {
         return 31;
     }
     let behind = 5 + n * 10;
     if are_zero(b, behind) { n } else { 31 }
-}
-
-// Whether the first n tasks of a state are tasks.
-fn are_tasks(b: &[u8], n: usize) -> bool
-    requires { ⌜ 439 ≤ length (now b) ⌝ }
-    requires { ⌜ n ≤ 31 ⌝ }
-    ensures { λ r. ⌜ r ≡ areTasks n (drop 5 (now (b .entry))) ⌝ }
-{
-    let mut i: usize = 0;
-    while i < n {
-        let at = 5 + i * 10;
-        if is_task(&b[at..]) {
-            i += 1;
-        } else {
-            return false;
-        }
-    }
-    true
 }
 
 // The line at an index.
@@ -246,36 +225,50 @@ fn lost_state() -> Supervisor
     }
 }
 
-// The state of lent bytes; one that is not sound where they are no encoding. One variable is filled in place, with no function
-// between: a state that is handed on is copied.
-pub fn state_in(b: &[u8]) -> Supervisor
-    ensures { λ r. ⌜ r ≡ stateIn (now (b .entry)) ⌝ }
+// The state of lent bytes before its tasks are read: all are blank. One that is not sound where the bytes are too few.
+fn bare_state(b: &[u8]) -> Supervisor
+    ensures { λ r. ⌜ r ≡ bareIn (now (b .entry)) ⌝ }
 {
-    let mut s = lost_state();
-    if b.len() < 439 {
-        return s;
-    }
-    let n = used_tasks(b);
-    if are_tasks(b, n) {
-        let mut i: usize = 0;
-        while i < n {
-            let at = 5 + i * 10;
-            s.tasks[i] = task_from(&b[at..]);
-            i += 1;
-        }
+    if 439 <= b.len() {
         let clock = word(b[0], b[1], b[2], b[3]);
+        let tasks = [blank_task(); 31];
         let ready = line_from(b, 315);
         let callers = line_from(b, 346);
         let held = line_from(b, 377);
         let delays = line_from(b, 408);
-        s.clock = clock;
-        s.created = b[4];
-        s.ready = ready;
-        s.callers = callers;
-        s.held = held;
-        s.delays = delays;
+        return Supervisor {
+            clock,
+            created: b[4],
+            tasks,
+            ready,
+            callers,
+            held,
+            delays,
+        };
+    }
+    lost_state()
+}
+
+// The state of lent bytes; one that is not sound where they are no encoding. One variable is filled, and returned on each way: where a
+// state is made in two places, it is copied field by field.
+pub fn state_in(b: &[u8]) -> Supervisor
+    ensures { λ r. ⌜ r ≡ stateIn (now (b .entry)) ⌝ }
+{
+    let mut s = bare_state(b);
+    let n = used_tasks(b);
+    let mut good = true;
+    let mut i: usize = 0;
+    while i < n {
+        let at = 5 + i * 10;
+        let f = fields_of(&b[at..]);
+        s.tasks[i] = task_from(f);
+        good = good & is_task(f);
+        i += 1;
+    }
+    if good {
         return s;
     }
+    s = lost_state();
     s
 }
 

@@ -20,11 +20,16 @@ abbrev μ-loop : tie.MeasureT-loop
 loop-holds : tie.Need-loop-holds Inv-loop μ-loop
 loop-holds c = (omega arith, c .before .pre, refl, refl)
 
+-- what the type says of the tasks
+sized : (c : tie.Start Inv-loop μ-loop) → length (c .args .t2) ≡ 31
+sized c = search (needs, mapped-long)
+
 loop-again : tie.Need-loop-again Inv-loop μ-loop
 loop-again c =
     let l = c .before .before .before .before .before .before .before .before .loop in
-    let tasks = c .before .before .before .before .before .before .before .before .before .before .args .t2 in
-    let long : length tasks ≡ 31 = search (needs, mapped-long) in
+    let start = c .before .before .before .before .before .before .before .before .before .before in
+    let tasks = start .args .t2 in
+    let long = sized start in
     let more : l .i < length tasks = omega arith in
     let x = getD tasks (l .i) blank in
     let fits : 5 + l .i * 10 + length (taskBytes x) ≤ length (l .room) = omega arith in
@@ -38,8 +43,8 @@ same-length c = c .before .loop .inv .2
 returns : tie.Need-returns Inv-loop μ-loop
 returns c =
     let l = c .before .loop in
-    let long : length (c .before .before .before .args .t2) ≡ 31 = search (needs, mapped-long) in
-    sym (put-end (l .room) _ (l .i) (omega arith) long) ∙ l .inv .3
+    let start = c .before .before .before in
+    sym (put-end (l .room) (start .args .t2) (l .i) (omega arith) (sized start)) ∙ l .inv .3
 
 pub put-tasks-spec : {M : Type 1} → statement M
 put-tasks-spec =

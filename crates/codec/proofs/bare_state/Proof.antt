@@ -1,0 +1,54 @@
+use borrow.Author.Needs.{needs}
+use mathlib.Core.Path.{_≡_, sym, _∙_}
+use lib.ListN.{replicate, take, drop}
+use denote.Ref.{now}
+use Rattle.calls.specs.Record.{byte}
+use Rattle.codec.specs.Layout.{decode, lost}
+use Rattle.codec.proofs.UsedLaws.{bare-short, is-bare}
+use Rattle.codec.proofs.bare_state.Statement.{statement}
+use Rattle.codec.proofs.bare_state.Tie as tie
+
+returns : tie.Need-returns
+unfolding decode lost
+returns c =
+    let l₄ = c .before in
+    let l₁ = l₄ .before .before .before in
+    let w = l₁ .before .before in
+    let long = w .before .before .before .before .before in
+    let b = now (long .before .before .args .b) in
+    let ready : l₁ .line-from .result ≡ take 31 (drop 315 b) = l₁ .line-from .ensures in
+    let callers : l₄ .before .before .line-from2 .result ≡ take 31 (drop 346 b) = l₄ .before .before .line-from2 .ensures in
+    let held : l₄ .before .line-from3 .result ≡ take 31 (drop 377 b) = l₄ .before .line-from3 .ensures in
+    let delays : l₄ .line-from4 .result ≡ take 31 (drop 408 b) = l₄ .line-from4 .ensures in
+    is-bare b (long .if1 .taken)
+    (λ i. record {
+      clock = w .word .ensures i;
+      created = byte b 4;
+      tasks = replicate 31 (l₁ .before .blank-task .ensures i);
+      ready = ready i;
+      callers = callers i;
+      held = held i;
+      delays = delays i;
+    })
+
+returns-2 : tie.Need-returns-2
+returns-2 c = c .lost-state .ensures ∙ sym (bare-short (now (c .before .before .before .args .b)) (c .before .if1 .left))
+
+pub bare-state-spec : {M : Type 1} → statement M
+bare-state-spec =
+    tie.close
+    (tie.spec
+    (λ c. search needs)
+    (λ c. search needs)
+    (λ c. search needs)
+    (λ c. search needs)
+    (λ c κs. search needs)
+    (λ c κs. search needs)
+    (λ c κs. search needs)
+    (λ c κs. search needs)
+    (λ c κs. search needs)
+    (λ c κs. search needs)
+    (λ c. search needs)
+    returns
+    (λ c κs. search needs)
+    returns-2)
