@@ -20,11 +20,12 @@ use Rattle.calls.specs.declared.SelectMode.the-variants as S
 use Rattle.calls.specs.declared.Call as C
 use Rattle.calls.specs.declared.Call.the-variants.{Create, Delay, Call, Select, End, Finish, Tick, Advance}
 use Rattle.text.specs.Text.{decimal}
-use Rattle.script.specs.CallText.{spaced, spacedTime, entries, openText, callModeText, selectModeText, textOf}
+use Rattle.script.specs.CallText.{spaced, spacedTime, entries, openText, modeText, callModeText, selectModeText, textOf}
 use Rattle.script.specs.Says.{Fits}
 use Rattle.script.specs.Guess.{fresh, grownOf, heardOf, hear, unseen, timeOf, guessBy, guessOf}
 use Rattle.script.specs.declared.guess.Word.{Word}
 use Rattle.script.specs.declared.guess.Seen.{Seen}
+use Rattle.script.proofs.Typed.{no-time}
 use Rattle.script.proofs.Digits.{AllPlain, growAll, decimal-plain, decimal-back}
 use Rattle.script.proofs.Sets.{tail, SetText, set-text}
 
@@ -119,7 +120,7 @@ hear-two n a b rest =
 
 call-mode-back : (t e : ℕ) (m : CallMode) → SFits w32 (callTime m)
     → guessBy (hear (paired 284 t e) (callModeText m)) ≡ Call (numbered t .number % 256) (numbered e .number % 256) m
-unfolding callModeText
+unfolding callModeText modeText
 call-mode-back t e Simple f = refl
 call-mode-back t e (Timed d) f =
     ap guessBy (hear-time (record { letters = 815; minus = false; fourth = fresh; third = numbered t; second = numbered e; last = fresh }) d refl)
@@ -128,7 +129,7 @@ call-mode-back t e Conditional f = refl
 
 select-mode-back : (none : Bool) (w : Word) (m : SelectMode) → SFits w32 (selectTime m)
     → guessBy (hear (opened (cond none 880 448) w) (selectModeText m)) ≡ Select (w .set % 256) m
-unfolding selectModeText
+unfolding selectModeText modeText
 select-mode-back true w S.Plain f = refl
 select-mode-back true w (S.Delay d) f =
     ap guessBy (hear-time (record { letters = 1407; minus = false; fourth = fresh; third = fresh; second = w; last = fresh }) d refl)
@@ -196,18 +197,17 @@ guess-fits words =
     let s = hear unseen words in
     let l = s .letters in
     let t = time-fits (s .minus) (s .last .number) in
-    let z : SFits w32 (pos 0) = record { sfits = omega arith } in
     either Fits (eqb l 436) (omega arith, omega arith)
     (either Fits (eqb l 367) t
-    (either Fits (eqb l 284) (omega arith, (omega arith, z))
+    (either Fits (eqb l 284) (omega arith, (omega arith, no-time))
     (either Fits (eqb l 815) (omega arith, (omega arith, t))
-    (either Fits (eqb l 1456) (omega arith, (omega arith, z))
+    (either Fits (eqb l 1456) (omega arith, (omega arith, no-time))
     (either Fits (eqb l 215) tt
     (either Fits (eqb l 449) tt
     (either Fits (eqb l 299) tt
-    (either Fits (eqb l 448) (omega arith, z)
-    (either Fits (eqb l 880) (omega arith, z)
+    (either Fits (eqb l 448) (omega arith, no-time)
+    (either Fits (eqb l 880) (omega arith, no-time)
     (either Fits (eqb l 975) (omega arith, t)
     (either Fits (eqb l 1407) (omega arith, t)
-    (either Fits (eqb l 873) (omega arith, z)
-    (either Fits (eqb l 1305) (omega arith, z) (omega arith))))))))))))))
+    (either Fits (eqb l 873) (omega arith, no-time)
+    (either Fits (eqb l 1305) (omega arith, no-time) (omega arith))))))))))))))

@@ -8,7 +8,7 @@ use mathlib.Core.List.{List, [], _∷_}
 use native.Mathlib.Omega.{arith}
 use lib.Dec.{eqb}
 use lib.ListN.{length, take}
-use lib.IntN.{ℤ, pos}
+use lib.IntN.{ℤ}
 use mir.Syntax.{w32}
 use mir.Val.{SFits}
 use mir.Facts.{sfits-toZ}
@@ -28,6 +28,7 @@ use Rattle.script.specs.Says.{Fits, Says, recordOf}
 use Rattle.script.specs.Guess.{guessOf}
 use Rattle.script.specs.declared.Line.{Line}
 use Rattle.script.specs.declared.Line.the-variants as L
+use Rattle.script.proofs.Typed.{no-time}
 use Rattle.script.proofs.Back.{either, guess-back}
 use Rattle.script.proofs.Shape.{words-back}
 
@@ -62,9 +63,6 @@ four-small s all i = omega (arith, all i, all (i + 1), all (i + 2), all (i + 3))
 
 signed-fits : (n : ℕ) → n < 2 ^ 32 → SFits w32 (signed n)
 signed-fits n h = sfits-toZ {w = w32} (record { fits = h })
-
-no-time : SFits w32 (pos 0)
-no-time = record { sfits = omega arith }
 
 call-mode-fits : (a b : Bool) (d : ℤ) → SFits w32 d → SFits w32 (callTime (if a then Simple else if b then Timed d else Conditional))
 call-mode-fits true b d f = no-time

@@ -2,7 +2,7 @@
 // prints it and compares.
 ghost use mathlib.Core.Path.{_≡_};
 ghost use Prim.Native.Nat.{_%_};
-ghost use Rattle.script.specs.Guess.{bitOf, fresh, grownOf, addedOf, heardOf, hear, unseen, timeOf, selectBy, callBy, guessOf};
+ghost use Rattle.script.specs.Guess.{bitOf, grownOf, addedOf, heardOf, hear, unseen, timeOf, selectBy, callBy, guessOf};
 use calls::Call;
 use calls::CallMode;
 use calls::SelectMode;
