@@ -1,7 +1,7 @@
 -- From what the parts of the reader promise to what a line says.
 -- Assumes nothing.
-use Prim.Native.Nat.{ℕ, _-_, _≤_, _<_, min}
-use mathlib.Core.Path.{_≡_, refl, sym, ap, subst, _∙_}
+use Prim.Native.Nat.{ℕ, _-_, _%_, _≤_, _<_, min}
+use mathlib.Core.Path.{_≡_, refl, sym, ap, _∙_}
 use mathlib.Core.Bool.{true, false, false≢true}
 use mathlib.Core.List.{List, [], _∷_}
 use native.Mathlib.Omega.{arith}
@@ -10,11 +10,6 @@ use lib.ListN.{length, take, drop, length-take}
 use lib.Seq.{take-at}
 use lib.IntN.{ℤ}
 use borrow.Author.Tests.{eqb-true, eq-eqb, le-ltb}
-use denote.Laws.{Is}
-use denote.Enum.Declared.{row}
-use denote.Enum.Laws.{val}
-use Rattle.calls.proofs.Call.{the-type}
-use Rattle.calls.proofs.Call.Laws.{the-laws}
 use Rattle.lists.proofs.Tests.{and-first, and-second}
 use Rattle.calls.specs.Record.{encode}
 use Rattle.calls.specs.Writing.{writtenOf, roomAfter}
@@ -29,8 +24,7 @@ use Rattle.script.specs.declared.guess.Seen.{Seen}
 use Rattle.script.specs.declared.row.Row.{Row}
 use Rattle.script.specs.declared.Line.the-variants as L
 use Rattle.script.proofs.Growing.{then-grown, alone, text-taken}
-use Rattle.script.proofs.Typed.{typed-fits}
-use Rattle.script.proofs.Back.{guess-back, guess-fits}
+use Rattle.script.proofs.Back.{guess-back}
 use Rattle.script.proofs.Shape.{text-short}
 
 -- ── the record of a call ──
@@ -55,19 +49,13 @@ record-taken c room after w n h p q m =
     let k : length (encode c) ≡ n - 0 = omega arith in
     ap (take (n - 0)) (q ∙ rw f refl) ∙ take-at (encode c) (drop (length (encode c)) room) (n - 0) k
 
--- ── the text of a call ──
-
--- a row has room for it
-pub text-fits : (c : C.Call) → Is (row the-type) c (val the-type the-laws c ∷ []) → length (textOf c) ≤ 64
-text-fits c g = let s = text-short c (typed-fits c g) in omega arith
-
 -- ── the guess ──
 
 pub guess-is : (words : List ℕ) (s : Seen) (t : ℤ) (r : C.Call) → s ≡ hear unseen words → t ≡ timeOf (s .minus) (s .last .number)
-    → r ≡ callBy (s .letters) (s .fourth) (s .third) (s .second) (s .last) t → r ≡ guessOf words
+    → r ≡ callBy (s .letters % 432) (s .fourth) (s .third) (s .second) (s .last) t → r ≡ guessOf words
 unfolding guessOf
 guess-is words s t r p q e =
-    e ∙ ap (callBy (s .letters) (s .fourth) (s .third) (s .second) (s .last)) q ∙ ap guessBy p
+    e ∙ ap (callBy (s .letters % 432) (s .fourth) (s .third) (s .second) (s .last)) q ∙ ap guessBy p
 
 -- ── what words say ──
 
@@ -86,16 +74,16 @@ pub empty : (l : List ℕ) → length l ≡ 0 → l ≡ []
 empty [] h = refl
 empty (x ∷ l) h = absurd (omega arith)
 
--- the guess's text behind a blank is what was printed
-pub printed : (words : List ℕ) (c : C.Call) (e b row : Row) (n : ℕ) → c ≡ guessOf words → textIn e ≡ [] → Grown e (32 ∷ []) b → Grown b (textOf c) row
-    → n ≡ min (row .place) 64 → take (n - 0) (row .bytes) ≡ 32 ∷ textOf c
-printed words c e b row n g p q r l =
-    let s = text-short c (subst Fits (sym g) (guess-fits words)) in
+-- the text of a call behind a blank is what was printed
+pub printed : (c : C.Call) (e b row : Row) (n : ℕ) → Fits c → textIn e ≡ [] → Grown e (32 ∷ []) b → Grown b (textOf c) row → n ≡ min (row .place) 64
+    → take (n - 0) (row .bytes) ≡ 32 ∷ textOf c
+printed c e b row n f p q r l =
+    let s = text-short c f in
     text-taken row n (32 ∷ textOf c) (r .long) l (alone p (then-grown q r)) (omega arith)
 
 -- the print is what the words are
-pub said : (words text : List ℕ) (c : C.Call) → c ≡ guessOf words → text ≡ 32 ∷ textOf c → alike words text ≡ true → Says words (L.Says c)
-said words text c g p e = (subst Fits (sym g) (guess-fits words), alike-same words text e ∙ p)
+pub said : (words text : List ℕ) (c : C.Call) → Fits c → text ≡ 32 ∷ textOf c → alike words text ≡ true → Says words (L.Says c)
+said words text c f p e = (f, alike-same words text e ∙ p)
 
 -- the print is not what the words are, so no call's text is
 pub unsaid : (words text : List ℕ) (c : C.Call) → c ≡ guessOf words → text ≡ 32 ∷ textOf c → alike words text ≡ false → (length words ≡ 0 → ⊥)

@@ -13,6 +13,7 @@ use mir.Syntax.{w32}
 use mir.Val.{SFits}
 use mir.Facts.{sfits-toZ}
 use Rattle.lists.specs.Lists.{if_then_else_}
+use Rattle.lists.proofs.ListLaws.{by-test}
 use Rattle.calls.specs.Duration.{signed}
 use Rattle.calls.specs.Record.{byte, fourFrom, tagOf, callTime, selectTime}
 use Rattle.calls.specs.Reading.{callIn, readOf}
@@ -29,7 +30,7 @@ use Rattle.script.specs.Guess.{guessOf}
 use Rattle.script.specs.declared.Line.{Line}
 use Rattle.script.specs.declared.Line.the-variants as L
 use Rattle.script.proofs.Typed.{no-time}
-use Rattle.script.proofs.Back.{either, guess-back}
+use Rattle.script.proofs.Back.{guess-back}
 use Rattle.script.proofs.Shape.{words-back}
 
 -- a call's text is read as that call
@@ -57,6 +58,9 @@ said-once words L.Unread (L.Says c) p q = absurd (p .1 c (q .0) (q .1))
 said-once words L.Unread L.Unread p q = refl
 
 -- ── the numbers of a record ──
+
+either : (P : C.Call → Type 0) (b : Bool) {x y : C.Call} → P x → P y → P (if b then x else y)
+either P b p q = by-test P b (λ e. p) (λ e. q)
 
 four-small : (s : List ℕ) → Bytes s → (i : ℕ) → fourFrom s i < 2 ^ 32
 four-small s all i = omega (arith, all i, all (i + 1), all (i + 2), all (i + 3))

@@ -7,7 +7,7 @@ ghost use Rattle.calls.specs.Record.{callMode, callTime, selectMode, selectTime
 ghost use Rattle.text.specs.Text.{Put};
 ghost use Rattle.script.specs.CallText.{spaced, spacedTime, entry, entries, openText, modeText, textOf};
 ghost use Rattle.script.specs.Rows.{Grown};
-ghost use Rattle.script.specs.Says.{recordOf};
+ghost use Rattle.script.specs.Says.{Fits, recordOf};
 use crate::Line;
 use crate::row::Row;
 use crate::row::empty;
@@ -165,9 +165,10 @@ fn with_advance(row: Row, n: u32) -> Row
     with_spaced(k, n as u64)
 }
 
-// The text of a call.
+// The text of a call. Its numbers are those of its types, so it is short.
 pub(crate) fn with_call(row: Row, c: Call) -> Row
     ensures { λ r. ⌜ Grown row (textOf c) r ⌝ }
+    ensures { λ r. ⌜ Fits c ⌝ }
 {
     match c {
         Call::Create { priority, entries } => with_pair(row, b"CREATE", priority, entries),
