@@ -2,8 +2,8 @@
 use crate::errors;
 use crate::work::Work;
 use crate::work::fed;
+use crate::work::going;
 use crate::work::passed;
-use crate::work::stopped;
 use script::Line;
 use script::put_record;
 use script::read_line;
@@ -43,21 +43,25 @@ fn skipped(w: Work) -> Work {
     }
 }
 
+// No whole line: more bytes are asked for where there is room for them.
+fn unended(w: Work, many: usize, buf: &mut [u8], out: &[u8]) -> Work {
+    if many == buf.len() {
+        return skipped(w);
+    }
+    fed(w, buf, out)
+}
+
 // One turn, on what stands in the window. The last line may lack its line end.
 pub fn turn(w: Work, buf: &mut [u8], out: &mut [u8]) -> Work {
     let v = w.window;
     let end = least(v.end, buf.len());
     let at = least(v.at, end);
     let stop = bytes::scan::find(buf, at, end, b'\n');
-    if stop < end {
-        return taken(w, &buf[at..stop], stop + 1, out);
+    let ended = stop < end;
+    if ended | v.last {
+        let next = std::num::wrapping_add_usize(stop, 1);
+        let t = taken(w, &buf[at..stop], next, out);
+        return going(t, ended);
     }
-    if v.last {
-        let t = taken(w, &buf[at..end], end, out);
-        return stopped(t);
-    }
-    if end - at == buf.len() {
-        return skipped(w);
-    }
-    fed(w, buf, out)
+    unended(w, end - at, buf, out)
 }
