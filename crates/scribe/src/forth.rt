@@ -10,8 +10,11 @@ use script::read_line;
 use stream::window::unread;
 use text::least;
 
-// The record of a line is put into out. Of a line that cannot be read the number is told, and nothing is put.
-fn put_line(number: u64, line: &[u8], out: &mut [u8], at: usize) -> usize {
+// The record of a line is put into out, unless the line is skipped. Of a line that cannot be read the number is told, and nothing is put.
+fn put_line(skips: bool, number: u64, line: &[u8], out: &mut [u8], at: usize) -> usize {
+    if skips {
+        return at;
+    }
     let said = read_line(line);
     if let Line::Unread = said {
         errors::unread(number, line);
@@ -21,10 +24,7 @@ fn put_line(number: u64, line: &[u8], out: &mut [u8], at: usize) -> usize {
 
 // Behind a whole line; the next one begins at `next`.
 fn taken(w: Work, line: &[u8], next: usize, out: &mut [u8]) -> Work {
-    if w.skips {
-        return passed(w, next, w.waits, out);
-    }
-    let place = put_line(w.number, line, out, w.waits);
+    let place = put_line(w.skips, w.number, line, out, w.waits);
     passed(w, next, place, out)
 }
 

@@ -14,7 +14,7 @@ textIn row = take (row .place) (row .bytes)
 abbrev pub cut : List ℕ → List ℕ
 cut text = take 64 text
 
--- r is a row with more text behind its own
+-- r is a row of 64 bytes whose text is that of `row` and more behind it
 pub record Grown (row : Row) (more : List ℕ) (r : Row) : Type 0 where
   pub text : textIn r ≡ cut (textIn row ++ more)
   pub long : length (r .bytes) ≡ 64
