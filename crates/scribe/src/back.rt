@@ -2,8 +2,8 @@
 use crate::errors;
 use crate::work::Work;
 use crate::work::fed;
+use crate::work::going;
 use crate::work::passed;
-use crate::work::stopped;
 use crate::work::written;
 use calls::Call;
 use calls::Read;
@@ -25,11 +25,11 @@ fn refused(w: Work, many: usize, buf: &mut [u8], out: &[u8]) -> Work {
         return fed(w, buf, out);
     }
     if many == 0 {
-        return stopped(w);
+        return going(w, false);
     }
     let n = written(w, out);
     errors::bad_record(n.number);
-    stopped(n)
+    going(n, false)
 }
 
 // One turn, on what stands in the window.

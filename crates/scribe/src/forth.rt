@@ -2,16 +2,19 @@
 use crate::errors;
 use crate::work::Work;
 use crate::work::fed;
+use crate::work::going;
 use crate::work::passed;
-use crate::work::stopped;
 use script::Line;
 use script::put_record;
 use script::read_line;
 use stream::window::unread;
 use text::least;
 
-// The record of a line is put into out. Of a line that cannot be read the number is told, and nothing is put.
-fn put_line(number: u64, line: &[u8], out: &mut [u8], at: usize) -> usize {
+// The record of a line is put into out, unless the line is skipped. Of a line that cannot be read the number is told, and nothing is put.
+fn put_line(skips: bool, number: u64, line: &[u8], out: &mut [u8], at: usize) -> usize {
+    if skips {
+        return at;
+    }
     let said = read_line(line);
     if let Line::Unread = said {
         errors::unread(number, line);
@@ -21,10 +24,7 @@ fn put_line(number: u64, line: &[u8], out: &mut [u8], at: usize) -> usize {
 
 // Behind a whole line; the next one begins at `next`.
 fn taken(w: Work, line: &[u8], next: usize, out: &mut [u8]) -> Work {
-    if w.skips {
-        return passed(w, next, w.waits, out);
-    }
-    let place = put_line(w.number, line, out, w.waits);
+    let place = put_line(w.skips, w.number, line, out, w.waits);
     passed(w, next, place, out)
 }
 
@@ -43,21 +43,25 @@ fn skipped(w: Work) -> Work {
     }
 }
 
+// No whole line: more bytes are asked for where there is room for them.
+fn unended(w: Work, many: usize, buf: &mut [u8], out: &[u8]) -> Work {
+    if many == buf.len() {
+        return skipped(w);
+    }
+    fed(w, buf, out)
+}
+
 // One turn, on what stands in the window. The last line may lack its line end.
 pub fn turn(w: Work, buf: &mut [u8], out: &mut [u8]) -> Work {
     let v = w.window;
     let end = least(v.end, buf.len());
     let at = least(v.at, end);
     let stop = bytes::scan::find(buf, at, end, b'\n');
-    if stop < end {
-        return taken(w, &buf[at..stop], stop + 1, out);
+    let ended = stop < end;
+    if ended | v.last {
+        let next = std::num::wrapping_add_usize(stop, 1);
+        let t = taken(w, &buf[at..stop], next, out);
+        return going(t, ended);
     }
-    if v.last {
-        let t = taken(w, &buf[at..end], end, out);
-        return stopped(t);
-    }
-    if end - at == buf.len() {
-        return skipped(w);
-    }
-    fed(w, buf, out)
+    unended(w, end - at, buf, out)
 }

@@ -44,12 +44,9 @@ fn main() {
     let mut word = [0u8; 5];
     let count = os::arg_count();
     let n = os::arg(1, &mut word);
-    if count <= 1 {
-        run(false, &mut buf, &mut out);
-        return;
-    }
-    if is_back(count, &word, n) {
-        run(true, &mut buf, &mut out);
+    let back = is_back(count, &word, n);
+    if back | (count <= 1) {
+        run(back, &mut buf, &mut out);
         return;
     }
     errors::usage();

@@ -72,14 +72,14 @@ pub fn fed(w: Work, buf: &mut [u8], out: &[u8]) -> Work {
     }
 }
 
-// It ends here.
-pub fn stopped(w: Work) -> Work {
+// It goes on, where it did and there is more.
+pub fn going(w: Work, more: bool) -> Work {
     let window = w.window;
     Work {
         window,
         waits: w.waits,
         number: w.number,
         skips: w.skips,
-        goes: false,
+        goes: w.goes & more,
     }
 }

@@ -1,6 +1,6 @@
 -- The guess at the text of a call is that call.
 -- Assumes nothing.
-use Prim.Native.Nat.{ℕ, zero, suc, _%_, _^_, _≤_, _<_}
+use Prim.Native.Nat.{ℕ, zero, suc, _^_, _≤_, _<_}
 use mathlib.Core.Path.{_≡_, refl, sym, ap, _∙_}
 use mathlib.Core.Bool.{Bool, true, false, cond}
 use mathlib.Core.List.{List, [], _∷_, _++_, append-nil}
@@ -10,8 +10,6 @@ use lib.IntN.{ℤ, pos, negsuc}
 use borrow.Author.Tests.{ne-eqb, le-ltb}
 use mir.Syntax.{w32}
 use mir.Val.{SFits}
-use Rattle.lists.specs.Lists.{if_then_else_}
-use Rattle.lists.proofs.ListLaws.{by-test}
 use Rattle.calls.specs.Record.{callTime, selectTime}
 use Rattle.calls.specs.declared.CallMode.{CallMode}
 use Rattle.calls.specs.declared.CallMode.the-variants.{Simple, Timed, Conditional}
@@ -20,12 +18,12 @@ use Rattle.calls.specs.declared.SelectMode.the-variants as S
 use Rattle.calls.specs.declared.Call as C
 use Rattle.calls.specs.declared.Call.the-variants.{Create, Delay, Call, Select, End, Finish, Tick, Advance}
 use Rattle.text.specs.Text.{decimal}
-use Rattle.script.specs.CallText.{spaced, spacedTime, entries, openText, callModeText, selectModeText, textOf}
+use Rattle.script.specs.CallText.{spaced, spacedTime, entries, openText, modeText, callModeText, selectModeText, textOf}
 use Rattle.script.specs.Says.{Fits}
-use Rattle.script.specs.Guess.{fresh, grownOf, heardOf, hear, unseen, timeOf, guessBy, guessOf}
+use Rattle.script.specs.Guess.{fresh, grownOf, heardOf, hear, timeOf, guessBy, guessOf}
 use Rattle.script.specs.declared.guess.Word.{Word}
 use Rattle.script.specs.declared.guess.Seen.{Seen}
-use Rattle.script.proofs.Digits.{AllPlain, growAll, decimal-plain, decimal-back}
+use Rattle.script.proofs.Digits.{AllPlain, growAll, decimal-plain, decimal-back, decimal-byte}
 use Rattle.script.proofs.Sets.{tail, SetText, set-text}
 
 -- ── what is seen of one text behind the other ──
@@ -62,13 +60,13 @@ hear-number : (s : Seen) (n : ℕ) → hear s (spaced n) ≡ withLast (shifted s
 unfolding spaced numbered
 hear-number s n = hear-plain (shifted s) (decimal n) (decimal-plain n)
 
-byte-back : (n : ℕ) → n < 256 → numbered n .number % 256 ≡ n
+byte-back : (n : ℕ) → n < 256 → numbered n .byte ≡ n
 unfolding numbered
-byte-back n h = rw (decimal-back n (omega arith)) (omega arith)
+byte-back n h = decimal-byte n h
 
-word-back : (n : ℕ) → n < 2 ^ 32 → numbered n .number % 4294967296 ≡ n
+word-back : (n : ℕ) → n < 2 ^ 32 → numbered n .number ≡ n
 unfolding numbered
-word-back n h = rw (decimal-back n (omega arith)) (omega arith)
+word-back n h = decimal-back n (omega arith)
 
 -- ── durations ──
 
@@ -118,26 +116,26 @@ hear-two n a b rest =
     ∙ ap (λ (s : Seen). hear s rest) (hear-number (withLast (begun n) (numbered a)) b)
 
 call-mode-back : (t e : ℕ) (m : CallMode) → SFits w32 (callTime m)
-    → guessBy (hear (paired 284 t e) (callModeText m)) ≡ Call (numbered t .number % 256) (numbered e .number % 256) m
-unfolding callModeText
+    → guessBy (hear (paired 284 t e) (callModeText m)) ≡ Call (numbered t .byte) (numbered e .byte) m
+unfolding callModeText modeText
 call-mode-back t e Simple f = refl
 call-mode-back t e (Timed d) f =
     ap guessBy (hear-time (record { letters = 815; minus = false; fourth = fresh; third = numbered t; second = numbered e; last = fresh }) d refl)
-    ∙ ap (λ (d : ℤ). Call (numbered t .number % 256) (numbered e .number % 256) (Timed d)) (time-back d f)
+    ∙ ap (λ (d : ℤ). Call (numbered t .byte) (numbered e .byte) (Timed d)) (time-back d f)
 call-mode-back t e Conditional f = refl
 
 select-mode-back : (none : Bool) (w : Word) (m : SelectMode) → SFits w32 (selectTime m)
-    → guessBy (hear (opened (cond none 880 448) w) (selectModeText m)) ≡ Select (w .set % 256) m
-unfolding selectModeText
+    → guessBy (hear (opened (cond none 880 448) w) (selectModeText m)) ≡ Select (w .set) m
+unfolding selectModeText modeText
 select-mode-back true w S.Plain f = refl
 select-mode-back true w (S.Delay d) f =
     ap guessBy (hear-time (record { letters = 1407; minus = false; fourth = fresh; third = fresh; second = w; last = fresh }) d refl)
-    ∙ ap (λ (d : ℤ). Select (w .set % 256) (S.Delay d)) (time-back d f)
+    ∙ ap (λ (d : ℤ). Select (w .set) (S.Delay d)) (time-back d f)
 select-mode-back true w S.Else f = refl
 select-mode-back false w S.Plain f = refl
 select-mode-back false w (S.Delay d) f =
     ap guessBy (hear-time (record { letters = 975; minus = false; fourth = fresh; third = fresh; second = w; last = fresh }) d refl)
-    ∙ ap (λ (d : ℤ). Select (w .set % 256) (S.Delay d)) (time-back d f)
+    ∙ ap (λ (d : ℤ). Select (w .set) (S.Delay d)) (time-back d f)
 select-mode-back false w S.Else f = refl
 
 -- an open set as a word
@@ -160,54 +158,23 @@ select-back (suc n) m h f =
     (ap guessBy (hear-append (begun 448) (entries 8 49 32 (suc n)) (selectModeText m))
     ∙ ap (λ (s : Seen). guessBy (hear s (selectModeText m))) (hear-entries (suc n) t)
     ∙ select-mode-back false (setWord (suc n)) m f
-    ∙ ap (λ (x : ℕ). Select x m) (rw (t .back) (omega arith)))
+    ∙ ap (λ (x : ℕ). Select x m) (t .back))
 
 pub guess-back : (c : C.Call) → Fits c → guessOf (32 ∷ textOf c) ≡ c
 unfolding guessOf textOf
 guess-back (Create p n) f =
     ap (λ (l : List ℕ). guessBy (hear (begun 436) (spaced p ++ l))) (sym (append-nil (spaced n)))
     ∙ ap guessBy (hear-two 436 p n [])
-    ∙ ap (λ (x : ℕ). Create x (numbered n .number % 256)) (byte-back p (f .0))
+    ∙ ap (λ (x : ℕ). Create x (numbered n .byte)) (byte-back p (f .0))
     ∙ ap (Create p) (byte-back n (f .1))
 guess-back (Delay d) f = ap guessBy (hear-time (begun 367) d refl) ∙ ap Delay (time-back d f)
 guess-back (Call t e m) f =
     ap guessBy (hear-two 284 t e (callModeText m))
     ∙ call-mode-back t e m (f .1 .1)
-    ∙ ap (λ (x : ℕ). Call x (numbered e .number % 256) m) (byte-back t (f .0))
+    ∙ ap (λ (x : ℕ). Call x (numbered e .byte) m) (byte-back t (f .0))
     ∙ ap (λ (x : ℕ). Call t x m) (byte-back e (f .1 .0))
 guess-back (Select o m) f = select-back o m (f .0) (f .1)
 guess-back End f = refl
 guess-back Finish f = refl
 guess-back Tick f = refl
 guess-back (Advance n) f = ap guessBy (hear-number (begun 498) n) ∙ ap Advance (word-back n f)
-
--- ── the numbers of a guess ──
-
-pub either : (P : C.Call → Type 0) (b : Bool) {x y : C.Call} → P x → P y → P (if b then x else y)
-either P b p q = by-test P b (λ e. p) (λ e. q)
-
-time-fits : (minus : Bool) (n : ℕ) → SFits w32 (timeOf minus n)
-time-fits true n = record { sfits = omega arith }
-time-fits false n = record { sfits = omega arith }
-
-pub guess-fits : (words : List ℕ) → Fits (guessOf words)
-unfolding guessOf
-guess-fits words =
-    let s = hear unseen words in
-    let l = s .letters in
-    let t = time-fits (s .minus) (s .last .number) in
-    let z : SFits w32 (pos 0) = record { sfits = omega arith } in
-    either Fits (eqb l 436) (omega arith, omega arith)
-    (either Fits (eqb l 367) t
-    (either Fits (eqb l 284) (omega arith, (omega arith, z))
-    (either Fits (eqb l 815) (omega arith, (omega arith, t))
-    (either Fits (eqb l 1456) (omega arith, (omega arith, z))
-    (either Fits (eqb l 215) tt
-    (either Fits (eqb l 449) tt
-    (either Fits (eqb l 299) tt
-    (either Fits (eqb l 448) (omega arith, z)
-    (either Fits (eqb l 880) (omega arith, z)
-    (either Fits (eqb l 975) (omega arith, t)
-    (either Fits (eqb l 1407) (omega arith, t)
-    (either Fits (eqb l 873) (omega arith, z)
-    (either Fits (eqb l 1305) (omega arith, z) (omega arith))))))))))))))

@@ -11,7 +11,7 @@ use borrow.Author.Tests.{le-leb, ltb-true, ltb-false}
 use Rattle.lists.proofs.ListLaws.{by-bool}
 use Rattle.text.specs.Text.{spelled, decimal}
 use Rattle.text.proofs.Decimals.{small, large}
-use Rattle.script.specs.Guess.{fresh, grownOf}
+use Rattle.script.specs.Guess.{bitOf, fresh, grownOf}
 use Rattle.script.specs.declared.guess.Word.{Word}
 
 -- ── digits ──
@@ -85,24 +85,34 @@ grow-append : (w : Word) (a b : List ℕ) → growAll w (a ++ b) ≡ growAll (gr
 grow-append w [] b = refl
 grow-append w (x ∷ a) b = grow-append (grownOf w x) a b
 
-grow-digit : (w : Word) (d : ℕ) → d < 10 → grownOf w (48 + d) .number ≡ w .number % 4294967296 * 10 + d
-grow-digit w d h =
+-- a reading of words takes a digit behind it, as long as what it reads stays below a bound
+abbrev Counts : ℕ → (Word → ℕ) → Type 0
+Counts m read = (w : Word) (d : ℕ) → d < 10 → read w * 10 + d < m → read (grownOf w (48 + d)) ≡ read w * 10 + d
+
+spelled-back : (m : ℕ) (read : Word → ℕ) → read fresh ≡ 0 → Counts m read → (k n : ℕ) → n < k → n < m → read (growAll fresh (spelled k n)) ≡ n
+spelled-back m read z c zero n h b = absurd (omega arith)
+spelled-back m read z c (suc k) n h b = by-bool (ltb n 10)
+    (λ e. let low = ltb-true n 10 e in
+    ap (λ (l : List ℕ). read (growAll fresh l)) (small k n low) ∙ c fresh n low (omega (arith, z)) ∙ (omega (arith, z)))
+    (λ e. let high = ltb-false n 10 e in
+    let ih = spelled-back m read z c k (n / 10) (omega arith) (omega arith) in
+    let w = growAll fresh (spelled k (n / 10)) in
+    ap (λ (l : List ℕ). read (growAll fresh l)) (large k n high)
+    ∙ ap read (grow-append fresh (spelled k (n / 10)) ((48 + n % 10) ∷ []))
+    ∙ c w (n % 10) (omega arith) (omega (arith, ih))
+    ∙ (omega (arith, ih)))
+
+digit-taken : (w : Word) (d : ℕ) → d < 10
+    → grownOf w (48 + d) ≡ record { byte = (w .byte * 10 + d) % 256; set = (w .set + bitOf d) % 256; number = (w .number * 10 + d) % 4294967296 }
+digit-taken w d h =
     let e : (48 + d) % 16 ≡ d = omega arith in
     rw (le-leb 48 (48 + d) (omega arith), le-leb (48 + d) 57 (omega arith), e) refl
 
-spelled-back : (k n : ℕ) → n < k → n < 4294967296 → growAll fresh (spelled k n) .number ≡ n
-spelled-back zero n h b = absurd (omega arith)
-spelled-back (suc k) n h b = by-bool (ltb n 10)
-    (λ e. let low = ltb-true n 10 e in
-    ap (λ (l : List ℕ). growAll fresh l .number) (small k n low) ∙ grow-digit fresh n low ∙ (omega arith))
-    (λ e. let high = ltb-false n 10 e in
-    let ih = spelled-back k (n / 10) (omega arith) (omega arith) in
-    let w = growAll fresh (spelled k (n / 10)) in
-    ap (λ (l : List ℕ). growAll fresh l .number) (large k n high)
-    ∙ ap (λ (w : Word). w .number) (grow-append fresh (spelled k (n / 10)) ((48 + n % 10) ∷ []))
-    ∙ grow-digit w (n % 10) (omega arith)
-    ∙ (rw ih (omega arith)))
-
 pub decimal-back : (n : ℕ) → n < 4294967296 → growAll fresh (decimal n) .number ≡ n
 unfolding decimal
-decimal-back n h = spelled-back (suc n) n (omega arith) h
+decimal-back n h =
+    spelled-back 4294967296 (λ w. w .number) refl (λ w d l b. ap (λ (w : Word). w .number) (digit-taken w d l) ∙ (omega arith)) (suc n) n (omega arith) h
+
+pub decimal-byte : (n : ℕ) → n < 256 → growAll fresh (decimal n) .byte ≡ n
+unfolding decimal
+decimal-byte n h = spelled-back 256 (λ w. w .byte) refl (λ w d l b. ap (λ (w : Word). w .byte) (digit-taken w d l) ∙ (omega arith)) (suc n) n (omega arith) h

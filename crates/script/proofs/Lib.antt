@@ -1,5 +1,7 @@
 pub mod Loops
+pub mod Growing
 pub mod Times
+pub mod Typed
 pub mod Digits
 pub mod Sets
 pub mod Back

@@ -1,12 +1,12 @@
 -- From what the parts of the reader promise to what a line says.
 -- Assumes nothing.
-use Prim.Native.Nat.{ℕ, suc, _-_, _≤_, _<_, min}
-use mathlib.Core.Path.{_≡_, refl, sym, ap, subst, _∙_}
+use Prim.Native.Nat.{ℕ, _-_, _%_, _≤_, _<_, min}
+use mathlib.Core.Path.{_≡_, refl, sym, ap, _∙_}
 use mathlib.Core.Bool.{true, false, false≢true}
 use mathlib.Core.List.{List, [], _∷_}
 use native.Mathlib.Omega.{arith}
 use lib.Dec.{eqb}
-use lib.ListN.{length, take, drop}
+use lib.ListN.{length, take, drop, length-take}
 use lib.Seq.{take-at}
 use lib.IntN.{ℤ}
 use borrow.Author.Tests.{eqb-true, eq-eqb, le-ltb}
@@ -16,13 +16,15 @@ use Rattle.calls.specs.Writing.{writtenOf, roomAfter}
 use Rattle.calls.specs.declared.Written.{Written}
 use Rattle.calls.specs.declared.Call as C
 use Rattle.calls.specs.declared.Call.the-variants.{Create, Delay, Call, Select, End, Finish, Tick, Advance}
-use Rattle.text.specs.Text.{over, putAt, Put}
 use Rattle.script.specs.CallText.{textOf}
+use Rattle.script.specs.Rows.{textIn, cut, Grown}
 use Rattle.script.specs.Says.{Fits, Says}
 use Rattle.script.specs.Guess.{alike, hear, unseen, timeOf, callBy, guessBy, guessOf}
 use Rattle.script.specs.declared.guess.Seen.{Seen}
+use Rattle.script.specs.declared.row.Row.{Row}
 use Rattle.script.specs.declared.Line.the-variants as L
-use Rattle.script.proofs.Back.{guess-back, guess-fits}
+use Rattle.script.proofs.Growing.{then-grown, alone, text-taken}
+use Rattle.script.proofs.Back.{guess-back}
 use Rattle.script.proofs.Shape.{text-short}
 
 -- ── the record of a call ──
@@ -50,35 +52,10 @@ record-taken c room after w n h p q m =
 -- ── the guess ──
 
 pub guess-is : (words : List ℕ) (s : Seen) (t : ℤ) (r : C.Call) → s ≡ hear unseen words → t ≡ timeOf (s .minus) (s .last .number)
-    → r ≡ callBy (s .letters) (s .fourth) (s .third) (s .second) (s .last) t → r ≡ guessOf words
+    → r ≡ callBy (s .letters % 432) (s .fourth) (s .third) (s .second) (s .last) t → r ≡ guessOf words
 unfolding guessOf
 guess-is words s t r p q e =
-    e ∙ ap (callBy (s .letters) (s .fourth) (s .third) (s .second) (s .last)) q ∙ ap guessBy p
-
--- ── text in a room of its own ──
-
-over-taken : (row text : List ℕ) → length text ≤ length row → take (length text) (over row text) ≡ text
-over-taken [] [] h = refl
-over-taken [] (t ∷ text) h = absurd (omega arith)
-over-taken (x ∷ row) [] h = refl
-over-taken (x ∷ row) (t ∷ text) h = ap (λ (l : List ℕ). t ∷ l) (over-taken row text (omega arith))
-
-front-taken : (row text : List ℕ) → length text ≤ length row → take (length text) (putAt row 0 text) ≡ text
-front-taken [] text h = over-taken [] text h
-front-taken (x ∷ row) text h = over-taken (x ∷ row) text h
-
--- what was put at the front of a room, and did not fill it
-pub all-taken : (row text after : List ℕ) (n : ℕ) → Put row 0 text after n → n < length row → take (n - 0) after ≡ text
-all-taken row text after n p h =
-    let k : length text ≡ n - 0 = omega (arith, p .placed) in
-    ap (take (n - 0)) (p .written) ∙ subst (λ (n : ℕ). take n (putAt row 0 text) ≡ text) k (front-taken row text (omega (arith, p .placed)))
-
--- what was put behind the first byte of a room, with that byte
-pub behind-taken : (x : ℕ) (row text after : List ℕ) (n : ℕ) → Put (x ∷ row) 1 text after n → length text ≤ length row → take n after ≡ x ∷ text
-behind-taken x row text after n p h =
-    let k : suc (length text) ≡ n = omega (arith, p .placed) in
-    ap (take n) (p .written)
-    ∙ subst (λ (n : ℕ). take n (x ∷ putAt row 0 text) ≡ x ∷ text) k (ap (λ (l : List ℕ). x ∷ l) (front-taken row text h))
+    e ∙ ap (callBy (s .letters % 432) (s .fourth) (s .third) (s .second) (s .last)) q ∙ ap guessBy p
 
 -- ── what words say ──
 
@@ -97,17 +74,16 @@ pub empty : (l : List ℕ) → length l ≡ 0 → l ≡ []
 empty [] h = refl
 empty (x ∷ l) h = absurd (omega arith)
 
--- the guess's text behind a blank is what was printed
-pub printed : (words : List ℕ) (c : C.Call) (row after : List ℕ) (n m : ℕ) → c ≡ guessOf words → length row ≡ 63 → Put (32 ∷ row) 1 (textOf c) after n
-    → m ≡ min n 64 → take (m - 0) after ≡ 32 ∷ textOf c
-printed words c row after n m e h p l =
-    let s = text-short c (subst Fits (sym e) (guess-fits words)) in
-    let z : m - 0 ≡ n = omega (arith, p .placed) in
-    rw z (behind-taken 32 row (textOf c) after n p (omega arith))
+-- the text of a call behind a blank is what was printed
+pub printed : (c : C.Call) (e b row : Row) (n : ℕ) → Fits c → textIn e ≡ [] → Grown e (32 ∷ []) b → Grown b (textOf c) row → n ≡ min (row .place) 64
+    → take (n - 0) (row .bytes) ≡ 32 ∷ textOf c
+printed c e b row n f p q r l =
+    let s = text-short c f in
+    text-taken row n (32 ∷ textOf c) (r .long) l (alone p (then-grown q r)) (omega arith)
 
 -- the print is what the words are
-pub said : (words text : List ℕ) (c : C.Call) → c ≡ guessOf words → text ≡ 32 ∷ textOf c → alike words text ≡ true → Says words (L.Says c)
-said words text c g p e = (subst Fits (sym g) (guess-fits words), alike-same words text e ∙ p)
+pub said : (words text : List ℕ) (c : C.Call) → Fits c → text ≡ 32 ∷ textOf c → alike words text ≡ true → Says words (L.Says c)
+said words text c f p e = (f, alike-same words text e ∙ p)
 
 -- the print is not what the words are, so no call's text is
 pub unsaid : (words text : List ℕ) (c : C.Call) → c ≡ guessOf words → text ≡ 32 ∷ textOf c → alike words text ≡ false → (length words ≡ 0 → ⊥)
@@ -120,8 +96,15 @@ unsaid words text c g p e n = (
       false≢true (sym e ∙ ap (alike words) t ∙ alike-self words),
 )
 
--- words that fill the room are too long for a call
-pub too-long : (words row after : List ℕ) (n : ℕ) → Put row 0 words after n → 64 ≤ n → Says words L.Unread
-too-long words row after n p h =
-    let l : 64 ≤ length words = omega (arith, p .placed) in
+-- words that fill the row are too long for a call
+pub too-long : (words : List ℕ) (row : Row) → length (row .bytes) ≡ 64 → textIn row ≡ cut words → 64 ≤ row .place → Says words L.Unread
+too-long words row g p h =
+    let k : length (textIn row) ≡ length (cut words) = ap length p in
+    let l : 64 ≤ length words = omega (arith, k, length-take (row .place) (row .bytes), length-take 64 words, g) in
     (λ z. let k = ap length z in omega arith, λ d f z. let k = ap length z in let s = text-short d f in omega arith)
+
+-- words that do not fill the row are in it
+pub all-taken : (words : List ℕ) (row : Row) → length (row .bytes) ≡ 64 → textIn row ≡ cut words → row .place < 64 → take (row .place - 0) (row .bytes) ≡ words
+all-taken words row g p h =
+    let k : length (textIn row) ≡ length (cut words) = ap length p in
+    text-taken row (row .place) words g (omega arith) p (omega (arith, k, length-take (row .place) (row .bytes), length-take 64 words, g))

@@ -11,18 +11,17 @@ use lib.ListN.{length, length-append}
 use borrow.Author.Tests.{ne-eqb, lt-leb, lt-ltb}
 use mir.Syntax.{w32}
 use mir.Val.{SFits}
-use Rattle.calls.specs.Record.{callTime, selectTime}
+use Rattle.lists.proofs.ListLaws.{by-bool}
+use Rattle.calls.specs.Record.{callMode, callTime, selectMode, selectTime}
 use Rattle.calls.specs.declared.CallMode.{CallMode}
-use Rattle.calls.specs.declared.CallMode.the-variants.{Simple, Timed, Conditional}
 use Rattle.calls.specs.declared.SelectMode.{SelectMode}
-use Rattle.calls.specs.declared.SelectMode.the-variants as S
 use Rattle.calls.specs.declared.Call as C
 use Rattle.calls.specs.declared.Call.the-variants.{Create, Delay, Call, Select, End, Finish, Tick, Advance}
 use Rattle.text.specs.Text.{decimal}
-use Rattle.script.specs.CallText.{spaced, spacedTime, entries, openText, callModeText, selectModeText, textOf}
+use Rattle.script.specs.CallText.{spaced, spacedTime, entries, openText, modeText, callModeText, selectModeText, textOf}
 use Rattle.script.specs.Words.{wordsFrom, wordsOf}
 use Rattle.script.specs.Says.{Fits}
-use Rattle.script.proofs.Digits.{Plain, AllPlain, decimal-plain, decimal-some, decimal-short}
+use Rattle.script.proofs.Digits.{AllPlain, decimal-plain, decimal-some, decimal-short}
 use Rattle.script.proofs.Sets.{tail, set-text}
 
 -- ── words ──
@@ -65,17 +64,19 @@ tidy-open (suc n) h r =
     let e : eqb (suc n) 0 ≡ false = ne-eqb (suc n) 0 (λ z. omega arith) in
     rw (e, t .blank) (tidy-word (tail (entries 8 49 32 (suc n))) (t .plain) (t .some) r)
 
+tidy-mode : (timed other : List ℕ) (m : ℕ) (d : ℤ) → Tidy timed → Tidy other → Tidy (modeText timed other m d)
+unfolding modeText
+tidy-mode timed other m d p q r = by-bool (eqb m 0)
+    (λ e. rw e refl)
+    (λ e. by-bool (eqb m 1) (λ f. rw (e, f) (tidy-append timed (spacedTime d) p (tidy-time d) r)) (λ f. rw (e, f) (q r)))
+
 tidy-call-mode : (m : CallMode) → Tidy (callModeText m)
 unfolding callModeText
-tidy-call-mode Simple r = refl
-tidy-call-mode (Timed d) r = ap (λ (l : List ℕ). 32 ∷ 116 ∷ 105 ∷ 109 ∷ 101 ∷ 100 ∷ l) (tidy-time d r)
-tidy-call-mode Conditional r = refl
+tidy-call-mode m = tidy-mode _ _ (callMode m) (callTime m) (λ r. refl) (λ r. refl)
 
 tidy-select-mode : (m : SelectMode) → Tidy (selectModeText m)
 unfolding selectModeText
-tidy-select-mode S.Plain r = refl
-tidy-select-mode (S.Delay d) r = ap (λ (l : List ℕ). 32 ∷ 100 ∷ 101 ∷ 108 ∷ 97 ∷ 121 ∷ l) (tidy-time d r)
-tidy-select-mode S.Else r = refl
+tidy-select-mode m = tidy-mode _ _ (selectMode m) (selectTime m) (λ r. refl) (λ r. refl)
 
 whole : (l : List ℕ) → Tidy l → wordsFrom true l ≡ l
 whole l p = ap (wordsFrom true) (sym (append-nil l)) ∙ p [] ∙ append-nil l
@@ -115,17 +116,21 @@ short-open (suc n) h =
     let e : eqb (suc n) 0 ≡ false = ne-eqb (suc n) 0 (λ z. omega arith) in
     rw e (t .short)
 
+short-mode : (timed other : List ℕ) (m : ℕ) (d : ℤ) → length timed ≤ 6 → length other ≤ 12 → SFits w32 d → length (modeText timed other m d) ≤ 19
+unfolding modeText
+short-mode timed other m d p q f = by-bool (eqb m 0)
+    (λ e. rw e (omega arith))
+    (λ e. by-bool (eqb m 1)
+    (λ g. let s = short-time d f in rw (e, g) (omega (arith, length-append timed (spacedTime d))))
+    (λ g. rw (e, g) (omega arith)))
+
 short-call-mode : (m : CallMode) → SFits w32 (callTime m) → length (callModeText m) ≤ 19
 unfolding callModeText
-short-call-mode Simple f = omega arith
-short-call-mode (Timed d) f = let s = short-time d f in omega arith
-short-call-mode Conditional f = omega arith
+short-call-mode m f = short-mode _ _ (callMode m) (callTime m) (omega arith) (omega arith) f
 
 short-select-mode : (m : SelectMode) → SFits w32 (selectTime m) → length (selectModeText m) ≤ 19
 unfolding selectModeText
-short-select-mode S.Plain f = omega arith
-short-select-mode (S.Delay d) f = let s = short-time d f in omega arith
-short-select-mode S.Else f = omega arith
+short-select-mode m f = short-mode _ _ (selectMode m) (selectTime m) (omega arith) (omega arith) f
 
 pub text-short : (c : C.Call) → Fits c → length (textOf c) ≤ 62
 unfolding textOf

@@ -8,11 +8,12 @@ use mathlib.Core.List.{List, [], _∷_}
 use native.Mathlib.Omega.{arith}
 use lib.Dec.{eqb}
 use lib.ListN.{length, take}
-use lib.IntN.{ℤ, pos}
+use lib.IntN.{ℤ}
 use mir.Syntax.{w32}
 use mir.Val.{SFits}
 use mir.Facts.{sfits-toZ}
 use Rattle.lists.specs.Lists.{if_then_else_}
+use Rattle.lists.proofs.ListLaws.{by-test}
 use Rattle.calls.specs.Duration.{signed}
 use Rattle.calls.specs.Record.{byte, fourFrom, tagOf, callTime, selectTime}
 use Rattle.calls.specs.Reading.{callIn, readOf}
@@ -28,7 +29,8 @@ use Rattle.script.specs.Says.{Fits, Says, recordOf}
 use Rattle.script.specs.Guess.{guessOf}
 use Rattle.script.specs.declared.Line.{Line}
 use Rattle.script.specs.declared.Line.the-variants as L
-use Rattle.script.proofs.Back.{either, guess-back}
+use Rattle.script.proofs.Typed.{no-time}
+use Rattle.script.proofs.Back.{guess-back}
 use Rattle.script.proofs.Shape.{words-back}
 
 -- a call's text is read as that call
@@ -57,14 +59,14 @@ said-once words L.Unread L.Unread p q = refl
 
 -- ── the numbers of a record ──
 
+either : (P : C.Call → Type 0) (b : Bool) {x y : C.Call} → P x → P y → P (if b then x else y)
+either P b p q = by-test P b (λ e. p) (λ e. q)
+
 four-small : (s : List ℕ) → Bytes s → (i : ℕ) → fourFrom s i < 2 ^ 32
 four-small s all i = omega (arith, all i, all (i + 1), all (i + 2), all (i + 3))
 
 signed-fits : (n : ℕ) → n < 2 ^ 32 → SFits w32 (signed n)
 signed-fits n h = sfits-toZ {w = w32} (record { fits = h })
-
-no-time : SFits w32 (pos 0)
-no-time = record { sfits = omega arith }
 
 call-mode-fits : (a b : Bool) (d : ℤ) → SFits w32 d → SFits w32 (callTime (if a then Simple else if b then Timed d else Conditional))
 call-mode-fits true b d f = no-time

@@ -5,10 +5,9 @@ use mathlib.Core.Bool.{Bool, cond}
 use mathlib.Core.List.{List, [], _∷_, _++_}
 use lib.Dec.{eqb}
 use lib.IntN.{ℤ, pos, negsuc}
+use Rattle.calls.specs.Record.{callMode, callTime, selectMode, selectTime}
 use Rattle.calls.specs.declared.CallMode.{CallMode}
-use Rattle.calls.specs.declared.CallMode.the-variants.{Simple, Timed, Conditional}
 use Rattle.calls.specs.declared.SelectMode.{SelectMode}
-use Rattle.calls.specs.declared.SelectMode.the-variants as S
 use Rattle.calls.specs.declared.Call as C
 use Rattle.calls.specs.declared.Call.the-variants.{Create, Delay, Call, Select, End, Finish, Tick, Advance}
 use Rattle.text.specs.Text.{decimal}
@@ -37,17 +36,18 @@ entries (suc n) digit mark set =
 unfoldable pub openText : ℕ → List ℕ
 openText set = cond (eqb set 0) (32 ∷ 110 ∷ 111 ∷ 110 ∷ 101 ∷ []) (entries 8 49 32 set)
 
--- how a CALL waits: nothing, " timed" and a duration, or " conditional"
-unfoldable pub callModeText : CallMode → List ℕ
-callModeText Simple = []
-callModeText (Timed d) = (32 ∷ 116 ∷ 105 ∷ 109 ∷ 101 ∷ 100 ∷ []) ++ spacedTime d
-callModeText Conditional = 32 ∷ 99 ∷ 111 ∷ 110 ∷ 100 ∷ 105 ∷ 116 ∷ 105 ∷ 111 ∷ 110 ∷ 97 ∷ 108 ∷ []
+-- how a call waits, by its mode's number: 0 nothing, 1 a word and a duration, 2 another word
+unfoldable pub modeText : List ℕ → List ℕ → ℕ → ℤ → List ℕ
+modeText timed other mode d = cond (eqb mode 0) [] (cond (eqb mode 1) (timed ++ spacedTime d) other)
 
--- how a SELECT waits: nothing, " delay" and a duration, or " else"
+-- " timed" or " conditional", for the mode of a CALL
+unfoldable pub callModeText : CallMode → List ℕ
+callModeText m =
+    modeText (32 ∷ 116 ∷ 105 ∷ 109 ∷ 101 ∷ 100 ∷ []) (32 ∷ 99 ∷ 111 ∷ 110 ∷ 100 ∷ 105 ∷ 116 ∷ 105 ∷ 111 ∷ 110 ∷ 97 ∷ 108 ∷ []) (callMode m) (callTime m)
+
+-- " delay" or " else", for the mode of a SELECT
 unfoldable pub selectModeText : SelectMode → List ℕ
-selectModeText S.Plain = []
-selectModeText (S.Delay d) = (32 ∷ 100 ∷ 101 ∷ 108 ∷ 97 ∷ 121 ∷ []) ++ spacedTime d
-selectModeText S.Else = 32 ∷ 101 ∷ 108 ∷ 115 ∷ 101 ∷ []
+selectModeText m = modeText (32 ∷ 100 ∷ 101 ∷ 108 ∷ 97 ∷ 121 ∷ []) (32 ∷ 101 ∷ 108 ∷ 115 ∷ 101 ∷ []) (selectMode m) (selectTime m)
 
 -- the text of each call: "CREATE 5 1", "DELAY 3", "CALL 1 1 timed 3", "SELECT 1,3 else", "END", "FINISH", "TICK", "ADVANCE 1000"
 unfoldable pub textOf : C.Call → List ℕ

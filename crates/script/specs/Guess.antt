@@ -21,13 +21,17 @@ bitOf d = getD (0 ∷ 1 ∷ 2 ∷ 4 ∷ 8 ∷ 16 ∷ 32 ∷ 64 ∷ 128 ∷ 0 ∷
 
 -- a word that begins
 abbrev pub fresh : Word
-fresh = record { number = 0; set = 0 }
+fresh = record { byte = 0; set = 0; number = 0 }
 
--- a word with one byte more: a digit counts in its number and in its set
+-- a word with one byte more: a digit counts in its byte, its set and its number
 abbrev pub grownOf : Word → ℕ → Word
 grownOf w b =
     if leb 48 b && leb b 57
-    then record { number = w .number % 4294967296 * 10 + b % 16; set = w .set % 65536 + bitOf (b % 16) }
+    then record {
+      byte = (w .byte * 10 + b % 16) % 256;
+      set = (w .set + bitOf (b % 16)) % 256;
+      number = (w .number * 10 + b % 16) % 4294967296;
+    }
     else w
 
 -- the sum of the letters, with one byte more
@@ -59,35 +63,32 @@ unseen = record { letters = 0; minus = false; fourth = fresh; third = fresh; sec
 
 -- a number with or without a minus, as a duration
 abbrev pub timeOf : Bool → ℕ → ℤ
-timeOf minus n = if minus then negsuc ((n % 4294967296 + 2147483647) % 2147483648) else pos (n % 2147483648)
+timeOf minus n = if minus then negsuc ((n + 2147483647) % 2147483648) else pos (n % 2147483648)
 
--- a SELECT by the sum of the letters, or an ADVANCE
-abbrev pub selectBy : ℕ → Word → Word → Word → ℤ → C.Call
-selectBy letters b c d time =
-    if eqb letters 448 then Select (d .set % 256) S.Plain
-    else if eqb letters 880 then Select (d .set % 256) S.Plain
-    else if eqb letters 975 then Select (b .set % 256) (S.Delay time)
-    else if eqb letters 1407 then Select (b .set % 256) (S.Delay time)
-    else if eqb letters 873 then Select (c .set % 256) S.Else
-    else if eqb letters 1305 then Select (c .set % 256) S.Else
-    else Advance (d .number % 4294967296)
+-- a SELECT by the sum of the letters and the last words as open sets, or an ADVANCE
+abbrev pub selectBy : ℕ → ℕ → ℕ → ℕ → ℤ → ℕ → C.Call
+selectBy letters b c d time n =
+    if eqb letters 16 then Select d S.Plain
+    else if eqb letters 111 then Select b (S.Delay time)
+    else if eqb letters 9 then Select c S.Else
+    else Advance n
 
 -- the call that the sum of the letters stands for, with the four last words a, b, c, d; each form of a call has a sum of its own
 abbrev pub callBy : ℕ → Word → Word → Word → Word → ℤ → C.Call
 callBy letters a b c d time =
-    if eqb letters 436 then Create (c .number % 256) (d .number % 256)
+    if eqb letters 4 then Create (c .byte) (d .byte)
     else if eqb letters 367 then Delay time
-    else if eqb letters 284 then Call (c .number % 256) (d .number % 256) Simple
-    else if eqb letters 815 then Call (a .number % 256) (b .number % 256) (Timed time)
-    else if eqb letters 1456 then Call (b .number % 256) (c .number % 256) Conditional
+    else if eqb letters 284 then Call (c .byte) (d .byte) Simple
+    else if eqb letters 383 then Call (a .byte) (b .byte) (Timed time)
+    else if eqb letters 160 then Call (b .byte) (c .byte) Conditional
     else if eqb letters 215 then End
-    else if eqb letters 449 then Finish
+    else if eqb letters 17 then Finish
     else if eqb letters 299 then Tick
-    else selectBy letters b c d time
+    else selectBy letters (b .set) (c .set) (d .set) time (d .number)
 
--- the call that what is seen looks like
+-- the call that what is seen looks like; the sum of the letters of "none" is 432, so that word counts for nothing
 abbrev pub guessBy : Seen → C.Call
-guessBy s = callBy (s .letters) (s .fourth) (s .third) (s .second) (s .last) (timeOf (s .minus) (s .last .number))
+guessBy s = callBy (s .letters % 432) (s .fourth) (s .third) (s .second) (s .last) (timeOf (s .minus) (s .last .number))
 
 -- the call that words look like
 unfoldable pub guessOf : List ℕ → C.Call

@@ -2,7 +2,7 @@
 // prints it and compares.
 ghost use mathlib.Core.Path.{_≡_};
 ghost use Prim.Native.Nat.{_%_};
-ghost use Rattle.script.specs.Guess.{bitOf, fresh, grownOf, addedOf, heardOf, hear, unseen, timeOf, selectBy, callBy, guessOf};
+ghost use Rattle.script.specs.Guess.{bitOf, grownOf, addedOf, heardOf, hear, unseen, timeOf, selectBy, callBy, guessOf};
 use calls::Call;
 use calls::CallMode;
 use calls::SelectMode;
@@ -10,10 +10,11 @@ use calls::SelectMode;
 // The bit of an entry's digit in an open set.
 const BITS: [u8; 16] = [0, 1, 2, 4, 8, 16, 32, 64, 128, 0, 0, 0, 0, 0, 0, 0];
 
-// What a word is by its digits: a number, and an open set.
+// What a word is by its digits: a byte, an open set, and a number of 32 bits.
 pub struct Word {
-    pub number: u64,
-    pub set: u64,
+    pub byte: u8,
+    pub set: u8,
+    pub number: u32,
 }
 
 // What is seen of a line: the sum of its letters, whether there is a minus, and its four last words.
@@ -38,9 +39,11 @@ fn grown(w: Word, b: u8) -> Word
     ensures { λ r. ⌜ r ≡ grownOf w b ⌝ }
 {
     if (48 <= b) & (b <= 57) {
+        let d = (b % 16) as u64;
         Word {
-            number: w.number % 4294967296 * 10 + (b % 16) as u64,
-            set: w.set % 65536 + bit_of(b) as u64,
+            byte: ((w.byte as u64 * 10 + d) % 256) as u8,
+            set: ((w.set as u64 + bit_of(b) as u64) % 256) as u8,
+            number: ((w.number as u64 * 10 + d) % 4294967296) as u32,
         }
     } else {
         w
@@ -63,7 +66,11 @@ fn heard(s: Seen, b: u8) -> Seen
     let second = s.second;
     let last = s.last;
     if b == 32 {
-        let new = Word { number: 0, set: 0 };
+        let new = Word {
+            byte: 0,
+            set: 0,
+            number: 0,
+        };
         Seen {
             letters: s.letters,
             minus: s.minus,
@@ -89,7 +96,11 @@ fn heard(s: Seen, b: u8) -> Seen
 fn nothing() -> Seen
     ensures { λ r. ⌜ r ≡ unseen ⌝ }
 {
-    let new = Word { number: 0, set: 0 };
+    let new = Word {
+        byte: 0,
+        set: 0,
+        number: 0,
+    };
     Seen {
         letters: 0,
         minus: false,
@@ -114,85 +125,67 @@ fn seen_in(words: &[u8]) -> Seen
 }
 
 // A number with or without a minus, as a duration.
-fn time_of(minus: bool, n: u64) -> i32
+fn time_of(minus: bool, n: u32) -> i32
     ensures { λ r. ⌜ r ≡ timeOf minus n ⌝ }
 {
     if minus {
-        !(((n % 4294967296 + 2147483647) % 2147483648) as i32)
+        !(((n as u64 + 2147483647) % 2147483648) as i32)
     } else {
         (n % 2147483648) as i32
     }
 }
 
-// The low byte of a number.
-fn low(n: u64) -> u8
-    ensures { λ r. ⌜ r ≡ n % 256 ⌝ }
-{
-    (n % 256) as u8
-}
-
-// A SELECT by the sum of the letters, or an ADVANCE.
-fn select_by(letters: u64, b: Word, c: Word, d: Word, time: i32) -> Call
-    ensures { λ r. ⌜ r ≡ selectBy letters b c d time ⌝ }
+// A SELECT by the sum of the letters and the last words as open sets, or an ADVANCE.
+fn select_by(letters: u64, b: u8, c: u8, d: u8, time: i32, n: u32) -> Call
+    ensures { λ r. ⌜ r ≡ selectBy letters b c d time n ⌝ }
 {
     match letters {
-        448 => Call::Select {
-            open: low(d.set),
+        16 => Call::Select {
+            open: d,
             mode: SelectMode::Plain,
         },
-        880 => Call::Select {
-            open: low(d.set),
-            mode: SelectMode::Plain,
-        },
-        975 => Call::Select {
-            open: low(b.set),
+        111 => Call::Select {
+            open: b,
             mode: SelectMode::Delay(time),
         },
-        1407 => Call::Select {
-            open: low(b.set),
-            mode: SelectMode::Delay(time),
-        },
-        873 => Call::Select {
-            open: low(c.set),
+        9 => Call::Select {
+            open: c,
             mode: SelectMode::Else,
         },
-        1305 => Call::Select {
-            open: low(c.set),
-            mode: SelectMode::Else,
-        },
-        _ => Call::Advance((d.number % 4294967296) as u32),
+        _ => Call::Advance(n),
     }
 }
 
-// The call that the sum of the letters stands for, with the four last words a, b, c, d. Each form of a call has a sum of its own.
+// The call that the sum of the letters stands for, with the four last words a, b, c, d. Each form of a call has a sum of its own; `none` counts
+// for nothing, since the sum of its letters is 432.
 fn call_by(letters: u64, a: Word, b: Word, c: Word, d: Word, time: i32) -> Call
     ensures { λ r. ⌜ r ≡ callBy letters a b c d time ⌝ }
 {
     match letters {
-        436 => Call::Create {
-            priority: low(c.number),
-            entries: low(d.number),
+        4 => Call::Create {
+            priority: c.byte,
+            entries: d.byte,
         },
         367 => Call::Delay(time),
         284 => Call::Call {
-            target: low(c.number),
-            entry: low(d.number),
+            target: c.byte,
+            entry: d.byte,
             mode: CallMode::Simple,
         },
-        815 => Call::Call {
-            target: low(a.number),
-            entry: low(b.number),
+        383 => Call::Call {
+            target: a.byte,
+            entry: b.byte,
             mode: CallMode::Timed(time),
         },
-        1456 => Call::Call {
-            target: low(b.number),
-            entry: low(c.number),
+        160 => Call::Call {
+            target: b.byte,
+            entry: c.byte,
             mode: CallMode::Conditional,
         },
         215 => Call::End,
-        449 => Call::Finish,
+        17 => Call::Finish,
         299 => Call::Tick,
-        _ => select_by(letters, b, c, d, time),
+        _ => select_by(letters, b.set, c.set, d.set, time, d.number),
     }
 }
 
@@ -205,5 +198,5 @@ pub fn guess_at(words: &[u8]) -> Call
     let b = s.third;
     let c = s.second;
     let d = s.last;
-    call_by(s.letters, a, b, c, d, time_of(s.minus, d.number))
+    call_by(s.letters % 432, a, b, c, d, time_of(s.minus, d.number))
 }

@@ -2,6 +2,7 @@
 mod guess;
 pub mod print;
 pub mod reader;
+mod row;
 
 use calls::Call;
 pub use print::put_call;

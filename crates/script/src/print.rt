@@ -1,57 +1,77 @@
 // The text of a call, and the record of what a line says: each is put into lent room from a place on, and the answer is the place behind it;
-// room that is too short cuts it off.
+// room that is too short cuts it off. A text is made in a row of its own: no call's text fills it.
 ghost use mathlib.Core.Path.{_≡_};
 ghost use mathlib.Core.Bool.{cond};
 ghost use mathlib.Core.List.{_++_};
-ghost use Rattle.calls.specs.Record.{encode};
+ghost use Rattle.calls.specs.Record.{callMode, callTime, selectMode, selectTime, encode};
 ghost use Rattle.text.specs.Text.{Put};
-ghost use Rattle.script.specs.CallText.{spaced, spacedTime, entry, entries, openText, callModeText, selectModeText, textOf};
-ghost use Rattle.script.specs.Says.{recordOf};
+ghost use Rattle.script.specs.CallText.{spaced, spacedTime, entry, entries, openText, modeText, textOf};
+ghost use Rattle.script.specs.Rows.{Grown};
+ghost use Rattle.script.specs.Says.{Fits, recordOf};
 use crate::Line;
+use crate::row::Row;
+use crate::row::empty;
+use crate::row::with_byte;
+use crate::row::with_bytes;
+use crate::row::with_number;
 use calls::Call;
 use calls::CallMode;
 use calls::SelectMode;
 use calls::ticks;
 use text::least;
-use text::put_byte;
 use text::put_bytes;
-use text::put_number;
+
+// A mode as a record has it: its number, and its duration, or 0 where it has none.
+pub struct Mode {
+    pub number: u8,
+    pub time: i32,
+}
 
 // A blank and a number.
-fn put_spaced(n: u64, out: &mut [u8], at: usize) -> usize
-    ensures { λ r. ⌜ Put (now (out .entry)) at (spaced n) (now (out .exit)) r ⌝ }
+fn with_spaced(row: Row, n: u64) -> Row
+    ensures { λ r. ⌜ Grown row (spaced n) r ⌝ }
 {
-    let k = put_byte(b' ', out, at);
-    put_number(n, out, k)
+    let k = with_byte(row, b' ');
+    with_number(k, n)
 }
 
 // A blank and a duration. Of a duration below 0, `!d` is one less than its distance from 0.
-fn put_time(d: i32, out: &mut [u8], at: usize) -> usize
-    ensures { λ r. ⌜ Put (now (out .entry)) at (spacedTime d) (now (out .exit)) r ⌝ }
+fn with_time(row: Row, d: i32) -> Row
+    ensures { λ r. ⌜ Grown row (spacedTime d) r ⌝ }
 {
     if d < 0 {
-        let k = put_bytes(b" -", out, at);
-        return put_number(ticks(!d) as u64 + 1, out, k);
+        let k = with_bytes(row, b" -");
+        return with_number(k, ticks(!d) as u64 + 1);
     }
-    put_spaced(ticks(d) as u64, out, at)
+    with_spaced(row, ticks(d) as u64)
 }
 
 // A word and a duration.
-fn put_timed(word: &[u8], d: i32, out: &mut [u8], at: usize) -> usize
-    ensures { λ r. ⌜ Put (now (out .entry)) at (now (word .entry) ++ spacedTime d) (now (out .exit)) r ⌝ }
+fn with_timed(row: Row, word: &[u8], d: i32) -> Row
+    ensures { λ r. ⌜ Grown row (now (word .entry) ++ spacedTime d) r ⌝ }
 {
-    let k = put_bytes(word, out, at);
-    put_time(d, out, k)
+    let k = with_bytes(row, word);
+    with_time(k, d)
+}
+
+// A word and two numbers.
+fn with_pair(row: Row, word: &[u8], a: u8, b: u8) -> Row
+    ensures { λ r. ⌜ Grown row (now (word .entry) ++ (spaced a ++ spaced b)) r ⌝ }
+{
+    let k = with_bytes(row, word);
+    let l = with_spaced(k, a as u64);
+    with_spaced(l, b as u64)
 }
 
 // An entry of an open set, where it is open.
-fn put_entry(is_open: bool, mark: u8, digit: u8, out: &mut [u8], at: usize) -> usize
-    ensures { λ r. ⌜ Put (now (out .entry)) at (entry is_open mark digit) (now (out .exit)) r ⌝ }
+fn with_entry(row: Row, is_open: bool, mark: u8, digit: u8) -> Row
+    ensures { λ r. ⌜ Grown row (entry is_open mark digit) r ⌝ }
 {
     if is_open {
-        return put_bytes(&[mark, digit], out, at);
+        let k = with_byte(row, mark);
+        return with_byte(k, digit);
     }
-    least(at, out.len())
+    row
 }
 
 // What stands in front of the next entry: a comma once there was one.
@@ -62,105 +82,118 @@ fn next_mark(is_open: bool, mark: u8) -> u8
 }
 
 // The entries of an open set that is not empty.
-fn put_entries(set: u8, out: &mut [u8], at: usize) -> usize
-    ensures { λ r. ⌜ Put (now (out .entry)) at (entries 8 49 32 set) (now (out .exit)) r ⌝ }
+fn with_entries(row: Row, set: u8) -> Row
+    ensures { λ r. ⌜ Grown row (entries 8 49 32 set) r ⌝ }
 {
-    let mut place = least(at, out.len());
+    let mut r = row;
     let mut rest = set;
     let mut mark = b' ';
     let mut i: u8 = 0;
     while i < 8 {
         let is_open = rest % 2 == 1;
-        place = put_entry(is_open, mark, 49 + i, out, place);
+        r = with_entry(r, is_open, mark, 49 + i);
         mark = next_mark(is_open, mark);
         rest /= 2;
         i += 1;
     }
-    place
+    r
 }
 
 // A blank and an open set.
-fn put_open(set: u8, out: &mut [u8], at: usize) -> usize
-    ensures { λ r. ⌜ Put (now (out .entry)) at (openText set) (now (out .exit)) r ⌝ }
+fn with_open(row: Row, set: u8) -> Row
+    ensures { λ r. ⌜ Grown row (openText set) r ⌝ }
 {
     if set == 0 {
-        return put_bytes(b" none", out, at);
+        return with_bytes(row, b" none");
     }
-    put_entries(set, out, at)
+    with_entries(row, set)
 }
 
-// How a CALL waits.
-fn put_call_mode(mode: CallMode, out: &mut [u8], at: usize) -> usize
-    ensures { λ r. ⌜ Put (now (out .entry)) at (callModeText mode) (now (out .exit)) r ⌝ }
+// The mode of a CALL.
+fn call_mode(mode: CallMode) -> Mode
+    ensures { λ r. ⌜ r ≡ record { number = callMode mode; time = callTime mode } ⌝ }
 {
     match mode {
-        CallMode::Simple => least(at, out.len()),
-        CallMode::Timed(d) => put_timed(b" timed", d, out, at),
-        CallMode::Conditional => put_bytes(b" conditional", out, at),
+        CallMode::Simple => Mode { number: 0, time: 0 },
+        CallMode::Timed(d) => Mode { number: 1, time: d },
+        CallMode::Conditional => Mode { number: 2, time: 0 },
     }
 }
 
-// How a SELECT waits.
-fn put_select_mode(mode: SelectMode, out: &mut [u8], at: usize) -> usize
-    ensures { λ r. ⌜ Put (now (out .entry)) at (selectModeText mode) (now (out .exit)) r ⌝ }
+// The mode of a SELECT.
+fn select_mode(mode: SelectMode) -> Mode
+    ensures { λ r. ⌜ r ≡ record { number = selectMode mode; time = selectTime mode } ⌝ }
 {
     match mode {
-        SelectMode::Plain => least(at, out.len()),
-        SelectMode::Delay(d) => put_timed(b" delay", d, out, at),
-        SelectMode::Else => put_bytes(b" else", out, at),
+        SelectMode::Plain => Mode { number: 0, time: 0 },
+        SelectMode::Delay(d) => Mode { number: 1, time: d },
+        SelectMode::Else => Mode { number: 2, time: 0 },
     }
 }
 
-fn put_create(priority: u8, entries: u8, out: &mut [u8], at: usize) -> usize
-    ensures { λ r. ⌜ Put (now (out .entry)) at (textOf (Call.Create priority entries)) (now (out .exit)) r ⌝ }
+// How a call waits: nothing, a word and its duration, or another word.
+fn with_mode(row: Row, timed: &[u8], other: &[u8], mode: Mode) -> Row
+    ensures { λ r. ⌜ Grown row (modeText (now (timed .entry)) (now (other .entry)) (mode .number) (mode .time)) r ⌝ }
 {
-    let k = put_bytes(b"CREATE", out, at);
-    let l = put_spaced(priority as u64, out, k);
-    put_spaced(entries as u64, out, l)
+    let m = mode.number;
+    match m {
+        0 => row,
+        1 => with_timed(row, timed, mode.time),
+        _ => with_bytes(row, other),
+    }
 }
 
-fn put_entry_call(target: u8, entry: u8, mode: CallMode, out: &mut [u8], at: usize) -> usize
-    ensures { λ r. ⌜ Put (now (out .entry)) at (textOf (Call.Call target entry mode)) (now (out .exit)) r ⌝ }
+fn with_entry_call(row: Row, target: u8, entry: u8, mode: CallMode) -> Row
+    ensures { λ r. ⌜ Grown row (textOf (Call.Call target entry mode)) r ⌝ }
 {
-    let k = put_bytes(b"CALL", out, at);
-    let l = put_spaced(target as u64, out, k);
-    let m = put_spaced(entry as u64, out, l);
-    put_call_mode(mode, out, m)
+    let k = with_pair(row, b"CALL", target, entry);
+    with_mode(k, b" timed", b" conditional", call_mode(mode))
 }
 
-fn put_select(set: u8, mode: SelectMode, out: &mut [u8], at: usize) -> usize
-    ensures { λ r. ⌜ Put (now (out .entry)) at (textOf (Call.Select set mode)) (now (out .exit)) r ⌝ }
+fn with_select(row: Row, set: u8, mode: SelectMode) -> Row
+    ensures { λ r. ⌜ Grown row (textOf (Call.Select set mode)) r ⌝ }
 {
-    let k = put_bytes(b"SELECT", out, at);
-    let l = put_open(set, out, k);
-    put_select_mode(mode, out, l)
+    let k = with_bytes(row, b"SELECT");
+    let l = with_open(k, set);
+    with_mode(l, b" delay", b" else", select_mode(mode))
 }
 
-fn put_advance(n: u32, out: &mut [u8], at: usize) -> usize
-    ensures { λ r. ⌜ Put (now (out .entry)) at (textOf (Call.Advance n)) (now (out .exit)) r ⌝ }
+fn with_advance(row: Row, n: u32) -> Row
+    ensures { λ r. ⌜ Grown row (textOf (Call.Advance n)) r ⌝ }
 {
-    let k = put_bytes(b"ADVANCE", out, at);
-    put_spaced(n as u64, out, k)
+    let k = with_bytes(row, b"ADVANCE");
+    with_spaced(k, n as u64)
+}
+
+// The text of a call. Its numbers are those of its types, so it is short.
+pub(crate) fn with_call(row: Row, c: Call) -> Row
+    ensures { λ r. ⌜ Grown row (textOf c) r ⌝ }
+    ensures { λ r. ⌜ Fits c ⌝ }
+{
+    match c {
+        Call::Create { priority, entries } => with_pair(row, b"CREATE", priority, entries),
+        Call::Delay(d) => with_timed(row, b"DELAY", d),
+        Call::Call {
+            target,
+            entry,
+            mode,
+        } => with_entry_call(row, target, entry, mode),
+        Call::Select { open, mode } => with_select(row, open, mode),
+        Call::End => with_bytes(row, b"END"),
+        Call::Finish => with_bytes(row, b"FINISH"),
+        Call::Tick => with_bytes(row, b"TICK"),
+        Call::Advance(n) => with_advance(row, n),
+    }
 }
 
 // The text of a call.
 pub fn put_call(c: Call, out: &mut [u8], at: usize) -> usize
     ensures { λ r. ⌜ Put (now (out .entry)) at (textOf c) (now (out .exit)) r ⌝ }
 {
-    match c {
-        Call::Create { priority, entries } => put_create(priority, entries, out, at),
-        Call::Delay(d) => put_timed(b"DELAY", d, out, at),
-        Call::Call {
-            target,
-            entry,
-            mode,
-        } => put_entry_call(target, entry, mode, out, at),
-        Call::Select { open, mode } => put_select(open, mode, out, at),
-        Call::End => put_bytes(b"END", out, at),
-        Call::Finish => put_bytes(b"FINISH", out, at),
-        Call::Tick => put_bytes(b"TICK", out, at),
-        Call::Advance(n) => put_advance(n, out, at),
-    }
+    let row = with_call(empty(), c);
+    let text = row.bytes;
+    let n = least(row.place, 64);
+    put_bytes(&text[0..n], out, at)
 }
 
 // The record of a call.

@@ -1,46 +1,48 @@
 // The reader of lines: the words of a line, the call that they look like, and whether that call's text is what they are.
 ghost use mathlib.Core.Path.{_≡_};
-ghost use Rattle.text.specs.Text.{Put};
+ghost use Rattle.script.specs.Rows.{textIn, cut, Grown};
 ghost use Rattle.script.specs.Words.{partOf, wordsOf};
 ghost use Rattle.script.specs.Says.{Says};
 ghost use Rattle.script.specs.Guess.{alike};
 use crate::Line;
 use crate::guess::guess_at;
-use crate::print::put_call;
+use crate::print::with_call;
+use crate::row::Row;
+use crate::row::empty;
+use crate::row::with_byte;
 use text::least;
-use text::put_byte;
-use text::put_bytes;
 
 // What a byte of a line adds to its words.
-fn put_part(inside: bool, b: u8, out: &mut [u8], at: usize) -> usize
-    ensures { λ r. ⌜ Put (now (out .entry)) at (partOf inside b) (now (out .exit)) r ⌝ }
+fn with_part(row: Row, inside: bool, b: u8) -> Row
+    ensures { λ r. ⌜ Grown row (partOf inside b) r ⌝ }
 {
     if b <= 32 {
-        return least(at, out.len());
+        return row;
     }
     if inside {
-        return put_byte(b, out, at);
+        return with_byte(row, b);
     }
-    put_bytes(&[32, b], out, at)
+    let k = with_byte(row, 32);
+    with_byte(k, b)
 }
 
 // The words of a line, with one blank in front of each.
-fn put_words(line: &[u8], out: &mut [u8], at: usize) -> usize
-    ensures { λ r. ⌜ Put (now (out .entry)) at (wordsOf (now (line .entry))) (now (out .exit)) r ⌝ }
+fn words_of(line: &[u8]) -> Row
+    ensures { λ r. ⌜ textIn r ≡ cut (wordsOf (now (line .entry))) ⌝ }
 {
-    let mut place = least(at, out.len());
+    let mut words = empty();
     let mut inside = false;
     let mut i = 0;
     while i < line.len() {
         let b = line[i];
         if b == 35 {
-            return place;
+            return words;
         }
-        place = put_part(inside, b, out, place);
+        words = with_part(words, inside, b);
         inside = 32 < b;
         i += 1;
     }
-    place
+    words
 }
 
 // Whether two texts are the same.
@@ -68,10 +70,10 @@ fn read_words(words: &[u8]) -> Line
         return Line::Nothing;
     }
     let call = guess_at(words);
-    let mut text = [32u8; 64];
-    let n = put_call(call, &mut text, 1);
-    let m = least(n, 64);
-    if same(words, &text[0..m]) {
+    let row = with_call(with_byte(empty(), b' '), call);
+    let text = row.bytes;
+    let n = least(row.place, 64);
+    if same(words, &text[0..n]) {
         return Line::Says(call);
     }
     Line::Unread
@@ -81,10 +83,11 @@ fn read_words(words: &[u8]) -> Line
 pub fn read_line(line: &[u8]) -> Line
     ensures { λ r. ⌜ Says (wordsOf (now (line .entry))) r ⌝ }
 {
-    let mut words = [0u8; 64];
-    let n = put_words(line, &mut words, 0);
+    let row = words_of(line);
+    let n = row.place;
     if 64 <= n {
         return Line::Unread;
     }
+    let words = row.bytes;
     read_words(&words[0..n])
 }

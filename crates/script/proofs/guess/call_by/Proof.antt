@@ -5,19 +5,19 @@ use Rattle.script.proofs.guess.call_by.Statement.{statement}
 use Rattle.script.proofs.guess.call_by.Tie as tie
 
 returns : tie.Need-returns
-returns c = rw (c .before .before .match .keys1, c .before .low .ensures, c .low2 .ensures)
+returns c = rw (c .match .keys1)
 
 returns-2 : tie.Need-returns-2
 returns-2 c = rw (c .match .keys2, toZ-ofZ (c .before .fits .time))
 
 returns-3 : tie.Need-returns-3
-returns-3 c = rw (c .before .before .match .keys3, c .before .low3 .ensures, c .low4 .ensures)
+returns-3 c = rw (c .match .keys3)
 
 returns-4 : tie.Need-returns-4
-returns-4 c = rw (c .before .before .match .keys4, c .before .low5 .ensures, c .low6 .ensures, toZ-ofZ (c .before .before .before .fits .time))
+returns-4 c = rw (c .match .keys4, toZ-ofZ (c .before .fits .time))
 
 returns-5 : tie.Need-returns-5
-returns-5 c = rw (c .before .before .match .keys5, c .before .low7 .ensures, c .low8 .ensures)
+returns-5 c = rw (c .match .keys5)
 
 returns-6 : tie.Need-returns-6
 returns-6 c = rw (c .match .keys6)
@@ -46,14 +46,6 @@ pub call-by-spec : {M : Type 1} → statement M
 call-by-spec =
     tie.close
     (tie.spec
-    (λ c κs. search needs)
-    (λ c κs. search needs)
-    (λ c κs. search needs)
-    (λ c κs. search needs)
-    (λ c κs. search needs)
-    (λ c κs. search needs)
-    (λ c κs. search needs)
-    (λ c κs. search needs)
     (λ c κs. search needs)
     returns
     returns-2

@@ -3,7 +3,7 @@ use Rattle.script.proofs.guess.grown.Statement.{statement}
 use Rattle.script.proofs.guess.grown.Tie as tie
 
 returns : tie.Need-returns
-returns c = rw (c .before .before .before .if1 .taken, c .bit-of .ensures)
+returns c = rw (c .before .before .before .before .if1 .taken, c .before .bit-of .ensures)
 
 returns-2 : tie.Need-returns-2
 returns-2 c = rw (c .if1 .left)
@@ -15,7 +15,15 @@ grown-spec =
     (λ c. search needs)
     (λ c. search needs)
     (λ c. search needs)
+    (λ c. search needs)
+    (λ c. search needs)
+    (λ c. search needs)
     (λ c κs. search needs)
+    (λ c. search needs)
+    (λ c. search needs)
+    (λ c. search needs)
+    (λ c. search needs)
+    (λ c. search needs)
     (λ c. search needs)
     (λ c. search needs)
     returns

@@ -6,7 +6,7 @@ use Rattle.script.proofs.guess.time_of.Statement.{statement}
 use Rattle.script.proofs.guess.time_of.Tie as tie
 
 returns : tie.Need-returns
-returns c = rw (c .if1 .taken) (below ((c .before .args .n % 4294967296 + 2147483647) % 2147483648) (omega arith))
+returns c = rw (c .if1 .taken) (below ((c .before .args .n + 2147483647) % 2147483648) (omega arith))
 
 returns-2 : tie.Need-returns-2
 returns-2 c = rw (c .if1 .left) (above (c .before .args .n % 2147483648) (omega arith))

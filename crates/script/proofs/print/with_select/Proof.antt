@@ -1,0 +1,24 @@
+use Rattle.script.specs.CallText.{selectModeText, textOf}
+use Rattle.script.proofs.Growing.{then-grown}
+use borrow.Author.Needs.{needs}
+use Rattle.script.proofs.print.with_select.Statement.{statement}
+use Rattle.script.proofs.print.with_select.Tie as tie
+
+returns : tie.Need-returns
+unfolding selectModeText textOf
+returns c =
+    let k = c .before .before .before .before in
+    then-grown (k .before .with-bytes .ensures) (then-grown (k .with-open .ensures) (rw (c .before .select-mode .ensures) at (c .with-mode .ensures)))
+
+pub with-select-spec : {M : Type 1} → statement M
+with-select-spec =
+    tie.close
+    (tie.spec
+    (λ c. search needs)
+    (λ c κs. search needs)
+    (λ c κs. search needs)
+    (λ c. search needs)
+    (λ c. search needs)
+    (λ c κs. search needs)
+    (λ c κs. search needs)
+    returns)
