@@ -12,70 +12,40 @@
 mod lines; // lines.rt: a line is read
 mod print; // print.rt: a line is put together
 
-use libc::STDIN_FILENO;
-use libc::STDOUT_FILENO;
 use lines::heard;
 use print::put_line;
+use stream::output::drained;
+use stream::output::flushed;
+use stream::window::refilled;
+use stream::window::unread;
+use text::least;
 use workspace::Answer;
 use workspace::Stretch;
 use workspace::Tables;
 use workspace::Used;
 
-// What is read of a line: its letter, the number that is being read, and three numbers.
+// What is read of a line: its letter, and the last three numbers.
 struct Line {
     letter: u8,
-    field: u8,
     x: u32,
     y: u32,
     z: u32,
 }
 
-// The tables, and the line that is being read.
+// The tables, the line that is being read, how much output waits, and whether it goes on.
 struct State {
     tables: Tables,
     line: Line,
+    waits: usize,
+    goes: bool,
 }
 
 fn blank() -> Line {
     Line {
         letter: 0,
-        field: 0,
         x: 0,
         y: 0,
         z: 0,
-    }
-}
-
-// Two tables with no place used: every operation but a fresh area is refused on them.
-fn start() -> State {
-    let none = Stretch {
-        start: 0,
-        length: 0,
-    };
-    let used = Used { blocks: 0, free: 0 };
-    let answer = Answer {
-        refusal: 0,
-        value: 0,
-        used,
-    };
-    let tables = Tables {
-        blocks: [none; 32],
-        free: [none; 32],
-        answer,
-    };
-    let line = blank();
-    State { tables, line }
-}
-
-// The places with x at place i, where there is one.
-fn with_place(a: [Stretch; 32], i: u32, x: Stretch) -> [Stretch; 32] {
-    let mut r = a;
-    if i < 32 {
-        let k = i as usize;
-        r[k] = x;
-        r
-    } else {
-        r
     }
 }
 
@@ -89,6 +59,39 @@ fn counted(m: u32, n: u32) -> Answer {
         refusal: 0,
         value: 0,
         used,
+    }
+}
+
+// Two tables with no place used: every operation but a fresh area is refused on them.
+fn start() -> State {
+    let none = Stretch {
+        start: 0,
+        length: 0,
+    };
+    let answer = counted(0, 0);
+    let tables = Tables {
+        blocks: [none; 32],
+        free: [none; 32],
+        answer,
+    };
+    let line = blank();
+    State {
+        tables,
+        line,
+        waits: 0,
+        goes: true,
+    }
+}
+
+// The places with x at place i, where there is one.
+fn with_place(a: [Stretch; 32], i: u32, x: Stretch) -> [Stretch; 32] {
+    let mut r = a;
+    if i < 32 {
+        let k = i as usize;
+        r[k] = x;
+        r
+    } else {
+        r
     }
 }
 
@@ -122,7 +125,7 @@ fn damaged(t: Tables, l: Line) -> Tables {
         b'u' => Tables {
             blocks,
             free,
-            answer: counted(l.x, l.y),
+            answer: counted(l.y, l.z),
         },
         _ => Tables {
             blocks,
@@ -137,54 +140,76 @@ fn applied(t: Tables, l: Line) -> Tables {
     let letter = l.letter;
     match letter {
         b'f' => workspace::owned::fresh(t),
-        b'a' => workspace::owned::request(t, l.x),
-        b'r' => workspace::owned::release(t, l.x),
+        b'a' => workspace::owned::request(t, l.z),
+        b'r' => workspace::owned::release(t, l.z),
         _ => damaged(t, l),
     }
 }
 
-// One byte of the input: it is read, and at the end of a line the line is carried out and printed.
-fn taken(s: State, c: u8) -> State {
-    let l = s.line;
-    let t = s.tables;
-    if c == b'\n' {
-        let tables = applied(t, l);
-        let mut out = [0u8; 4096];
-        let n = put_line(&mut out, tables);
-        if n <= 4096 {
-            io::write_all(STDOUT_FILENO, &out[0..n]);
-        }
-        let line = blank();
-        State { tables, line }
-    } else {
-        let line = heard(l, c);
-        State { tables: t, line }
+// The line is carried out, and what it answers goes to the output.
+fn carried(s: State, out: &mut [u8]) -> State {
+    let tables = applied(s.tables, s.line);
+    let place = put_line(tables, out, s.waits);
+    let o = drained(out, place);
+    let line = blank();
+    State {
+        tables,
+        line,
+        waits: o.waits,
+        goes: o.writes,
     }
 }
 
-// All bytes of a part of the input.
-fn consumed(s: State, part: &[u8]) -> State {
+// One byte of the input: it is read, and at the end of a line the line is carried out.
+fn taken(s: State, c: u8, out: &mut [u8]) -> State {
+    if c == b'\n' {
+        return carried(s, out);
+    }
+    let tables = s.tables;
+    let line = heard(s.line, c);
+    State {
+        tables,
+        line,
+        waits: s.waits,
+        goes: s.goes,
+    }
+}
+
+// All bytes of a part of the input, as long as what they answer can be written.
+fn consumed(s: State, part: &[u8], out: &mut [u8]) -> State {
     let mut r = s;
     let mut i = 0;
-    while i < part.len() {
-        r = taken(r, part[i]);
+    while i < part.len() && r.goes {
+        r = taken(r, part[i], out);
         i += 1;
     }
     r
 }
 
-// A proved loop has to end, and nothing says that the input does: the reads are counted down from a number that no run uses up.
+// What waits is written, and more of the input is read and taken.
+fn run_turn(s: State, buf: &mut [u8], out: &mut [u8]) -> State {
+    let o = flushed(out, s.waits);
+    let nothing = unread();
+    let w = refilled(nothing, buf);
+    let n = least(w.end, buf.len());
+    let tables = s.tables;
+    let line = s.line;
+    let ready = State {
+        tables,
+        line,
+        waits: o.waits,
+        goes: o.writes & !w.last,
+    };
+    consumed(ready, &buf[0..n], out)
+}
+
 fn main() {
+    let mut buf = io::large_buffer();
+    let mut out = io::large_buffer();
     let mut s = start();
-    let mut reads: u32 = 4000000000;
-    let mut buf = [0u8; 4096];
-    while 0 < reads {
-        let got = libc::read(STDIN_FILENO, &mut buf);
-        let n = io::count(got, &buf);
-        if n == 0 {
-            return;
-        }
-        s = consumed(s, &buf[..n]);
-        reads -= 1;
+    let mut turns = u64::MAX;
+    while turns > 0 && s.goes {
+        s = run_turn(s, &mut buf, &mut out);
+        turns -= 1;
     }
 }

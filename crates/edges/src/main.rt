@@ -1,110 +1,92 @@
 // What no log reaches, a line for each: rooms of 123 and 124 bytes, a damaged state, the questions, the number 255 for a task.
-// A step's line is stepper's; behind it stand the number of tasks of the state given back and the first byte of the room.
+// A step's line is stepper's; in the line behind it stand the number of tasks of the state given back and the first byte of the room.
+// A line of questions has a task and an entry, then refusal and count of COUNT, then refusal and answer of CALLABLE, 1 for yes.
 use calls::Call;
 use calls::CallMode;
 use rules::Supervisor;
+use stream::output::flushed;
 use text::put_byte;
 use text::put_bytes;
 use text::put_number;
 
-// The state behind a step, and the place behind its line.
+// The state behind a step, and the place behind what was told.
 struct Told {
     state: Supervisor,
     place: usize,
 }
 
-fn wide(x: u8) -> u64 {
-    x as u64
+// A space and a number.
+fn put_spaced(n: u64, out: &mut [u8], at: usize) -> usize {
+    let a = put_byte(b' ', out, at);
+    put_number(n, out, a)
+}
+
+// Two numbers and a byte behind them.
+fn put_pair(a: u64, b: u64, end: u8, out: &mut [u8], at: usize) -> usize {
+    let c = put_spaced(a, out, at);
+    let d = put_spaced(b, out, c);
+    put_byte(end, out, d)
 }
 
 // The first byte of a room, 0 where it has none.
-fn first(room: &[u8]) -> u64 {
-    if 0 < room.len() { wide(room[0]) } else { 0 }
+fn first(room: &[u8]) -> u8 {
+    if 0 < room.len() { room[0] } else { 0 }
 }
 
-// Two numbers and a line end.
-fn put_pair(a: u64, b: u64, out: &mut [u8], at: usize) -> usize {
-    let c = put_number(a, out, at);
-    let d = put_byte(b' ', out, c);
-    let e = put_number(b, out, d);
-    put_byte(b'\n', out, e)
-}
-
-// A step with its name and its line.
-fn tell_step(
-    name: &[u8],
-    s: Supervisor,
-    c: Call,
-    room: &mut [u8],
-    out: &mut [u8],
-    at: usize,
-) -> Told {
-    let a = put_bytes(name, out, at);
-    let stepped = supervisor::step(s, c, room);
+// A step with its name and its lines.
+fn tell_step(name: &[u8], t: Told, c: Call, room: &mut [u8], out: &mut [u8]) -> Told {
+    let a = put_bytes(name, out, t.place);
+    let stepped = supervisor::step(t.state, c, room);
     let answer = stepped.answer;
     let b = report::put_line(0, answer, room, out, a);
     let state = stepped.state;
-    let place = put_pair(wide(state.created), first(room), out, b);
+    let place = put_pair(state.created as u64, first(room) as u64, b'\n', out, b);
     Told { state, place }
 }
 
-// What is asked of a task and an entry.
-fn put_asked(name: &[u8], t: u8, e: u8, out: &mut [u8], at: usize) -> usize {
-    let a = put_bytes(name, out, at);
-    let b = put_number(wide(t), out, a);
-    let c = put_byte(b' ', out, b);
-    let d = put_number(wide(e), out, c);
-    put_bytes(b": ", out, d)
+// The same with a room of 124 bytes.
+fn tell(name: &[u8], t: Told, c: Call, out: &mut [u8]) -> Told {
+    let mut room = [9u8; 124];
+    tell_step(name, t, c, &mut room, out)
 }
 
-// COUNT of a task and an entry: the refusal and the count.
-fn tell_count(s: Supervisor, t: u8, e: u8, out: &mut [u8], at: usize) -> usize {
-    let a = put_asked(b"COUNT ", t, e, out, at);
-    let known = supervisor::count(s, t, e);
-    put_pair(wide(known.refusal), known.count as u64, out, a)
+// Both questions, of a task and an entry.
+fn tell_asked(s: Supervisor, t: u8, e: u8, out: &mut [u8], at: usize) -> usize {
+    let a = put_bytes(b"COUNT, CALLABLE", out, at);
+    let b = put_pair(t as u64, e as u64, b':', out, a);
+    let count = supervisor::count(s, t, e);
+    let c = put_pair(count.refusal as u64, count.count as u64, b',', out, b);
+    let callable = supervisor::callable(s, t);
+    put_pair(callable.refusal as u64, callable.yes as u64, b'\n', out, c)
 }
 
-// CALLABLE of a task, of which entry 0 is asked: the refusal, and 1 for yes.
-fn tell_callable(s: Supervisor, t: u8, out: &mut [u8], at: usize) -> usize {
-    let a = put_asked(b"CALLABLE ", t, 0, out, at);
-    let known = supervisor::callable(s, t);
-    put_pair(wide(known.refusal), known.yes as u64, out, a)
-}
-
-// COUNT, of tasks and entries that are there and that are not.
-fn tell_counts(s: Supervisor, out: &mut [u8], at: usize) -> usize {
-    let a = tell_count(s, 1, 1, out, at);
-    let b = tell_count(s, 1, 2, out, a);
-    let c = tell_count(s, 255, 1, out, b);
-    tell_count(s, 1, 255, out, c)
-}
-
-// Both questions, of tasks that are there and that are not.
-fn tell_questions(s: Supervisor, out: &mut [u8], at: usize) -> usize {
-    let a = tell_counts(s, out, at);
-    let b = tell_callable(s, 0, out, a);
-    let c = tell_callable(s, 1, out, b);
-    let d = tell_callable(s, 2, out, c);
-    tell_callable(s, 255, out, d)
+// Both questions, of tasks and entries that are there and that are not.
+fn tell_questions(t: Told, out: &mut [u8]) -> Told {
+    let state = t.state;
+    let a = tell_asked(state, 1, 1, out, t.place);
+    let b = tell_asked(state, 1, 2, out, a);
+    let c = tell_asked(state, 1, 255, out, b);
+    let d = tell_asked(state, 255, 1, out, c);
+    let e = tell_asked(state, 2, 0, out, d);
+    let place = tell_asked(state, 0, 0, out, e);
+    Told { state, place }
 }
 
 // Task 1, with an entry: a room of 123 bytes is too short for it and stays as it is, 124 are enough.
-fn tell_low(out: &mut [u8], at: usize) -> Told {
+fn tell_low(out: &mut [u8]) -> Told {
     let mut short = [9u8; 123];
-    let mut room = [9u8; 124];
-    let s = supervisor::empty(4294967295);
     let call = Call::Create {
         priority: 5,
         entries: 1,
     };
-    let a = tell_step(b"CREATE, room 123: ", s, call, &mut short, out, at);
-    let state = a.state;
-    tell_step(b"CREATE, room 124: ", state, call, &mut room, out, a.place)
+    let state = supervisor::empty(4294967295);
+    let t = Told { state, place: 0 };
+    let a = tell_step(b"CREATE, room 123: ", t, call, &mut short, out);
+    tell(b"CREATE, room 124: ", a, call, out)
 }
 
 // Task 2, which then queues on entry 1 of task 1 for one tick.
-fn tell_high(s: Supervisor, out: &mut [u8], at: usize) -> Told {
-    let mut room = [9u8; 124];
+fn tell_high(t: Told, out: &mut [u8]) -> Told {
     let create = Call::Create {
         priority: 9,
         entries: 0,
@@ -114,61 +96,46 @@ fn tell_high(s: Supervisor, out: &mut [u8], at: usize) -> Told {
         entry: 1,
         mode: CallMode::Timed(1),
     };
-    let a = tell_step(b"CREATE, room 124: ", s, create, &mut room, out, at);
-    let state = a.state;
-    tell_step(b"CALL, room 124: ", state, call, &mut room, out, a.place)
+    let a = tell(b"CREATE, room 124: ", t, create, out);
+    let b = tell(b"CALL, room 124: ", a, call, out);
+    tell_questions(b, out)
 }
 
-// A damaged state, whose number of tasks is wrong, is refused and given back, by the step and by the questions.
-fn tell_damage(s: Supervisor, out: &mut [u8], at: usize) -> usize {
-    let mut room = [9u8; 124];
-    let mut damaged = s;
-    damaged.created = 255;
-    let a = tell_step(b"TICK, damaged: ", damaged, Call::Tick, &mut room, out, at);
-    let state = a.state;
-    tell_questions(state, out, a.place)
-}
-
-// The same tick on the sound state: the clock goes round, and the call expires.
-fn tell_tick(s: Supervisor, out: &mut [u8], at: usize) -> usize {
-    let mut room = [9u8; 124];
-    let a = tell_step(b"TICK, sound: ", s, Call::Tick, &mut room, out, at);
-    let state = a.state;
-    tell_questions(state, out, a.place)
-}
-
-// A call of task 255, which was never created.
-fn tell_last(s: Supervisor, out: &mut [u8], at: usize) -> usize {
-    let mut room = [9u8; 124];
+// A call of task 255, which was never created, and a tick: the clock goes round, and the call of task 2 expires.
+fn tell_sound(t: Told, out: &mut [u8]) -> Told {
     let call = Call::Call {
         target: 255,
         entry: 255,
         mode: CallMode::Simple,
     };
-    let a = tell_step(b"CALL of 255: ", s, call, &mut room, out, at);
-    a.place
+    let a = tell(b"CALL of 255: ", t, call, out);
+    let b = tell(b"TICK, sound: ", a, Call::Tick, out);
+    tell_questions(b, out)
+}
+
+// A damaged state, whose number of tasks is wrong, is refused and given back, by the step and by the questions.
+fn tell_damaged(t: Told, out: &mut [u8]) -> Told {
+    let mut state = t.state;
+    state.created = 255;
+    let damaged = Told {
+        state,
+        place: t.place,
+    };
+    let a = tell(b"TICK, damaged: ", damaged, Call::Tick, out);
+    tell_questions(a, out)
 }
 
 // All of it, and the place behind it.
 fn tell_all(out: &mut [u8]) -> usize {
-    let a = tell_low(out, 0);
-    let one = a.state;
-    let b = tell_high(one, out, a.place);
-    let two = b.state;
-    let c = tell_questions(two, out, b.place);
-    let d = tell_damage(two, out, c);
-    let e = tell_tick(two, out, d);
-    tell_last(two, out, e)
-}
-
-// Writes what was told.
-fn write_told(out: &[u8], place: usize) {
-    let n = text::least(place, out.len());
-    io::write_all(libc::STDOUT_FILENO, &out[0..n]);
+    let low = tell_low(out);
+    let high = tell_high(low, out);
+    let sound = tell_sound(high, out);
+    let damaged = tell_damaged(sound, out);
+    damaged.place
 }
 
 fn main() {
     let mut out = io::buffer();
     let place = tell_all(&mut out);
-    write_told(&out, place);
+    flushed(&out, place);
 }

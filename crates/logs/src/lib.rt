@@ -1,33 +1,31 @@
 // Whole logs, from standard input to standard output: what stepper and replay share.
-ghost use Prim.Native.Nat.{_-_, min};
+ghost use Prim.Native.Nat.{_-_, _≤_, min};
 ghost use mathlib.Core.Path.{_≡_};
-ghost use Rattle.logs.specs.Runs.{stoppedAt};
 use calls::word;
 use report::put_header;
 use session::turns::Next;
 use session::turns::Session;
 use session::turns::Turned;
 use session::turns::turn;
-use stream::output::drained;
+use stream::flow::Flow;
+use stream::flow::begun;
+use stream::flow::fed;
+use stream::flow::passed;
 use stream::output::flushed;
 use stream::window::Window;
 use stream::window::headed;
 use stream::window::refilled;
-use stream::window::unread;
 use text::least;
 
 // The bytes of a log that goes on to the end of the input.
 const ENDLESS: u64 = u64::MAX;
 
-// A log that is being run: the window on the input, the bytes that the log still has, the session, how much output waits,
-// whether the log goes on, and whether all output so far could be written.
-pub struct Run {
-    pub window: Window,
+// A log: the flow of input and output, the clock that it starts with, the bytes that it still has, and whether it goes on.
+pub struct Log {
+    pub flow: Flow,
+    pub clock: u32,
     pub left: u64,
-    pub session: Session,
-    pub waits: usize,
     pub goes: bool,
-    pub writes: bool,
 }
 
 // The smaller of a number of bytes and what the log still has.
@@ -44,109 +42,106 @@ fn less(left: u64, n: usize) -> u64
     if left < n as u64 { 0 } else { left - n as u64 }
 }
 
-// A log from its start: the header is printed.
-fn started(clock: u32, left: u64, window: Window, out: &mut [u8], waits: usize) -> Run {
-    let o = drained(out, waits);
-    let place = put_header(out, o.waits);
-    let state = supervisor::empty(clock);
-    let session = Session { state, step: 1 };
-    Run {
-        window,
-        left,
-        session,
-        waits: place,
-        goes: o.writes,
-        writes: o.writes,
-    }
-}
-
-// The run behind a turn that took a record.
-fn advanced(r: Run, t: Turned, out: &[u8]) -> Run {
-    let w = r.window;
-    let session = t.session;
-    let o = drained(out, t.place);
-    let window = Window {
-        at: std::num::wrapping_add_usize(w.at, t.count),
-        end: w.end,
-        last: w.last,
-    };
-    Run {
-        window,
-        left: less(r.left, t.count),
-        session,
-        waits: o.waits,
-        goes: o.writes,
-        writes: o.writes,
-    }
-}
-
-// The run with more input. What waits is written first, for whoever feeds it line by line.
-fn fed(r: Run, buf: &mut [u8], out: &[u8]) -> Run {
-    let o = flushed(out, r.waits);
-    let w = r.window;
-    let window = refilled(w, buf);
-    let session = r.session;
-    Run {
-        window,
-        left: r.left,
-        session,
-        waits: o.waits,
-        goes: o.writes,
-        writes: o.writes,
-    }
-}
-
-// The run behind its last line.
-fn stopped(r: Run, place: usize) -> Run
-    ensures { λ n. ⌜ n ≡ stoppedAt r place ⌝ }
+// What stands of a log in the window on a buffer of n bytes; `last` where no more bytes of the log come.
+fn part(w: Window, left: u64, n: usize) -> Window
+    ensures { λ r. ⌜ (r .at ≤ r .end) × (r .end ≤ n) ⌝ }
 {
-    let window = r.window;
-    let session = r.session;
-    Run {
-        window,
-        left: r.left,
-        session,
-        waits: place,
-        goes: false,
-        writes: r.writes,
-    }
-}
-
-// One turn of a run, on the bytes of the log that stand in the window.
-fn run_turn(r: Run, buf: &mut [u8], room: &mut [u8], out: &mut [u8]) -> Run {
-    let w = r.window;
-    let end = least(w.end, buf.len());
+    let end = least(w.end, n);
     let at = least(w.at, end);
-    let n = shorter(end - at, r.left);
-    let stop = at + n;
-    let last = w.last | (r.left <= n as u64);
-    let session = r.session;
-    let t = turn(session, &buf[at..stop], last, room, out, r.waits);
-    let next = t.next;
-    match next {
-        Next::Again => advanced(r, t, out),
-        Next::More => fed(r, buf, out),
-        Next::Stop => stopped(r, t.place),
+    let many = shorter(end - at, left);
+    Window {
+        at,
+        end: at + many,
+        last: w.last | (left <= many as u64),
     }
 }
 
-// A log to its end.
-fn run_log(r: Run, buf: &mut [u8], room: &mut [u8], out: &mut [u8]) -> Run {
-    let mut run = r;
+// A log from its start: the header is printed.
+fn started(l: Log, out: &mut [u8]) -> Log {
+    let window = l.flow.window;
+    let flow = Flow {
+        window,
+        waits: put_header(out, l.flow.waits),
+        goes: l.flow.goes,
+    };
+    Log {
+        flow,
+        clock: l.clock,
+        left: l.left,
+        goes: l.goes,
+    }
+}
+
+// The log behind a turn that took `count` bytes and put output up to `place`.
+fn advanced(l: Log, count: usize, place: usize, goes: bool, out: &[u8]) -> Log {
+    let at = std::num::wrapping_add_usize(l.flow.window.at, count);
+    let flow = passed(l.flow, at, place, out);
+    Log {
+        flow,
+        clock: l.clock,
+        left: less(l.left, count),
+        goes: goes & flow.goes,
+    }
+}
+
+// The log with more input.
+fn supplied(l: Log, buf: &mut [u8], out: &[u8]) -> Log {
+    let flow = fed(l.flow, buf, out);
+    Log {
+        flow,
+        clock: l.clock,
+        left: l.left,
+        goes: flow.goes,
+    }
+}
+
+// The log behind a turn, by how it goes on.
+fn behind(l: Log, next: Next, count: usize, place: usize, buf: &mut [u8], out: &[u8]) -> Log {
+    match next {
+        Next::Again => advanced(l, count, place, true, out),
+        Next::More => supplied(l, buf, out),
+        Next::Stop => advanced(l, count, place, false, out),
+    }
+}
+
+// One turn of the session, on the bytes of the log that stand in the window.
+fn run_turn(l: Log, s: Session, buf: &[u8], room: &mut [u8], out: &mut [u8]) -> Turned {
+    let p = part(l.flow.window, l.left, buf.len());
+    let at = p.at;
+    let end = p.end;
+    turn(s, &buf[at..end], p.last, room, out, l.flow.waits)
+}
+
+// A log to its end. The log and its session are two variables: of a struct of both each turn would copy every field.
+fn run_log(l: Log, buf: &mut [u8], out: &mut [u8]) -> Log {
+    let mut room = [0u8; 124];
+    let mut log = started(l, out);
+    let state = supervisor::empty(l.clock);
+    let mut s = Session { state, step: 1 };
     let mut turns = u64::MAX;
-    while turns > 0 && run.goes {
-        run = run_turn(run, buf, room, out);
+    while turns > 0 && log.goes {
+        let t = run_turn(log, s, buf, &mut room, out);
+        let next = t.next;
+        s = t.session;
+        log = behind(log, next, t.count, t.place, buf, out);
         turns -= 1;
     }
-    run
+    log
 }
 
 // The log that standard input is, from an empty supervisor with this clock.
-pub fn run_input(clock: u32, buf: &mut [u8], room: &mut [u8], out: &mut [u8]) {
-    let window = unread();
-    let r = started(clock, ENDLESS, window, out, 0);
-    let done = run_log(r, buf, room, out);
-    flushed(out, done.waits);
+pub fn run_input(clock: u32) {
+    let mut buf = io::large_buffer();
+    let mut out = io::large_buffer();
+    let flow = begun();
+    let l = Log {
+        flow,
+        clock,
+        left: ENDLESS,
+        goes: true,
+    };
+    let done = run_log(l, &mut buf, &mut out);
+    flushed(&out, done.flow.waits);
 }
 
 // What is skipped of a log: the window on the input, the bytes that the log still has, and whether more of them may come.
@@ -156,97 +151,97 @@ pub struct Rest {
     pub goes: bool,
 }
 
-// Skips what stands in the window, and reads on where that is not all.
-fn skip_turn(s: Rest, buf: &mut [u8]) -> Rest {
-    let w = s.window;
-    let end = least(w.end, buf.len());
-    let at = least(w.at, end);
-    let n = shorter(end - at, s.left);
-    let left = less(s.left, n);
-    let behind = Window {
-        at: at + n,
-        end,
+// Behind what stands of a log in the window on a buffer of n bytes.
+fn dropped(w: Window, left: u64, n: usize) -> Rest {
+    let p = part(w, left, n);
+    let window = Window {
+        at: p.end,
+        end: w.end,
         last: w.last,
     };
-    if left == 0 {
-        return Rest {
-            window: behind,
-            left,
-            goes: false,
-        };
-    }
-    let window = refilled(behind, buf);
     Rest {
         window,
-        left,
-        goes: !window.last,
+        left: less(left, p.end - p.at),
+        goes: !p.last,
     }
 }
 
 // The window behind the rest of a log.
 fn skipped(w: Window, left: u64, buf: &mut [u8]) -> Window {
-    let mut s = Rest {
-        window: w,
-        left,
-        goes: true,
-    };
+    let mut s = dropped(w, left, buf.len());
     let mut turns = u64::MAX;
     while turns > 0 && s.goes {
-        s = skip_turn(s, buf);
+        let more = refilled(s.window, buf);
+        s = dropped(more, s.left, buf.len());
         turns -= 1;
     }
     s.window
 }
 
-// Logs one behind the other: the window on the input, how much output waits, and whether there may be another log.
-pub struct Logs {
-    pub window: Window,
-    pub waits: usize,
-    pub goes: bool,
+// The number in four bytes from a place on, 0 where there are fewer.
+fn number_at(b: &[u8], at: usize) -> u32 {
+    if b.len() < 4 {
+        return 0;
+    }
+    if b.len() - 4 < at {
+        return 0;
+    }
+    word(b[at], b[at + 1], b[at + 2], b[at + 3])
 }
 
-// The next log: a clock and a number of bytes, four bytes each, and the log's bytes.
-fn run_next(l: Logs, buf: &mut [u8], room: &mut [u8], out: &mut [u8]) -> Logs {
-    let w = headed(l.window, buf);
-    let end = least(w.end, buf.len());
-    let at = least(w.at, end);
-    if end - at < 8 {
-        return Logs {
-            window: w,
-            waits: l.waits,
-            goes: false,
-        };
-    }
-    let clock = word(buf[at], buf[at + 1], buf[at + 2], buf[at + 3]);
-    let left = word(buf[at + 4], buf[at + 5], buf[at + 6], buf[at + 7]);
-    let behind = Window {
-        at: at + 8,
-        end,
+// The log whose head, a clock and a number of bytes, four bytes each, stands next in the window. Without a whole head there is none.
+fn next_in(f: Flow, buf: &[u8]) -> Log {
+    let w = f.window;
+    let p = part(w, 8, buf.len());
+    let at = p.at;
+    let end = p.end;
+    let head = &buf[at..end];
+    let window = Window {
+        at: end,
+        end: w.end,
         last: w.last,
     };
-    let r = started(clock, left as u64, behind, out, l.waits);
-    let done = run_log(r, buf, room, out);
-    let rest = done.window;
-    let window = skipped(rest, done.left, buf);
-    Logs {
+    let flow = Flow {
         window,
-        waits: done.waits,
-        goes: done.writes,
+        waits: f.waits,
+        goes: f.goes,
+    };
+    Log {
+        flow,
+        clock: number_at(head, 0),
+        left: number_at(head, 4) as u64,
+        goes: f.goes & (end - at == 8),
     }
+}
+
+// The next log behind this window, with this much output waiting.
+fn next_log(w: Window, f: Flow, buf: &mut [u8]) -> Log {
+    let window = headed(w, buf);
+    let flow = Flow {
+        window,
+        waits: f.waits,
+        goes: f.goes,
+    };
+    next_in(flow, buf)
+}
+
+// Runs a log, and gives the next one. The rest of a log that stopped is skipped.
+fn run_next(l: Log, buf: &mut [u8], out: &mut [u8]) -> Log {
+    let done = run_log(l, buf, out);
+    let window = skipped(done.flow.window, done.left, buf);
+    next_log(window, done.flow, buf)
 }
 
 // All logs of standard input, each from an empty supervisor with its own clock.
-pub fn run_logs(buf: &mut [u8], room: &mut [u8], out: &mut [u8]) {
-    let window = unread();
-    let mut l = Logs {
-        window,
-        waits: 0,
-        goes: true,
-    };
+pub fn run_logs() {
+    let mut buf = io::large_buffer();
+    let mut out = io::large_buffer();
+    let f = begun();
+    let mut l = next_log(f.window, f, &mut buf);
     let mut turns = u64::MAX;
     while turns > 0 && l.goes {
-        l = run_next(l, buf, room, out);
+        l = run_next(l, &mut buf, &mut out);
         turns -= 1;
     }
-    flushed(out, l.waits);
+    flushed(&out, l.flow.waits);
 }

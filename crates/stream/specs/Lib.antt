@@ -1,2 +1,2 @@
--- The window on the input.
+-- The window on the input, and the flow of input and output.
 pub mod Windows

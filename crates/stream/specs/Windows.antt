@@ -1,15 +1,20 @@
--- The window on the input.
+-- The window on the input, and the flow of input and output.
 -- Assumes nothing.
 use Prim.Native.Nat.{ℕ, _-_, min}
 use mathlib.Core.Path.{_≡_}
-use mathlib.Core.Bool.{false}
+use mathlib.Core.Bool.{true, false}
 use mathlib.Core.List.{List, _++_}
 use lib.ListN.{length, take, drop}
+use Rattle.stream.specs.declared.flow.Flow.{Flow}
 use Rattle.stream.specs.declared.window.Window.{Window}
 
 -- nothing has been read yet
 abbrev pub noWindow : Window
 noWindow = record { at = 0; end = 0; last = false }
+
+-- nothing has been read, and nothing waits to be written
+abbrev pub noFlow : Flow
+noFlow = record { window = noWindow; waits = 0; goes = true }
 
 -- the bytes from at to end, moved to the front; those behind them stay
 abbrev pub shifted : List ℕ → ℕ → ℕ → List ℕ

@@ -1,14 +1,15 @@
 use Prim.Native.Nat.{_-_}
+use mathlib.Core.Path.{_≡_}
 use lib.ListN.{length}
 use borrow.Author.Needs.{needs}
 use Rattle.allot.proofs.consumed.Statement.{statement}
 use Rattle.allot.proofs.consumed.Tie as tie
 
 abbrev Inv-loop : tie.InvT-loop
-Inv-loop part r₀ i₀ r i = Unit {0}
+Inv-loop part out₀ r₀ i₀ out r i = length out ≡ length out₀
 
 abbrev μ-loop : tie.MeasureT-loop
-μ-loop part r₀ i₀ r i = length part - i
+μ-loop part out₀ r₀ i₀ out r i = length part - i
 
 pub consumed-spec : {M : Type 1} → statement M
 consumed-spec =
@@ -16,10 +17,13 @@ consumed-spec =
     (tie.spec
     Inv-loop
     μ-loop
-    (λ c. tt)
+    (λ c. search needs)
     (λ c. search needs)
     (λ c κs. search needs)
     (λ c. search needs)
     (λ c. search needs)
-    (λ c. tt)
+    (λ c. search needs)
+    (λ c. search needs)
+    (λ c. search needs)
+    (λ c. search needs)
     (λ c. search needs))

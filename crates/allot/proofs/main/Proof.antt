@@ -5,10 +5,10 @@ use Rattle.allot.proofs.main.Statement.{statement}
 use Rattle.allot.proofs.main.Tie as tie
 
 abbrev Inv-loop : tie.InvT-loop
-Inv-loop s₀ reads₀ buf₀ s reads buf = length buf ≡ 4096
+Inv-loop buf₀ out₀ s₀ turns₀ buf out s turns = (length buf ≡ 65536) × (length out ≡ 65536)
 
 abbrev μ-loop : tie.MeasureT-loop
-μ-loop s₀ reads₀ buf₀ s reads buf = reads
+μ-loop buf₀ out₀ s₀ turns₀ buf out s turns = turns
 
 pub main-spec : {M : Type 1} → statement M
 main-spec =
@@ -17,15 +17,13 @@ main-spec =
     Inv-loop
     μ-loop
     (λ c κs. search needs)
-    (λ c. search needs)
-    (λ c. search needs)
     (λ c κs. search needs)
-    (λ c. search needs)
     (λ c κs. search needs)
     (λ c. search needs)
     (λ c. search needs)
     (λ c. search needs)
     (λ c κs. search needs)
+    (λ c. search needs)
     (λ c. search needs)
     (λ c. search needs)
     (λ c. search needs)

@@ -5,10 +5,10 @@ use Rattle.logs.proofs.run_log.Statement.{statement}
 use Rattle.logs.proofs.run_log.Tie as tie
 
 abbrev Inv-loop : tie.InvT-loop
-Inv-loop buf₀ room₀ out₀ run₀ turns₀ buf room out run turns = (length buf ≡ length buf₀) × (length room ≡ length room₀) × (length out ≡ length out₀)
+Inv-loop buf₀ out₀ room₀ log₀ s₀ turns₀ buf out room log s turns = (length buf ≡ length buf₀) × (length out ≡ length out₀) × (length room ≡ 124)
 
 abbrev μ-loop : tie.MeasureT-loop
-μ-loop buf₀ room₀ out₀ run₀ turns₀ buf room out run turns = turns
+μ-loop buf₀ out₀ room₀ log₀ s₀ turns₀ buf out room log s turns = turns
 
 pub run-log-spec : {M : Type 1} → statement M
 run-log-spec =
@@ -16,10 +16,12 @@ run-log-spec =
     (tie.spec
     Inv-loop
     μ-loop
-    (λ c. search needs)
+    (λ c κs. search needs)
     (λ c κs. search needs)
     (λ c. search needs)
     (λ c. search needs)
+    (λ c κs. search needs)
+    (λ c κs. search needs)
     (λ c. search needs)
     (λ c. search needs)
     (λ c. search needs)

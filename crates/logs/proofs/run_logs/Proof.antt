@@ -5,10 +5,10 @@ use Rattle.logs.proofs.run_logs.Statement.{statement}
 use Rattle.logs.proofs.run_logs.Tie as tie
 
 abbrev Inv-loop : tie.InvT-loop
-Inv-loop buf₀ room₀ out₀ l₀ turns₀ buf room out l turns = (length buf ≡ length buf₀) × (length room ≡ length room₀) × (length out ≡ length out₀)
+Inv-loop buf₀ out₀ l₀ turns₀ buf out l turns = (length buf ≡ 65536) × (length out ≡ 65536)
 
 abbrev μ-loop : tie.MeasureT-loop
-μ-loop buf₀ room₀ out₀ l₀ turns₀ buf room out l turns = turns
+μ-loop buf₀ out₀ l₀ turns₀ buf out l turns = turns
 
 pub run-logs-spec : {M : Type 1} → statement M
 run-logs-spec =
@@ -17,6 +17,8 @@ run-logs-spec =
     Inv-loop
     μ-loop
     (λ c κs. search needs)
+    (λ c κs. search needs)
+    (λ c κs. search needs)
     (λ c. search needs)
     (λ c κs. search needs)
     (λ c. search needs)
@@ -26,4 +28,6 @@ run-logs-spec =
     (λ c. search needs)
     (λ c. search needs)
     (λ c. search needs)
+    (λ c. search needs)
+    (λ c κs. search needs)
     (λ c. search needs))

@@ -1,2 +1,0 @@
--- Runs of logs.
-pub mod Runs
