@@ -1,6 +1,6 @@
 -- A supervisor's 439 bytes: clock 4, created 1, 31 tasks of 10, four lines of 31. Numbers have their high byte first.
 use Prim.Native.Nat.{ℕ, zero, suc, _+_}
-use mathlib.Core.Bool.{Bool, true, false, _&&_, _||_}
+use mathlib.Core.Bool.{Bool, true, _&&_, _||_}
 use mathlib.Core.List.{List, [], _∷_, _++_}
 use lib.ListN.{length, take, drop}
 use lib.Dec.{eqb, ltb, leb}
@@ -9,9 +9,6 @@ use Rattle.calls.specs.Duration.{bytesOf}
 use Rattle.calls.specs.Record.{byte, fourFrom}
 use Rattle.rules.specs.State.{empty}
 use Rattle.rules.specs.Whole.{pack}
-use Rattle.rules.specs.declared.Waiting.{Waiting}
-use Rattle.rules.specs.declared.Meeting.{Meeting}
-use Rattle.rules.specs.declared.Offer.{Offer}
 use Rattle.rules.specs.declared.Task.{Task}
 use Rattle.rules.specs.declared.Timer.{Timer}
 use Rattle.rules.specs.declared.Timer.the-variants.{Off, Due}

@@ -36,16 +36,16 @@ entries (suc n) digit mark set =
 unfoldable pub openText : ℕ → List ℕ
 openText set = cond (eqb set 0) (32 ∷ 110 ∷ 111 ∷ 110 ∷ 101 ∷ []) (entries 8 49 32 set)
 
--- how a call waits, by its mode's number: 0 nothing, 1 a word and a duration, 2 another word
+-- how a call waits, by the number of its mode: 0 nothing, 1 one word and the duration, 2 the other word
 unfoldable pub modeText : List ℕ → List ℕ → ℕ → ℤ → List ℕ
 modeText timed other mode d = cond (eqb mode 0) [] (cond (eqb mode 1) (timed ++ spacedTime d) other)
 
--- " timed" or " conditional", for the mode of a CALL
+-- how a CALL waits: nothing, " timed" and a duration, or " conditional"
 unfoldable pub callModeText : CallMode → List ℕ
 callModeText m =
     modeText (32 ∷ 116 ∷ 105 ∷ 109 ∷ 101 ∷ 100 ∷ []) (32 ∷ 99 ∷ 111 ∷ 110 ∷ 100 ∷ 105 ∷ 116 ∷ 105 ∷ 111 ∷ 110 ∷ 97 ∷ 108 ∷ []) (callMode m) (callTime m)
 
--- " delay" or " else", for the mode of a SELECT
+-- how a SELECT waits: nothing, " delay" and a duration, or " else"
 unfoldable pub selectModeText : SelectMode → List ℕ
 selectModeText m = modeText (32 ∷ 100 ∷ 101 ∷ 108 ∷ 97 ∷ 121 ∷ []) (32 ∷ 101 ∷ 108 ∷ 115 ∷ 101 ∷ []) (selectMode m) (selectTime m)
 

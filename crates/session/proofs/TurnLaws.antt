@@ -1,9 +1,9 @@
 -- From what the parts of a turn promise to what the turn promises.
 -- Assumes nothing.
-use Prim.Native.Nat.{ℕ, _+_}
+use Prim.Native.Nat.{ℕ}
 use mathlib.Core.Path.{_≡_, refl, sym, ap, subst, _∙_}
 use mathlib.Core.Bool.{Bool, true, false, not, _&&_}
-use mathlib.Core.List.{List, [], _∷_, _++_}
+use mathlib.Core.List.{List, [], _∷_}
 use lib.ListN.{length}
 use types.Run.{OneOf, miss}
 use denote.Enum.Declared.{tagOf}
@@ -15,7 +15,7 @@ use Rattle.calls.proofs.Read.{the-type}
 use Rattle.calls.specs.Reading.{readOf, refusalOf}
 use Rattle.lists.proofs.ListLaws.{by-bool}
 use Rattle.rules.specs.Step.{roomAfter}
-use Rattle.rules.specs.Whole.{Whole, stepWhole, steppedOf}
+use Rattle.rules.specs.Whole.{stepWhole, steppedOf}
 use Rattle.rules.specs.declared.Stepped.{Stepped}
 use Rattle.report.specs.Lines.{lineText}
 use Rattle.text.specs.Text.{Put, putAt}

@@ -1,6 +1,5 @@
 // One turn: the record at the start of the input is read, its call taken, and its line printed.
 ghost use mathlib.Core.Path.{_≡_};
-ghost use lib.ListN.{length};
 ghost use Rattle.calls.specs.Reading.{refusalOf};
 ghost use Rattle.text.specs.Text.{putAt};
 ghost use Rattle.session.specs.Turn.{turnOf, turnedOf, took, leaves};
