@@ -101,6 +101,24 @@ fn tell_high(t: Told, out: &mut [u8]) -> Told {
     tell_questions(b, out)
 }
 
+// The same with another number of tasks in the state.
+fn numbered(t: Told, created: u8) -> Told {
+    let mut state = t.state;
+    state.created = created;
+    Told {
+        state,
+        place: t.place,
+    }
+}
+
+// A damaged state, whose number of tasks is wrong, is refused and given back, by the step and by the questions.
+fn tell_damaged(t: Told, out: &mut [u8]) -> Told {
+    let damaged = numbered(t, 255);
+    let a = tell(b"TICK, damaged: ", damaged, Call::Tick, out);
+    let b = tell_questions(a, out);
+    numbered(b, 2)
+}
+
 // A call of task 255, which was never created, and a tick: the clock goes round, and the call of task 2 expires.
 fn tell_sound(t: Told, out: &mut [u8]) -> Told {
     let call = Call::Call {
@@ -113,25 +131,13 @@ fn tell_sound(t: Told, out: &mut [u8]) -> Told {
     tell_questions(b, out)
 }
 
-// A damaged state, whose number of tasks is wrong, is refused and given back, by the step and by the questions.
-fn tell_damaged(t: Told, out: &mut [u8]) -> Told {
-    let mut state = t.state;
-    state.created = 255;
-    let damaged = Told {
-        state,
-        place: t.place,
-    };
-    let a = tell(b"TICK, damaged: ", damaged, Call::Tick, out);
-    tell_questions(a, out)
-}
-
 // All of it, and the place behind it.
 fn tell_all(out: &mut [u8]) -> usize {
     let low = tell_low(out);
     let high = tell_high(low, out);
-    let sound = tell_sound(high, out);
-    let damaged = tell_damaged(sound, out);
-    damaged.place
+    let mended = tell_damaged(high, out);
+    let sound = tell_sound(mended, out);
+    sound.place
 }
 
 fn main() {
