@@ -1,15 +1,15 @@
 // The writer of call records.
 ghost use mathlib.Core.Path.{_≡_};
 ghost use mathlib.Core.List.{[], _∷_};
-ghost use Rattle.calls.specs.Duration.{bitsOf, bytesOf};
-ghost use Rattle.calls.specs.Record.{callMode, callTime, selectMode, selectTime, encode};
+ghost use Rattle.calls.specs.Duration.{bytesOf};
+ghost use Rattle.calls.specs.Record.{encode};
 ghost use Rattle.calls.specs.Writing.{writtenOf, roomAfter};
 ghost use Rattle.calls.specs.Parts.{packet};
 use super::Call;
-use super::CallMode;
-use super::SelectMode;
 use super::Written;
 use super::durations::duration_bits;
+use super::modes::mode_of_call;
+use super::modes::mode_of_select;
 
 // Puts bytes at the start of room, or nothing where room is too short.
 fn put(bytes: &[u8], room: &mut [u8]) -> Written
@@ -108,38 +108,6 @@ fn select_record(set: u8, m: u8, n: u32) -> Packet
     }
 }
 
-// A mode as it is written: its number, and the bits of its duration.
-struct Mode {
-    number: u8,
-    bits: u32,
-}
-
-fn mode_of_call(mode: CallMode) -> Mode
-    ensures { λ r. ⌜ r ≡ record { number = callMode mode; bits = bitsOf (callTime mode) } ⌝ }
-{
-    match mode {
-        CallMode::Simple => Mode { number: 0, bits: 0 },
-        CallMode::Timed(d) => Mode {
-            number: 1,
-            bits: duration_bits(d),
-        },
-        CallMode::Conditional => Mode { number: 2, bits: 0 },
-    }
-}
-
-fn mode_of_select(mode: SelectMode) -> Mode
-    ensures { λ r. ⌜ r ≡ record { number = selectMode mode; bits = bitsOf (selectTime mode) } ⌝ }
-{
-    match mode {
-        SelectMode::Plain => Mode { number: 0, bits: 0 },
-        SelectMode::Delay(d) => Mode {
-            number: 1,
-            bits: duration_bits(d),
-        },
-        SelectMode::Else => Mode { number: 2, bits: 0 },
-    }
-}
-
 // The record of a call.
 fn record_of(c: Call) -> Packet
     ensures { λ r. ⌜ r ≡ packet (encode c) ⌝ }
@@ -156,11 +124,11 @@ fn record_of(c: Call) -> Packet
             mode,
         } => {
             let m = mode_of_call(mode);
-            call_record(target, entry, m.number, m.bits)
+            call_record(target, entry, m.number, duration_bits(m.time))
         }
         Call::Select { open, mode } => {
             let m = mode_of_select(mode);
-            select_record(open, m.number, m.bits)
+            select_record(open, m.number, duration_bits(m.time))
         }
         Call::End => bare_record(5),
         Call::Finish => bare_record(6),

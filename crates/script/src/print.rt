@@ -3,7 +3,7 @@
 ghost use mathlib.Core.Path.{_≡_};
 ghost use mathlib.Core.Bool.{cond};
 ghost use mathlib.Core.List.{_++_};
-ghost use Rattle.calls.specs.Record.{callMode, callTime, selectMode, selectTime, encode};
+ghost use Rattle.calls.specs.Record.{encode};
 ghost use Rattle.text.specs.Text.{Put};
 ghost use Rattle.script.specs.CallText.{spaced, spacedTime, entry, entries, openText, modeText, textOf};
 ghost use Rattle.script.specs.Rows.{Grown};
@@ -17,15 +17,12 @@ use crate::row::with_number;
 use calls::Call;
 use calls::CallMode;
 use calls::SelectMode;
+use calls::modes::Mode;
+use calls::modes::mode_of_call;
+use calls::modes::mode_of_select;
 use calls::ticks;
 use text::least;
 use text::put_bytes;
-
-// A mode as a record has it: its number, and its duration, or 0 where it has none.
-pub struct Mode {
-    pub number: u8,
-    pub time: i32,
-}
 
 // A blank and a number.
 fn with_spaced(row: Row, n: u64) -> Row
@@ -109,28 +106,6 @@ fn with_open(row: Row, set: u8) -> Row
     with_entries(row, set)
 }
 
-// The mode of a CALL.
-fn call_mode(mode: CallMode) -> Mode
-    ensures { λ r. ⌜ r ≡ record { number = callMode mode; time = callTime mode } ⌝ }
-{
-    match mode {
-        CallMode::Simple => Mode { number: 0, time: 0 },
-        CallMode::Timed(d) => Mode { number: 1, time: d },
-        CallMode::Conditional => Mode { number: 2, time: 0 },
-    }
-}
-
-// The mode of a SELECT.
-fn select_mode(mode: SelectMode) -> Mode
-    ensures { λ r. ⌜ r ≡ record { number = selectMode mode; time = selectTime mode } ⌝ }
-{
-    match mode {
-        SelectMode::Plain => Mode { number: 0, time: 0 },
-        SelectMode::Delay(d) => Mode { number: 1, time: d },
-        SelectMode::Else => Mode { number: 2, time: 0 },
-    }
-}
-
 // How a call waits: nothing, a word and its duration, or another word.
 fn with_mode(row: Row, timed: &[u8], other: &[u8], mode: Mode) -> Row
     ensures { λ r. ⌜ Grown row (modeText (now (timed .entry)) (now (other .entry)) (mode .number) (mode .time)) r ⌝ }
@@ -147,7 +122,7 @@ fn with_entry_call(row: Row, target: u8, entry: u8, mode: CallMode) -> Row
     ensures { λ r. ⌜ Grown row (textOf (Call.Call target entry mode)) r ⌝ }
 {
     let k = with_pair(row, b"CALL", target, entry);
-    with_mode(k, b" timed", b" conditional", call_mode(mode))
+    with_mode(k, b" timed", b" conditional", mode_of_call(mode))
 }
 
 fn with_select(row: Row, set: u8, mode: SelectMode) -> Row
@@ -155,7 +130,7 @@ fn with_select(row: Row, set: u8, mode: SelectMode) -> Row
 {
     let k = with_bytes(row, b"SELECT");
     let l = with_open(k, set);
-    with_mode(l, b" delay", b" else", select_mode(mode))
+    with_mode(l, b" delay", b" else", mode_of_select(mode))
 }
 
 fn with_advance(row: Row, n: u32) -> Row

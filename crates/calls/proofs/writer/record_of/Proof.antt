@@ -17,10 +17,18 @@ returns-2 c =
     rw (k .1) (rw (n .duration-bits .ensures ∙ ap bitsOf e) at (c .number-record .ensures))
 
 returns-3 : tie.Need-returns-3
-returns-3 c = rw (c .before .before .before .c3 .given .1) (rw (c .before .mode-of-call .ensures) at (c .call-record .ensures))
+returns-3 c =
+    let n = c .before in
+    let m = n .before .before in
+    let e : toZ w32 (ofZ w32 (m .mode-of-call .result .time)) ≡ m .mode-of-call .result .time = search needs in
+    rw (m .before .before .c3 .given .1) (rw (n .duration-bits2 .ensures ∙ ap bitsOf e, m .mode-of-call .ensures) at (c .call-record .ensures))
 
 returns-4 : tie.Need-returns-4
-returns-4 c = rw (c .before .before .before .c4 .given .1) (rw (c .before .mode-of-select .ensures) at (c .select-record .ensures))
+returns-4 c =
+    let n = c .before in
+    let m = n .before .before in
+    let e : toZ w32 (ofZ w32 (m .mode-of-select .result .time)) ≡ m .mode-of-select .result .time = search needs in
+    rw (m .before .before .c4 .given .1) (rw (n .duration-bits3 .ensures ∙ ap bitsOf e, m .mode-of-select .ensures) at (c .select-record .ensures))
 
 returns-5 : tie.Need-returns-5
 returns-5 c = rw (c .before .enum-told .given .1) (c .bare-record .ensures)
@@ -45,7 +53,9 @@ record-of-spec =
     (λ c. search needs)
     (λ c κs. search needs)
     (λ c κs. search needs)
+    (λ c κs. search needs)
     (λ c. search needs)
+    (λ c κs. search needs)
     (λ c κs. search needs)
     (λ c κs. search needs)
     (λ c. search needs)

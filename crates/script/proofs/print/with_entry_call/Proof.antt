@@ -14,7 +14,7 @@ returns c =
     let a = k .before .before .args in
     let word : List ℕ = 67 ∷ 65 ∷ 76 ∷ 76 ∷ [] in
     same-grown (append-assoc word (spaced (a .target) ++ spaced (a .entry)) (callModeText (a .mode)) ∙ ap (λ (t : List ℕ). word ++ t) (append-assoc (spaced (a .target)) (spaced (a .entry)) (callModeText (a .mode))))
-    (then-grown (k .with-pair .ensures) (rw (c .before .call-mode .ensures) at (c .with-mode .ensures)))
+    (then-grown (k .with-pair .ensures) (rw (c .before .mode-of-call .ensures) at (c .with-mode .ensures)))
 
 pub with-entry-call-spec : {M : Type 1} → statement M
 with-entry-call-spec =

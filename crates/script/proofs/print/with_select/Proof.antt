@@ -8,7 +8,7 @@ returns : tie.Need-returns
 unfolding selectModeText textOf
 returns c =
     let k = c .before .before .before .before in
-    then-grown (k .before .with-bytes .ensures) (then-grown (k .with-open .ensures) (rw (c .before .select-mode .ensures) at (c .with-mode .ensures)))
+    then-grown (k .before .with-bytes .ensures) (then-grown (k .with-open .ensures) (rw (c .before .mode-of-select .ensures) at (c .with-mode .ensures)))
 
 pub with-select-spec : {M : Type 1} → statement M
 with-select-spec =

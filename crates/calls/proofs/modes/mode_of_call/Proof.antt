@@ -2,8 +2,8 @@ use mir.Val.{toZ, ofZ}
 use mir.Syntax.{w32}
 use mathlib.Core.Path.{_≡_, refl}
 use borrow.Author.Needs.{needs}
-use Rattle.script.proofs.print.call_mode.Statement.{statement}
-use Rattle.script.proofs.print.call_mode.Tie as tie
+use Rattle.calls.proofs.modes.mode_of_call.Statement.{statement}
+use Rattle.calls.proofs.modes.mode_of_call.Tie as tie
 
 returns : tie.Need-returns
 returns c = rw (c .enum-told .given .1) refl
@@ -17,5 +17,5 @@ returns-2 c =
 returns-3 : tie.Need-returns-3
 returns-3 c = rw (c .enum-told2 .given .1) refl
 
-pub call-mode-spec : {M : Type 1} → statement M
-call-mode-spec = tie.close (tie.spec (λ c. search needs) (λ c. search needs) (λ c. search needs) returns returns-2 returns-3)
+pub mode-of-call-spec : {M : Type 1} → statement M
+mode-of-call-spec = tie.close (tie.spec (λ c. search needs) (λ c. search needs) (λ c. search needs) returns returns-2 returns-3)
