@@ -7,6 +7,7 @@ use crate::work::passed;
 use script::Line;
 use script::put_record;
 use script::read_line;
+use stream::flow::Flow;
 use stream::window::unread;
 use text::least;
 
@@ -24,7 +25,7 @@ fn put_line(skips: bool, number: u64, line: &[u8], out: &mut [u8], at: usize) ->
 
 // Behind a whole line; the next one begins at `next`.
 fn taken(w: Work, line: &[u8], next: usize, out: &mut [u8]) -> Work {
-    let place = put_line(w.skips, w.number, line, out, w.waits);
+    let place = put_line(w.skips, w.number, line, out, w.flow.waits);
     passed(w, next, place, out)
 }
 
@@ -34,12 +35,15 @@ fn skipped(w: Work) -> Work {
         errors::too_long(w.number);
     }
     let window = unread();
-    Work {
+    let flow = Flow {
         window,
-        waits: w.waits,
+        waits: w.flow.waits,
+        goes: true,
+    };
+    Work {
+        flow,
         number: w.number,
         skips: true,
-        goes: true,
     }
 }
 
@@ -53,7 +57,7 @@ fn unended(w: Work, many: usize, buf: &mut [u8], out: &[u8]) -> Work {
 
 // One turn, on what stands in the window. The last line may lack its line end.
 pub fn turn(w: Work, buf: &mut [u8], out: &mut [u8]) -> Work {
-    let v = w.window;
+    let v = w.flow.window;
     let end = least(v.end, buf.len());
     let at = least(v.at, end);
     let stop = bytes::scan::find(buf, at, end, b'\n');

@@ -31,11 +31,11 @@ fn turn(is_back: bool, w: Work, buf: &mut [u8], out: &mut [u8]) -> Work {
 fn run(is_back: bool, buf: &mut [u8], out: &mut [u8]) {
     let mut w = begun();
     let mut turns = u64::MAX;
-    while turns > 0 && w.goes {
+    while turns > 0 && w.flow.goes {
         w = turn(is_back, w, buf, out);
         turns -= 1;
     }
-    flushed(out, w.waits);
+    flushed(out, w.flow.waits);
 }
 
 fn main() {
