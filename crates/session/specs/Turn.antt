@@ -32,9 +32,9 @@ pub record Turn : Type 0 where
 abbrev pub nextStep : ℕ → ℕ
 nextStep n = (n + 1) % 18446744073709551616
 
--- the answer to a record that is refused: the refusal, and the dispatched task of the unchanged state
-abbrev pub refusedAnswer : Session → ℕ → Answer
-refusedAnswer s n = record { refusal = n; result = 0; task = 0; entry = 0; partner = 0; ended = 0; next = running (view (s .state)) }
+-- the answer to a record that is refused: the refusal, and the dispatched task
+abbrev pub refusedAnswer : ℕ → ℕ → Answer
+refusedAnswer n next = record { refusal = n; result = 0; task = 0; entry = 0; partner = 0; ended = 0; next = next }
 
 -- a call is taken: its record's bytes are consumed, and its line is printed
 unfoldable pub took : Session → C.Call → ℕ → List ℕ → Turn
@@ -58,7 +58,7 @@ unfoldable pub leaves : Session → ℕ → ℕ → Bool → List ℕ → Turn
 leaves s n many last room =
     cond (not last && ltb many 10) (left s More [] room)
     (cond (eqb n 12) (left s Stop [] room)
-    (left s Stop (lineText (s .step) (refusedAnswer s n) room) room))
+    (left s Stop (lineText (s .step) (refusedAnswer n (running (view (s .state)))) room) room))
 
 -- a turn by what was read
 abbrev pub turnBy : Session → Read → ℕ → Bool → List ℕ → Turn

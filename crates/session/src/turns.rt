@@ -2,7 +2,7 @@
 ghost use mathlib.Core.Path.{_≡_};
 ghost use Rattle.calls.specs.Reading.{refusalOf};
 ghost use Rattle.text.specs.Text.{putAt};
-ghost use Rattle.session.specs.Turn.{turnOf, turnedOf, took, leaves};
+ghost use Rattle.session.specs.Turn.{refusedAnswer, turnOf, turnedOf, took, leaves};
 use calls::Call;
 use calls::Read;
 use report::put_line;
@@ -68,6 +68,21 @@ fn refusal_of(got: Read) -> u8
     }
 }
 
+// The answer to a record that is refused, where `next` is the dispatched task.
+fn refused_answer(n: u8, next: u8) -> Answer
+    ensures { λ r. ⌜ r ≡ refusedAnswer n next ⌝ }
+{
+    Answer {
+        refusal: n,
+        result: 0,
+        task: 0,
+        entry: 0,
+        partner: 0,
+        ended: 0,
+        next,
+    }
+}
+
 // No record: more bytes are asked for, the log is over, or a last line says what is wrong.
 fn refused(
     s: Session,
@@ -98,15 +113,7 @@ fn refused(
         };
     }
     let state = s.state;
-    let answer = Answer {
-        refusal: n,
-        result: 0,
-        task: 0,
-        entry: 0,
-        partner: 0,
-        ended: 0,
-        next: supervisor::running(state),
-    };
+    let answer = refused_answer(n, supervisor::running(state));
     let place = put_line(s.step, answer, room, out, at);
     Turned {
         session: s,
