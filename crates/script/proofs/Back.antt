@@ -18,7 +18,7 @@ use Rattle.calls.specs.declared.SelectMode.the-variants as S
 use Rattle.calls.specs.declared.Call as C
 use Rattle.calls.specs.declared.Call.the-variants.{Create, Delay, Call, Select, End, Finish, Tick, Advance}
 use Rattle.text.specs.Text.{decimal}
-use Rattle.script.specs.CallText.{spaced, spacedTime, entries, openText, modeText, callModeText, selectModeText, textOf}
+use Rattle.script.specs.CallText.{spaced, spacedTime, entries, openText, callModeText, selectModeText, textOf}
 use Rattle.script.specs.Says.{Fits}
 use Rattle.script.specs.Guess.{fresh, grownOf, heardOf, hear, timeOf, guessBy, guessOf}
 use Rattle.script.specs.declared.guess.Word.{Word}
@@ -117,7 +117,7 @@ hear-two n a b rest =
 
 call-mode-back : (t e : ℕ) (m : CallMode) → SFits w32 (callTime m)
     → guessBy (hear (paired 284 t e) (callModeText m)) ≡ Call (numbered t .byte) (numbered e .byte) m
-unfolding callModeText modeText
+unfolding callModeText
 call-mode-back t e Simple f = refl
 call-mode-back t e (Timed d) f =
     ap guessBy (hear-time (record { letters = 815; minus = false; fourth = fresh; third = numbered t; second = numbered e; last = fresh }) d refl)
@@ -126,7 +126,7 @@ call-mode-back t e Conditional f = refl
 
 select-mode-back : (none : Bool) (w : Word) (m : SelectMode) → SFits w32 (selectTime m)
     → guessBy (hear (opened (cond none 880 448) w) (selectModeText m)) ≡ Select (w .set) m
-unfolding selectModeText modeText
+unfolding selectModeText
 select-mode-back true w S.Plain f = refl
 select-mode-back true w (S.Delay d) f =
     ap guessBy (hear-time (record { letters = 1407; minus = false; fourth = fresh; third = fresh; second = w; last = fresh }) d refl)

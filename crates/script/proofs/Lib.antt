@@ -1,5 +1,6 @@
 pub mod Loops
 pub mod Growing
+pub mod Modes
 pub mod Times
 pub mod Typed
 pub mod Digits

@@ -1,7 +1,7 @@
 -- The text of a call is its words with one blank between them, and it is short.
 -- Assumes nothing.
 use Prim.Native.Nat.{ℕ, zero, suc, _^_, _≤_, _<_}
-use mathlib.Core.Path.{_≡_, refl, sym, ap, _∙_}
+use mathlib.Core.Path.{_≡_, refl, sym, ap, subst, _∙_}
 use mathlib.Core.Bool.{true, false}
 use mathlib.Core.List.{List, [], _∷_, _++_, append-nil, append-assoc}
 use native.Mathlib.Omega.{arith}
@@ -22,6 +22,7 @@ use Rattle.script.specs.CallText.{spaced, spacedTime, entries, openText,
 use Rattle.script.specs.Words.{wordsFrom, wordsOf}
 use Rattle.script.specs.Says.{Fits}
 use Rattle.script.proofs.Digits.{AllPlain, decimal-plain, decimal-some, decimal-short}
+use Rattle.script.proofs.Modes.{call-mode-text, select-mode-text}
 use Rattle.script.proofs.Sets.{tail, set-text}
 
 -- ── words ──
@@ -71,12 +72,10 @@ tidy-mode timed other m d p q r = by-bool (eqb m 0)
     (λ e. by-bool (eqb m 1) (λ f. rw (e, f) (tidy-append timed (spacedTime d) p (tidy-time d) r)) (λ f. rw (e, f) (q r)))
 
 tidy-call-mode : (m : CallMode) → Tidy (callModeText m)
-unfolding callModeText
-tidy-call-mode m = tidy-mode _ _ (callMode m) (callTime m) (λ r. refl) (λ r. refl)
+tidy-call-mode m = subst Tidy (call-mode-text m) (tidy-mode _ _ (callMode m) (callTime m) (λ r. refl) (λ r. refl))
 
 tidy-select-mode : (m : SelectMode) → Tidy (selectModeText m)
-unfolding selectModeText
-tidy-select-mode m = tidy-mode _ _ (selectMode m) (selectTime m) (λ r. refl) (λ r. refl)
+tidy-select-mode m = subst Tidy (select-mode-text m) (tidy-mode _ _ (selectMode m) (selectTime m) (λ r. refl) (λ r. refl))
 
 whole : (l : List ℕ) → Tidy l → wordsFrom true l ≡ l
 whole l p = ap (wordsFrom true) (sym (append-nil l)) ∙ p [] ∙ append-nil l
@@ -125,12 +124,10 @@ short-mode timed other m d p q f = by-bool (eqb m 0)
     (λ g. rw (e, g) (omega arith)))
 
 short-call-mode : (m : CallMode) → SFits w32 (callTime m) → length (callModeText m) ≤ 19
-unfolding callModeText
-short-call-mode m f = short-mode _ _ (callMode m) (callTime m) (omega arith) (omega arith) f
+short-call-mode m f = subst (λ (t : List ℕ). length t ≤ 19) (call-mode-text m) (short-mode _ _ (callMode m) (callTime m) (omega arith) (omega arith) f)
 
 short-select-mode : (m : SelectMode) → SFits w32 (selectTime m) → length (selectModeText m) ≤ 19
-unfolding selectModeText
-short-select-mode m f = short-mode _ _ (selectMode m) (selectTime m) (omega arith) (omega arith) f
+short-select-mode m f = subst (λ (t : List ℕ). length t ≤ 19) (select-mode-text m) (short-mode _ _ (selectMode m) (selectTime m) (omega arith) (omega arith) f)
 
 pub text-short : (c : C.Call) → Fits c → length (textOf c) ≤ 62
 unfolding textOf

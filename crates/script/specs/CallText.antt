@@ -5,9 +5,11 @@ use mathlib.Core.Bool.{Bool, cond}
 use mathlib.Core.List.{List, [], _∷_, _++_}
 use lib.Dec.{eqb}
 use lib.IntN.{ℤ, pos, negsuc}
-use Rattle.calls.specs.Record.{callMode, callTime, selectMode, selectTime}
 use Rattle.calls.specs.declared.CallMode.{CallMode}
+use Rattle.calls.specs.declared.CallMode.the-variants.{Simple, Timed, Conditional}
 use Rattle.calls.specs.declared.SelectMode.{SelectMode}
+use Rattle.calls.specs.declared.SelectMode.the-variants as S
+use Rattle.calls.specs.declared.SelectMode.the-variants.{Plain, Else}
 use Rattle.calls.specs.declared.Call as C
 use Rattle.calls.specs.declared.Call.the-variants.{Create, Delay, Call, Select, End, Finish, Tick, Advance}
 use Rattle.text.specs.Text.{decimal}
@@ -36,18 +38,17 @@ entries (suc n) digit mark set =
 unfoldable pub openText : ℕ → List ℕ
 openText set = cond (eqb set 0) (32 ∷ 110 ∷ 111 ∷ 110 ∷ 101 ∷ []) (entries 8 49 32 set)
 
--- how a call waits, by the number of its mode: 0 nothing, 1 one word and the duration, 2 the other word
-unfoldable pub modeText : List ℕ → List ℕ → ℕ → ℤ → List ℕ
-modeText timed other mode d = cond (eqb mode 0) [] (cond (eqb mode 1) (timed ++ spacedTime d) other)
-
 -- how a CALL waits: nothing, " timed" and a duration, or " conditional"
 unfoldable pub callModeText : CallMode → List ℕ
-callModeText m =
-    modeText (32 ∷ 116 ∷ 105 ∷ 109 ∷ 101 ∷ 100 ∷ []) (32 ∷ 99 ∷ 111 ∷ 110 ∷ 100 ∷ 105 ∷ 116 ∷ 105 ∷ 111 ∷ 110 ∷ 97 ∷ 108 ∷ []) (callMode m) (callTime m)
+callModeText Simple = []
+callModeText (Timed d) = (32 ∷ 116 ∷ 105 ∷ 109 ∷ 101 ∷ 100 ∷ []) ++ spacedTime d
+callModeText Conditional = 32 ∷ 99 ∷ 111 ∷ 110 ∷ 100 ∷ 105 ∷ 116 ∷ 105 ∷ 111 ∷ 110 ∷ 97 ∷ 108 ∷ []
 
 -- how a SELECT waits: nothing, " delay" and a duration, or " else"
 unfoldable pub selectModeText : SelectMode → List ℕ
-selectModeText m = modeText (32 ∷ 100 ∷ 101 ∷ 108 ∷ 97 ∷ 121 ∷ []) (32 ∷ 101 ∷ 108 ∷ 115 ∷ 101 ∷ []) (selectMode m) (selectTime m)
+selectModeText Plain = []
+selectModeText (S.Delay d) = (32 ∷ 100 ∷ 101 ∷ 108 ∷ 97 ∷ 121 ∷ []) ++ spacedTime d
+selectModeText Else = 32 ∷ 101 ∷ 108 ∷ 115 ∷ 101 ∷ []
 
 -- the text of each call: "CREATE 5 1", "DELAY 3", "CALL 1 1 timed 3", "SELECT 1,3 else", "END", "FINISH", "TICK", "ADVANCE 1000"
 unfoldable pub textOf : C.Call → List ℕ
@@ -59,3 +60,7 @@ textOf End = 69 ∷ 78 ∷ 68 ∷ []
 textOf Finish = 70 ∷ 73 ∷ 78 ∷ 73 ∷ 83 ∷ 72 ∷ []
 textOf Tick = 84 ∷ 73 ∷ 67 ∷ 75 ∷ []
 textOf (Advance n) = (65 ∷ 68 ∷ 86 ∷ 65 ∷ 78 ∷ 67 ∷ 69 ∷ []) ++ spaced n
+
+-- what `with_mode` writes, by the number of a mode: 0 nothing, 1 a word and the duration, 2 another word
+unfoldable pub modeText : List ℕ → List ℕ → ℕ → ℤ → List ℕ
+modeText timed other mode d = cond (eqb mode 0) [] (cond (eqb mode 1) (timed ++ spacedTime d) other)

@@ -16,6 +16,10 @@ noWindow = record { at = 0; end = 0; last = false }
 abbrev pub noFlow : Flow
 noFlow = record { window = noWindow; waits = 0; goes = true }
 
+-- what is taken of the input ends at `at`
+abbrev pub movedTo : Window → ℕ → Window
+movedTo w at = record { at = at; end = w .end; last = w .last }
+
 -- the bytes from at to end, moved to the front; those behind them stay
 abbrev pub shifted : List ℕ → ℕ → ℕ → List ℕ
 shifted b at end = take (end - at) (drop at b) ++ drop (end - at) b

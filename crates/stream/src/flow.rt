@@ -1,6 +1,6 @@
 // Input on its way to output: what a program keeps of both from turn to turn.
 ghost use mathlib.Core.Path.{_≡_};
-ghost use Rattle.stream.specs.Windows.{noFlow, Grown};
+ghost use Rattle.stream.specs.Windows.{noFlow, movedTo, Grown};
 use crate::output::drained;
 use crate::output::flushed;
 use crate::window::Window;
@@ -27,7 +27,9 @@ pub fn begun() -> Flow
 }
 
 // Behind what was taken of the input up to `at`, with output up to `place`. It goes on where that can be written.
-pub fn passed(f: Flow, at: usize, place: usize, out: &[u8]) -> Flow {
+pub fn passed(f: Flow, at: usize, place: usize, out: &[u8]) -> Flow
+    ensures { λ r. ⌜ r .window ≡ movedTo (f .window) at ⌝ }
+{
     let w = f.window;
     let o = drained(out, place);
     let window = Window {
