@@ -44,7 +44,8 @@ class Kit:
     def __init__(self):
         self.root = Path(run("rt", "doc").strip()).resolve().parent.parent
         self.machine = self.root / "on" / platform.machine()
-        self.clang = self.machine / "toolchain" / "bin" / "clang"
+        self.tools = self.machine / "toolchain"
+        self.clang = self.tools / "bin" / "clang"
 
     def watched(self, work):
         """The kit's tools, with a compiler that keeps the module and the words of the optimised build."""
@@ -64,12 +65,12 @@ exec "{self.clang}" "$@"
         wrapper.chmod(0o755)
         return tools
 
-    def module(self, main, crates, work):
-        """Keeps the module of the program in the file `main`, which uses the crates, in the folder `work`."""
+    def module(self, main, crates, work, crate="main"):
+        """Keeps the module of the program in the file `main`, which is the crate of that name and uses the crates, in the folder `work`."""
         found = ["std"]
         for name in crates:
             lower(name, rests_on(Path("crates.txt")), rests_on(self.root / "libs" / "libs.txt"), found)
-        words = [self.machine / "bin" / "rattle-cases", "--toolchain", self.watched(work), main, "--crate-name", "main"]
+        words = [self.machine / "bin" / "rattle-cases", "--toolchain", self.watched(work), main, "--crate-name", crate]
         for name in found:
             ours = Path("crates") / name
             words += ["--lib", f"{name}={(ours if ours.exists() else self.root / 'libs' / name) / 'src' / 'lib.rt'}"]
@@ -77,26 +78,34 @@ exec "{self.clang}" "$@"
         if not (work / "words").exists():
             stop(f"{main} was not compiled\n{said.stdout}{said.stderr}")
 
+    def words(self, work):
+        """The words with which the compiler is called."""
+        return (work / "words").read_text().split()
+
+    def text(self, work):
+        """The module that is kept, as text."""
+        target = [word for word in self.words(work) if word.startswith("--target=")]
+        as_text = ["-S", "-emit-llvm", "-O0", "-Xclang", "-disable-llvm-passes"]
+        run(self.clang, "--no-default-config", *target, *as_text, "-x", "ir", work / "module.bc", "-o", work / "module.ll")
+        return (work / "module.ll").read_text()
+
     def compiled(self, work, functions, out, form="-c", native=False):
         """Compiles the module that is kept as the kit does, but so that the functions can be called from outside.
 
         Its `main` is called `program`, which makes room for another. The form is -c for an object, -S for text. The code is for x86-64, as
         all that the kit builds; native, it is for the processor that this runs on.
         """
-        words = (work / "words").read_text().split()
-        target = [word for word in words if word.startswith("--target=")]
-        text = work / "module.ll"
-        as_text = ["-S", "-emit-llvm", "-O0", "-Xclang", "-disable-llvm-passes"]
-        run(self.clang, "--no-default-config", *target, *as_text, "-x", "ir", work / "module.bc", "-o", text)
-        ir = text.read_text().replace("@main(", "@program(")
+        words = self.words(work)
+        ir = self.text(work).replace("@main(", "@program(")
         for name in functions:
             ir, times = re.subn(rf'^define internal (.*@"{re.escape(name)}"\()', r"define \1", ir, flags=re.M)
             if not times:
                 stop(f"the program has no function {name}")
         if native and platform.machine() != "x86_64":
             ir = ir.replace('"target-cpu"="x86-64"', "")
-            words = [word for word in words if word not in (*target, "-march=x86-64")]
+            words = [word for word in words if not word.startswith(("--target=", "-march="))]
             words += [f"--target={platform.machine()}-unknown-linux-gnu", "-Wno-override-module"]
+        text = work / "module.ll"
         text.write_text(ir)
         ours = {"module.bc": text, "module.o": out, "-c": form}
         run(self.clang, *(ours.get(word, word) for word in words))
