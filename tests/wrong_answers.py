@@ -1,11 +1,13 @@
 """wrong_answers.py texts | table [--write] DOC | logs [CRATE..]: the wrong answers of crates/*/must-fail/*.edit.
 
-An edit replaces one or more texts of its crate, each by a wrong one; the comment above each names the wrong answer.
+An edit replaces one or more texts of its crate, each by a wrong one; the comment above each names the wrong answer, and above a definition a
+line `law: FILE NAME` names the theorem that refuses it.
   texts   each replaced text stands once in its file, in the body of a function or in a definition, and has its comment; an edit changes a
-          function once; and every public function whose contract determines its answer has two wrong answers of its own
+          function once, and no law refuses two of its definitions; and every public function whose contract determines its answer has two
+          wrong answers of its own
   table   the table of DOC between its two marks lists them all (--write puts it there)
   logs    in what the prover said of the edits (of the named crates), each changed function was refused by itself, at a fact, and each
-          changed definition by a theorem about it
+          changed definition by its law, at a fact
 """
 import re
 import sys
@@ -14,7 +16,7 @@ from pathlib import Path
 
 from unique_names import public_functions, without_answer
 
-Wrong = namedtuple("Wrong", "edit crate file says old where")
+Wrong = namedtuple("Wrong", "edit crate file says old where law")
 BEGIN, END = "<!-- wrong answers: made by tests/wrong_answers.py -->", "<!-- end of the wrong answers -->"
 FUNCTION = re.compile(r'^\s*(?:#\[no_mangle\] )?(?:pub(?:\(crate\))? )?(?:extern "C" )?fn (\w+)')
 CLAUSE = re.compile(r"^\s*(?:requires|ensures|ghost)\b")
@@ -48,10 +50,12 @@ def function_of(file, text, at):
 
 def replacements(edit):
     """The wrong answers of an edit, and what is amiss with it."""
-    crate, file, says, texts, found, amiss = edit.parts[1], None, None, {}, [], []
+    crate, file, says, law, texts, found, amiss = edit.parts[1], None, None, None, {}, [], []
     for line in edit.read_text().splitlines():
         if line.startswith("#"):
             says = line[1:].strip()
+        elif line.startswith("law: "):
+            law = tuple(line.split()[1:])
         elif line.startswith("file: "):
             file = line[6:]
             texts.setdefault(file, (Path("crates") / crate / file).read_text())
@@ -60,16 +64,18 @@ def replacements(edit):
             if text.count(old) != 1:
                 amiss.append(f"{edit}: its text stands {text.count(old)} times in {file}: {old.strip()}")
             where = function_of(file, text, text.find(old)) if file.startswith("src/") else file
-            found.append(Wrong(edit, crate, file, says, old, where))
+            found.append(Wrong(edit, crate, file, says, old, where, law))
             if not says:
                 amiss.append(f"{edit}: no comment above: {old.strip()}")
             if not where:
                 amiss.append(f"{edit}: in no function's body: {old.strip()}")
-            says = None
+            if (law is None) != file.startswith("src/"):
+                amiss.append(f"{edit}: a law is named for a definition, and for nothing else: {old.strip()}")
+            says = law = None
         elif line.startswith("new:"):
             texts[file] = texts[file].replace(old, line[4:].removeprefix(" "), 1)
-    places = [w.where for w in found if w.file.startswith("src/")]
-    amiss += [f"{edit}: changes {place} twice" for place in sorted(set(places)) if places.count(place) > 1]
+    places = [w.where if w.law is None else " ".join(w.law) for w in found]
+    amiss += [f"{edit}: {place} stands for two wrong answers" for place in sorted(set(places)) if places.count(place) > 1]
     return found, amiss
 
 
@@ -111,7 +117,8 @@ def rows():
         own = [w for w in found if (w.crate, w.where) == (crate, where)]
         name = f"{crate}/{where}" if "/" in where else f"{crate}::{where}"
         edits = " ".join(dict.fromkeys(f"`{crate}/must-fail/{w.edit.name}`" for w in own))
-        yield f"| `{name}` | {'; '.join(w.says for w in own)} | {edits} |"
+        says = (w.says + (f" (`{w.law[1]}`)" if w.law else "") for w in own)
+        yield f"| `{name}` | {'; '.join(says)} | {edits} |"
 
 
 def table(words):
@@ -130,14 +137,15 @@ def is_walked(wrong):
 
 
 def refused(log, wrong):
-    """What was changed was refused at a fact: a function by its own proof, or by the search that stands in for one."""
-    proof = r"\S*"
-    if wrong.file.startswith("src/"):
-        if re.search(rf"(?m)^fn {wrong.crate}::{wrong.where}: no proof: .*`search` does not close", log):
-            return True
-        proof = "proofs/" + wrong.where.replace("::", "/") + "/Proof.antt"
+    """What was changed was refused at a fact: a definition by its law, a function by its own proof, or by the search that stands in for one."""
+    if not wrong.law and re.search(rf"(?m)^fn {wrong.crate}::{wrong.where}: no proof: .*`search` does not close", log):
+        return True
+    proof = wrong.law[0] if wrong.law else "proofs/" + wrong.where.replace("::", "/") + "/Proof.antt"
     said = re.findall(rf"(?m)^\S*/{proof}:\d+:\d+: error: `([^`]*)`: (.*(?:\n  .*)*)", log)
-    return any(FACT.search(why) and (is_walked(wrong) or part not in CODE) for part, why in said)
+    facts = {part for part, why in said if FACT.search(why)}
+    if wrong.law:
+        return wrong.law[1] in facts
+    return bool(facts if is_walked(wrong) else facts - CODE)
 
 
 def logs(words):
