@@ -79,11 +79,19 @@ readOf s =
 
 -- ── the paper's numbers ──
 
--- the refusal number of each answer: 0 none, 11 BAD_RECORD, 12 END_OF_LOG
+-- a record with a fault
+abbrev pub BAD-RECORD : ℕ
+BAD-RECORD = 11
+
+-- no bytes left
+abbrev pub END-OF-LOG : ℕ
+END-OF-LOG = 12
+
+-- the refusal number of each answer, 0 for none
 abbrev pub refusalOf : Read → ℕ
 refusalOf (Record c n) = 0
-refusalOf BadRecord = 11
-refusalOf EndOfLog = 12
+refusalOf BadRecord = BAD-RECORD
+refusalOf EndOfLog = END-OF-LOG
 
 -- the bytes that each answer takes: a refused read takes 0
 abbrev pub countOf : Read → ℕ
@@ -93,7 +101,7 @@ countOf EndOfLog = 0
 
 -- the refusal number that bytes call for
 unfoldable pub refusalFor : List ℕ → ℕ
-refusalFor s = if eqb (length s) 0 then 12 else if faulty s then 11 else 0
+refusalFor s = if eqb (length s) 0 then END-OF-LOG else if faulty s then BAD-RECORD else 0
 
 -- the bytes that are to be taken
 unfoldable pub countFor : List ℕ → ℕ

@@ -8,7 +8,7 @@ use lib.Dec.{eqb, ltb}
 use Rattle.calls.specs.declared.Call as C
 use Rattle.calls.specs.declared.Read.{Read}
 use Rattle.calls.specs.declared.Read.the-variants.{Record, BadRecord, EndOfLog}
-use Rattle.calls.specs.Reading.{readOf, refusalOf}
+use Rattle.calls.specs.Reading.{END-OF-LOG, readOf, refusalOf}
 use Rattle.rules.specs.State.{running}
 use Rattle.rules.specs.Step.{roomAfter}
 use Rattle.rules.specs.Whole.{Whole, view, stepWhole, answerOf}
@@ -53,11 +53,11 @@ took s c k room =
 abbrev pub left : Session → Next → List ℕ → List ℕ → Turn
 left s next text room = record { session = s; count = 0; next = next; text = text; room = room }
 
--- no record: fewer than ten bytes with more to come ask for them; no bytes (12) end it silently; else a last line says so
+-- no record: fewer than ten bytes with more to come ask for them; no bytes end it silently; else a last line says so
 unfoldable pub leaves : Session → ℕ → ℕ → Bool → List ℕ → Turn
 leaves s n many last room =
     cond (not last && ltb many 10) (left s More [] room)
-    (cond (eqb n 12) (left s Stop [] room)
+    (cond (eqb n END-OF-LOG) (left s Stop [] room)
     (left s Stop (lineText (s .step) (refusedAnswer n (running (view (s .state)))) room) room))
 
 -- a turn by what was read
