@@ -13,7 +13,8 @@ use Rattle.lists.proofs.Tests.{and-first, and-second}
 use Rattle.calls.specs.Duration.{bytesOf}
 use Rattle.calls.specs.Record.{byte, fourFrom}
 use Rattle.calls.specs.Range.{Bytes}
-use Rattle.codec.specs.Layout.{placeTag, placeFirst, placeSecond, timerTag, timerDue, taskBytes, tasksBytes, encode, isPlace, isTimer, placeFrom, timerFrom, isTask, taskFrom, areTasks, tasksFrom, isEncoding, decode}
+use Rattle.rules.specs.State.{entryOf}
+use Rattle.codec.specs.Layout.{placeTag, placeFirst, timerTag, timerDue, taskBytes, tasksBytes, encode, isPlace, isTimer, placeFrom, timerFrom, isTask, taskFrom, areTasks, tasksFrom, isEncoding, decode}
 
 differ : {X : Type 0} → true ≡ false → X
 differ e = let z : _≡_ {A = ℕ} 0 1 = cc in absurd (omega arith)
@@ -24,7 +25,7 @@ both-zero : (a c : ℕ) → (eqb a 0 && eqb c 0) ≡ true → (0 ≡ a) × (0 �
 both-zero a c e = (sym (eqb-true a 0 (and-first (eqb a 0) (eqb c 0) e)), sym (eqb-true c 0 (and-second (eqb a 0) (eqb c 0) e)))
 
 place-exact : (tag a c : ℕ) → isPlace tag a c ≡ true
-    → (placeTag (placeFrom tag a c) ≡ tag) × (placeFirst (placeFrom tag a c) ≡ a) × (placeSecond (placeFrom tag a c) ≡ c)
+    → (placeTag (placeFrom tag a c) ≡ tag) × (placeFirst (placeFrom tag a c) ≡ a) × (entryOf (placeFrom tag a c) ≡ c)
 place-exact zero a c e = let z = both-zero a c e in (refl, z .0, z .1)
 place-exact (suc zero) a c e = let z = both-zero a c e in (refl, z .0, z .1)
 place-exact (suc (suc zero)) a c e = let z = both-zero a c e in (refl, z .0, z .1)

@@ -16,7 +16,8 @@ use Rattle.rules.specs.declared.Timer.the-variants.{Off, Due}
 use Rattle.rules.specs.declared.Place.{Place}
 use Rattle.rules.specs.declared.Place.the-variants.{Blank, Ready, Delayed, Queued, Held, Accepting, Completed}
 use Rattle.rules.specs.declared.Supervisor.{Supervisor}
-use Rattle.codec.specs.Layout.{placeTag, placeFirst, placeSecond, timerTag, timerDue, taskBytes, tasksBytes, encode, isPlace, isTimer, placeFrom, timerFrom, isTask, taskFrom, areTasks, tasksFrom, isEncoding, decode, lost, stateIn}
+use Rattle.rules.specs.State.{entryOf}
+use Rattle.codec.specs.Layout.{placeTag, placeFirst, timerTag, timerDue, taskBytes, tasksBytes, encode, isPlace, isTimer, placeFrom, timerFrom, isTask, taskFrom, areTasks, tasksFrom, isEncoding, decode, lost, stateIn}
 use Rattle.codec.proofs.CodecLaws.{if-true, if-false, tasks-long}
 
 -- ── a task ──
@@ -24,7 +25,7 @@ use Rattle.codec.proofs.CodecLaws.{if-true, if-false, tasks-long}
 four-back : (n : ℕ) → four (n / 16777216) (n / 65536 % 256) (n / 256 % 256) (n % 256) ≡ n
 four-back n = omega arith
 
-place-back : (p : Place) → (placeFrom (placeTag p) (placeFirst p) (placeSecond p) ≡ p) × (isPlace (placeTag p) (placeFirst p) (placeSecond p) ≡ true)
+place-back : (p : Place) → (placeFrom (placeTag p) (placeFirst p) (entryOf p) ≡ p) × (isPlace (placeTag p) (placeFirst p) (entryOf p) ≡ true)
 place-back Blank = (refl, refl)
 place-back Ready = (refl, refl)
 place-back Delayed = (refl, refl)
@@ -50,7 +51,7 @@ task-back x more =
     let p = place-back (x .place) in
     let w = timer-back (x .timer) in
     let from : taskFrom (taskBytes x ++ more) ≡ x = λ i. record { priority = x .priority; entries = x .entries; place = p .0 i; timer = w .0 i } in
-    (from, both (isPlace (placeTag (x .place)) (placeFirst (x .place)) (placeSecond (x .place))) (isTimer (timerTag (x .timer)) (due (x .timer))) (p .1) (w .1))
+    (from, both (isPlace (placeTag (x .place)) (placeFirst (x .place)) (entryOf (x .place))) (isTimer (timerTag (x .timer)) (due (x .timer))) (p .1) (w .1))
 
 tasks-back : (l : List Task) (more : List ℕ) → (tasksFrom (length l) (tasksBytes l ++ more) ≡ l) × (areTasks (length l) (tasksBytes l ++ more) ≡ true)
 unfolding tasksFrom areTasks

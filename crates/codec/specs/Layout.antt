@@ -7,7 +7,7 @@ use lib.Dec.{eqb, ltb, leb}
 use Rattle.lists.specs.Lists.{if_then_else_}
 use Rattle.calls.specs.Duration.{bytesOf}
 use Rattle.calls.specs.Record.{byte, fourFrom}
-use Rattle.rules.specs.State.{empty}
+use Rattle.rules.specs.State.{entryOf, empty}
 use Rattle.rules.specs.Whole.{pack}
 use Rattle.rules.specs.declared.Task.{Task}
 use Rattle.rules.specs.declared.Timer.{Timer}
@@ -29,7 +29,7 @@ placeTag (Held m) = 4
 placeTag (Accepting o) = 5
 placeTag Completed = 6
 
--- the first byte of a place: the called task, the holder or the open set
+-- the byte behind the tag: the called task, the holder or the open set; behind it stands the called entry
 abbrev pub placeFirst : Place → ℕ
 placeFirst Blank = 0
 placeFirst Ready = 0
@@ -38,16 +38,6 @@ placeFirst (Queued q) = q .target
 placeFirst (Held m) = m .holder
 placeFirst (Accepting o) = o .opens
 placeFirst Completed = 0
-
--- the second byte of a place: the called entry
-abbrev pub placeSecond : Place → ℕ
-placeSecond Blank = 0
-placeSecond Ready = 0
-placeSecond Delayed = 0
-placeSecond (Queued q) = q .entry
-placeSecond (Held m) = m .entry
-placeSecond (Accepting o) = 0
-placeSecond Completed = 0
 
 -- a time's tag
 abbrev pub timerTag : Timer → ℕ
@@ -62,7 +52,7 @@ timerDue (Due d) = d
 -- the ten bytes of a task: priority, entries, place, time
 abbrev pub taskBytes : Task → List ℕ
 taskBytes x =
-    x .priority ∷ x .entries ∷ placeTag (x .place) ∷ placeFirst (x .place) ∷ placeSecond (x .place) ∷ timerTag (x .timer) ∷ bytesOf (timerDue (x .timer))
+    x .priority ∷ x .entries ∷ placeTag (x .place) ∷ placeFirst (x .place) ∷ entryOf (x .place) ∷ timerTag (x .timer) ∷ bytesOf (timerDue (x .timer))
 
 -- the tasks one behind the other
 abbrev pub tasksBytes : List Task → List ℕ

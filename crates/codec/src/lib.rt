@@ -3,7 +3,8 @@ ghost use mathlib.Core.Path.{_≡_};
 ghost use Prim.Native.Nat.{_+_, _≤_};
 ghost use mathlib.Core.List.{[], _∷_};
 ghost use lib.ListN.{length, take, drop};
-ghost use Rattle.codec.specs.Layout.{placeTag, placeFirst, placeSecond, timerTag, timerDue, taskBytes, tasksBytes, isPlace, isTimer, placeFrom, timerFrom, fieldsOf, fieldsGood, fieldsTask, lost, stateIn, putAt, placedAt, placedLines, stored};
+ghost use Rattle.rules.specs.State.{entryOf};
+ghost use Rattle.codec.specs.Layout.{placeTag, placeFirst, timerTag, timerDue, taskBytes, tasksBytes, isPlace, isTimer, placeFrom, timerFrom, fieldsOf, fieldsGood, fieldsTask, lost, stateIn, putAt, placedAt, placedLines, stored};
 ghost use Rattle.codec.specs.Used.{areZero, tableFrom, usedTasks, bareIn};
 use calls::word;
 use rules::Meeting;
@@ -17,7 +18,7 @@ use table::tasks::blank_task;
 
 // The three bytes of a place: its tag; the called task, the holder or the open set; the called entry.
 fn place_bytes(p: Place) -> [u8; 3]
-    ensures { λ r. ⌜ r ≡ placeTag p ∷ placeFirst p ∷ placeSecond p ∷ [] ⌝ }
+    ensures { λ r. ⌜ r ≡ placeTag p ∷ placeFirst p ∷ entryOf p ∷ [] ⌝ }
 {
     match p {
         Place::Blank => [0, 0, 0],
