@@ -24,7 +24,7 @@ use supervisor::{Answer, Supervisor};
 
 /// States that are stepped in one round: few enough to stay close to the processor.
 const POOL: usize = 32;
-/// Rounds of one action in one pass, and passes over the table.
+/// Rounds of one action in one pass, and passes over the table where no number is given.
 const ROUNDS: usize = 40;
 const PASSES: usize = 12;
 
@@ -179,11 +179,11 @@ impl Line {
 }
 
 /// All lines, and what a copy of the bytes of a state costs.
-fn measured() -> (Vec<Line>, f64) {
+fn measured(passes: usize) -> (Vec<Line>, f64) {
     let mut lines: Vec<Line> = [1, 8, 31].into_iter().flat_map(scenes::scenes).map(Line::new).collect();
     lines.iter().for_each(|line| agree(&line.scene));
     let mut copy = f64::MAX;
-    for _ in 0..PASSES {
+    for _ in 0..passes {
         copy = copy.min(copied());
         lines.iter_mut().for_each(Line::measure);
     }
@@ -239,18 +239,21 @@ fn parts(lines: &[Line]) {
     }
 }
 
+fn table(passes: usize) {
+    let (lines, copy) = measured(passes);
+    steps(&lines, copy);
+    parts(&lines);
+}
+
 fn main() {
     let words: Vec<String> = std::env::args().skip(1).collect();
+    let number = |word: &String| word.parse().expect("a number");
     match &words[..] {
-        [] => {
-            let (lines, copy) = measured();
-            steps(&lines, copy);
-            parts(&lines);
-        }
+        [] => table(PASSES),
+        [passes] => table(number(passes)),
         [name, tasks, times] => {
-            let number = |word: &String| word.parse().expect("a number");
             repeat(name, number(tasks), number(times)).expect("a step of the table, with 1, 8 or 31 tasks");
         }
-        _ => panic!("bench, or bench NAME TASKS TIMES"),
+        _ => panic!("bench, bench PASSES or bench NAME TASKS TIMES"),
     }
 }
