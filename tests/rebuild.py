@@ -14,7 +14,7 @@ from module import Kit, rests_on, run, stop
 
 # the words for a program alone, which a library is compiled without
 PROGRAM_ONLY = "\n-Xclang\n-fmerge-functions\n-mllvm\n-mergefunc-use-aliases"
-FUNCTION = re.compile(r'(?ms)^(?:; Function Attrs:[^\n]*\n)?define [^\n]*?@("[^"]+"|\w+)\((.*?)\) #0 {\n(.*?)^}\n')
+FUNCTION = re.compile(r'(?ms)^(?:; Function Attrs:[^\n]*\n)?define [^\n]*?@("[^"]+"|\w+)\((.*?)\) #0 {\n.*?^}\n')
 
 
 def logic_of(proved):
