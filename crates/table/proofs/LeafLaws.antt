@@ -2,7 +2,7 @@
 -- Assumes nothing.
 use Prim.Native.Nat.{ℕ, zero, suc, _-_, _≤_, _<_}
 use mathlib.Core.Path.{_≡_, refl, sym, ap, _∙_}
-use mathlib.Core.Bool.{Bool, true, false}
+use mathlib.Core.Bool.{Bool, true, false, _&&_}
 use mathlib.Core.List.{List, [], _∷_, _++_, map}
 use native.Mathlib.Numerals.{unary-clauses}
 use native.Mathlib.Omega.{arith}
@@ -74,6 +74,14 @@ set-none ts x t l e = by-eq t 0 (λ z. rw z) (λ z. set-beyond ts x t (omega (ar
 
 pub number-range : (t : ℕ) → isNumber t ≡ true → (1 ≤ t) × (t ≤ 31)
 number-range t e = (ltb-true 0 t (and-first (ltb 0 t) (leb t 31) e), leb-true t 31 (and-second (ltb 0 t) (leb t 31) e))
+
+-- task t, from what the code's test says of its number
+module _ (n t : ℕ) (k : Task) (b : Bool) (e : b ≡ isNumber t) where
+  pub shown-in : (b && leb t n) ≡ true → k ≡ shownOf n t k
+  shown-in q = rw (ap (λ (a : Bool). a && leb t n) (sym e) ∙ q)
+
+  pub shown-out : (x : Task) → x ≡ blank → (b && leb t n) ≡ false → x ≡ shownOf n t k
+  shown-out x z q = rw (ap (λ (a : Bool). a && leb t n) (sym e) ∙ q) z
 
 -- what stands at the place of t is task t, where t is the number of one
 pub shown-is : (ts : List Task) (n t : ℕ) → length ts ≡ 31 → shownOf n t (getD ts (indexOf t) blank) ≡ nth (take n ts) t

@@ -10,8 +10,6 @@ use Rattle.lists.specs.Line.{line, pad}
 use Rattle.lists.specs.Lists.{insert}
 use Rattle.lists.proofs.Tests.{ways}
 use Rattle.lists.proofs.Turns.{rest-blank, rest-entry, fill-none, fill, fill-last, filled-up, insert-here, insert-on}
-use Rattle.rules.specs.State.{ticksLeft}
-use Rattle.rules.specs.declared.Task.{Task}
 use Rattle.table.specs.Moved.{leftOf}
 use Rattle.table.proofs.LeafLaws.{mapped-long, left-at}
 use Rattle.table.proofs.moves.timed_in.Statement.{statement}
