@@ -16,12 +16,7 @@ fn is_blank(p: Place) -> bool
 {
     match p {
         Place::Blank => true,
-        Place::Ready => false,
-        Place::Delayed => false,
-        Place::Queued(_) => false,
-        Place::Held(_) => false,
-        Place::Accepting(_) => false,
-        Place::Completed => false,
+        _ => false,
     }
 }
 
@@ -53,15 +48,18 @@ fn calls_entry(g: Task, e: u8) -> bool
 fn is_fit(me: Task, g: Task, p: Place, w: Timer) -> bool
     ensures { λ r. ⌜ r ≡ fits me g p w ⌝ }
 {
-    let q = g.place;
+    let n = me.entries;
     let timed = has_time(w);
     match p {
         Place::Blank => false,
         Place::Ready => !timed,
         Place::Delayed => timed,
-        Place::Queued(a) => calls_entry(g, a.entry) & !accepts_at(q, a.entry),
+        Place::Queued(a) => {
+            let q = g.place;
+            calls_entry(g, a.entry) & !accepts_at(q, a.entry)
+        }
         Place::Held(m) => calls_entry(g, m.entry) & !timed,
-        Place::Accepting(o) => !is_too_wide(o.opens, me.entries) & ((0 < o.opens) | timed),
+        Place::Accepting(o) => !is_too_wide(o.opens, n) & ((0 < o.opens) | timed),
         Place::Completed => !timed,
     }
 }

@@ -20,7 +20,7 @@ use Rattle.rules.specs.declared.Place.the-variants.{Blank, Ready, Delayed, Queu
 abbrev pub Among : List ℕ → Place → Type 0
 Among ks p = OneOf ks (tagOf the-type p)
 
-by-place : (P : Place → Type 0) → P Blank → P Ready → P Delayed → ((q : Waiting) → P (Queued q)) → ((m : Meeting) → P (Held m)) → ((o : Offer) → P (Accepting o)) → P Completed → (p : Place) → P p
+pub by-place : (P : Place → Type 0) → P Blank → P Ready → P Delayed → ((q : Waiting) → P (Queued q)) → ((m : Meeting) → P (Held m)) → ((o : Offer) → P (Accepting o)) → P Completed → (p : Place) → P p
 by-place P b r d q h a c Blank = b
 by-place P b r d q h a c Ready = r
 by-place P b r d q h a c Delayed = d

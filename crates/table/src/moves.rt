@@ -3,10 +3,9 @@ ghost use lib.Dec.{ltb};
 ghost use mathlib.Core.Path.{_≡_};
 ghost use Rattle.lists.specs.Lists.{insert};
 ghost use Rattle.lists.specs.Line.{line, pad};
-ghost use Rattle.rules.specs.State.{retime, ticksLeft};
+ghost use Rattle.rules.specs.State.{retime};
 ghost use Rattle.rules.specs.Whole.{view};
 ghost use Rattle.table.specs.Moved.{movedOf, readiedOf, wokenOf, metOf, partedOf, leftOf, readiedTask};
-ghost use Rattle.table.specs.Numbers.{shownOf};
 use super::place::is_held;
 use super::place::is_queued;
 use super::place::is_ready;
@@ -14,6 +13,7 @@ use super::place::ticks_left;
 use super::tasks::fresh_task;
 use super::tasks::index_of;
 use super::tasks::is_number;
+use super::tasks::left_of;
 use super::tasks::placed_at;
 use super::tasks::shown;
 use super::tasks::task_of;
@@ -23,15 +23,6 @@ use rules::Place;
 use rules::Supervisor;
 use rules::Task;
 use rules::Timer;
-
-// The ticks left of task x of n, where k stands at its place in the table.
-fn left_of(now: u32, n: u8, x: u8, k: Task) -> u32
-    ensures { λ r. ⌜ r ≡ ticksLeft now (shownOf n x k .timer) ⌝ }
-{
-    let y = shown(n, x, k);
-    let w = y.timer;
-    ticks_left(now, w)
-}
 
 // The line with t, which has n ticks left, before the first that has more, so behind those that have as many. Of a full line the last falls off.
 fn timed_in(s: Supervisor, a: [u8; 31], t: u8, n: u32) -> [u8; 31]

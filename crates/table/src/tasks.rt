@@ -1,10 +1,11 @@
 // The table of tasks.
 ghost use Prim.Native.Nat.{_<_};
 ghost use mathlib.Core.Path.{_≡_};
-ghost use Rattle.rules.specs.State.{blank, taskOf, fresh, placed};
+ghost use Rattle.rules.specs.State.{blank, taskOf, fresh, placed, ticksLeft};
 ghost use Rattle.rules.specs.Whole.{view};
 ghost use Rattle.table.specs.Moved.{withTask};
 ghost use Rattle.table.specs.Numbers.{isNumber, indexOf, shownOf};
+use super::place::ticks_left;
 use rules::Place;
 use rules::Supervisor;
 use rules::Task;
@@ -67,6 +68,15 @@ pub fn shown(n: u8, t: u8, k: Task) -> Task
     } else {
         blank_task()
     }
+}
+
+// The ticks left of task x of n, where k stands at its place in the table.
+pub fn left_of(now: u32, n: u8, x: u8, k: Task) -> u32
+    ensures { λ r. ⌜ r ≡ ticksLeft now (shownOf n x k .timer) ⌝ }
+{
+    let y = shown(n, x, k);
+    let w = y.timer;
+    ticks_left(now, w)
 }
 
 // Task t; a blank one where t is the number of none.
