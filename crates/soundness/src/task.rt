@@ -1,7 +1,7 @@
 // Tests on one task, and on the task that it has called.
 ghost use mathlib.Core.Path.{_≡_};
 ghost use Rattle.rules.specs.Sound.{calls, fits, timeInRange, goodTask};
-ghost use Rattle.rules.specs.Whole.{isBlank, isOff, unused};
+ghost use Rattle.rules.specs.Whole.{isBlank, unused};
 use rules::Place;
 use rules::Task;
 use rules::Timer;
@@ -20,21 +20,12 @@ fn is_blank(p: Place) -> bool
     }
 }
 
-fn is_off(w: Timer) -> bool
-    ensures { λ r. ⌜ r ≡ isOff w ⌝ }
-{
-    match w {
-        Timer::Off => true,
-        Timer::Due(_) => false,
-    }
-}
-
 pub fn is_unused(x: Task) -> bool
     ensures { λ r. ⌜ r ≡ unused x ⌝ }
 {
     let p = x.place;
     let w = x.timer;
-    (x.priority == 0) & (x.entries == 0) & is_blank(p) & is_off(w)
+    (x.priority == 0) & (x.entries == 0) & is_blank(p) & !has_time(w)
 }
 
 // Whether e is an entry of the called task g.
