@@ -27,7 +27,7 @@ returns : tie.Need-returns Inv-loop μ-loop
 returns c =
     let l = c .before .before .loop in
     let a = c .before .before .before .args in
-    simp (l .inv .2, rest-blank (a .t2) (l .i) (search needs) (c .if1 .taken)) (fill-last (l .r) (l .i) (l .carry) (omega arith) (l .inv .1))
+    rw (l .inv .2, rest-blank (a .t2) (l .i) (search needs) (c .if1 .taken)) (fill-last (l .r) (l .i) (l .carry) (omega arith) (l .inv .1))
 
 loop-again : tie.Need-loop-again Inv-loop μ-loop
 loop-again c =
