@@ -28,8 +28,7 @@ fn all_unused(s: Supervisor) -> bool
 {
     let mut i = s.created as usize;
     while i < 31 {
-        let x = s.tasks[i];
-        if task::is_unused(x) {
+        if task::is_unused(s.tasks[i]) {
             i += 1;
         } else {
             return false;

@@ -1,5 +1,4 @@
 // A line against the word of those who are to be met in it, in one pass: each task stands once in the line of its place, and nowhere else.
-ghost use Prim.Native.Nat.{_≤_};
 ghost use lib.ListN.{length, drop};
 ghost use mathlib.Core.Path.{_≡_};
 ghost use Rattle.lists.specs.Line.{blanks};
@@ -7,7 +6,8 @@ ghost use Rattle.rules.specs.Whole.{view};
 ghost use Rattle.soundness.specs.Check.{leftOf, anyOrder, holdsIn};
 use crate::marks;
 use rules::Supervisor;
-use table::place::ticks_left;
+use table::tasks::index_of;
+use table::tasks::left_of;
 
 // Whether the places from i on are blank.
 fn is_blank_from(a: &[u8; 31], i: usize) -> bool
@@ -45,7 +45,6 @@ pub fn holds(a: &[u8; 31], word: u32) -> bool
 
 // The same of the delay queue, where each has at least as many ticks left as the one before.
 pub fn delays_hold(s: Supervisor, word: u32) -> bool
-    requires { ⌜ s .created ≤ 31 ⌝ }
     ensures { λ r. ⌜ r ≡ holdsIn (leftOf (view s)) word (s .delays) ⌝ }
 {
     let mut rest = marks::next(word, false);
@@ -55,13 +54,8 @@ pub fn delays_hold(s: Supervisor, word: u32) -> bool
         if t == 0 {
             return marks::is_none(rest) & is_blank_from(&s.delays, i);
         }
-        let mut left: u32 = 0;
-        if t <= s.created {
-            let at = (t - 1) as usize;
-            let x = s.tasks[at];
-            let w = x.timer;
-            left = ticks_left(s.clock, w);
-        }
+        let at = index_of(t);
+        let left = left_of(s.clock, s.created, t, s.tasks[at]);
         if marks::has(rest, t) & (last <= left) {
             rest = marks::without(rest, t);
             last = left;

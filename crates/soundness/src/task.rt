@@ -1,7 +1,7 @@
 // Tests on one task, and on the task that it has called.
 ghost use mathlib.Core.Path.{_≡_};
 ghost use Rattle.rules.specs.Sound.{calls, fits, timeInRange, goodTask};
-ghost use Rattle.rules.specs.Whole.{isBlank, isOff, unused};
+ghost use Rattle.rules.specs.Whole.{isBlank, unused};
 use rules::Place;
 use rules::Task;
 use rules::Timer;
@@ -16,21 +16,7 @@ fn is_blank(p: Place) -> bool
 {
     match p {
         Place::Blank => true,
-        Place::Ready => false,
-        Place::Delayed => false,
-        Place::Queued(_) => false,
-        Place::Held(_) => false,
-        Place::Accepting(_) => false,
-        Place::Completed => false,
-    }
-}
-
-fn is_off(w: Timer) -> bool
-    ensures { λ r. ⌜ r ≡ isOff w ⌝ }
-{
-    match w {
-        Timer::Off => true,
-        Timer::Due(_) => false,
+        _ => false,
     }
 }
 
@@ -39,7 +25,7 @@ pub fn is_unused(x: Task) -> bool
 {
     let p = x.place;
     let w = x.timer;
-    (x.priority == 0) & (x.entries == 0) & is_blank(p) & is_off(w)
+    (x.priority == 0) & (x.entries == 0) & is_blank(p) & !has_time(w)
 }
 
 // Whether e is an entry of the called task g.
@@ -53,15 +39,18 @@ fn calls_entry(g: Task, e: u8) -> bool
 fn is_fit(me: Task, g: Task, p: Place, w: Timer) -> bool
     ensures { λ r. ⌜ r ≡ fits me g p w ⌝ }
 {
-    let q = g.place;
+    let n = me.entries;
     let timed = has_time(w);
     match p {
         Place::Blank => false,
         Place::Ready => !timed,
         Place::Delayed => timed,
-        Place::Queued(a) => calls_entry(g, a.entry) & !accepts_at(q, a.entry),
+        Place::Queued(a) => {
+            let q = g.place;
+            calls_entry(g, a.entry) & !accepts_at(q, a.entry)
+        }
         Place::Held(m) => calls_entry(g, m.entry) & !timed,
-        Place::Accepting(o) => !is_too_wide(o.opens, me.entries) & ((0 < o.opens) | timed),
+        Place::Accepting(o) => !is_too_wide(o.opens, n) & ((0 < o.opens) | timed),
         Place::Completed => !timed,
     }
 }

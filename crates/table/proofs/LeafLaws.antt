@@ -2,7 +2,7 @@
 -- Assumes nothing.
 use Prim.Native.Nat.{ℕ, zero, suc, _-_, _≤_, _<_}
 use mathlib.Core.Path.{_≡_, refl, sym, ap, _∙_}
-use mathlib.Core.Bool.{Bool, true}
+use mathlib.Core.Bool.{Bool, true, false, _&&_}
 use mathlib.Core.List.{List, [], _∷_, _++_, map}
 use native.Mathlib.Numerals.{unary-clauses}
 use native.Mathlib.Omega.{arith}
@@ -11,12 +11,11 @@ use lib.ListN.{length, getD, set, take, length-map}
 use lib.Seq.{getD-take, set-out, set-getD}
 use borrow.Author.Tests.{ltb-true, ltb-false, leb-true, leb-false}
 use Rattle.lists.specs.Line.{line, pad}
-use Rattle.lists.proofs.ListLaws.{by-bool}
+use Rattle.lists.proofs.ListLaws.{by-bool, by-eq, clash}
 use Rattle.lists.proofs.Tests.{and-first, and-second}
 use Rattle.lists.proofs.LineLaws.{left-over, line-picked}
-use Rattle.lists.proofs.MarkLaws.{insert-by}
-use Rattle.lists.specs.Lists.{if_then_else_, remove, rejoin}
-use Rattle.lists.specs.Marks.{noMarks, markOf, marked, withMark, insertBy}
+use Rattle.lists.specs.Lists.{if_then_else_, remove, rejoin, insert}
+use Rattle.lists.specs.Marks.{noMarks, markOf, marked, withMark}
 use Rattle.rules.specs.State.{blank, nth, setNth, taskOf, isReady, isQueued, isHeld, retime, ticksLeft, placed}
 use Rattle.rules.specs.Whole.{view}
 use Rattle.rules.specs.declared.Supervisor.{Supervisor}
@@ -26,7 +25,7 @@ use Rattle.rules.specs.declared.Timer.the-variants.{Off, Due}
 use Rattle.rules.specs.declared.Place.the-variants.{Ready}
 use Rattle.rules.specs.declared.Task.{Task}
 use Rattle.rules.proofs.Members.{nth-beyond}
-use Rattle.table.specs.Moved.{withTask, movedOf, readiedOf, wokenOf, leftOf}
+use Rattle.table.specs.Moved.{withTask, movedOf, readiedTask, readiedOf, wokenOf, leftOf}
 use Rattle.table.specs.Numbers.{isNumber, indexOf, shownOf}
 
 -- ---- the table
@@ -64,8 +63,25 @@ module _ (ts : List Task) (x : Task) where
   set-beyond zero h = refl
   set-beyond (suc k) h = sym (set-out ts k x (omega arith))
 
+none-beyond : (t : ℕ) → isNumber t ≡ false → (t ≡ 0 → ⊥) → 31 < t
+none-beyond t e z =
+    by-bool (ltb 0 t)
+    (λ p. by-bool (leb t 31) (λ q. let y : isNumber t ≡ true = rw (p, q) in clash y e) (λ q. leb-false t 31 q))
+    (λ p. absurd (z (omega (arith, ltb-false 0 t p))))
+
+set-none : (ts : List Task) (x : Task) (t : ℕ) → length ts ≡ 31 → isNumber t ≡ false → ts ≡ setNth ts t x
+set-none ts x t l e = by-eq t 0 (λ z. rw z) (λ z. set-beyond ts x t (omega (arith, none-beyond t e z, l)))
+
 pub number-range : (t : ℕ) → isNumber t ≡ true → (1 ≤ t) × (t ≤ 31)
 number-range t e = (ltb-true 0 t (and-first (ltb 0 t) (leb t 31) e), leb-true t 31 (and-second (ltb 0 t) (leb t 31) e))
+
+-- task t, from what the code's test says of its number
+module _ (n t : ℕ) (k : Task) (b : Bool) (e : b ≡ isNumber t) where
+  pub shown-in : (b && leb t n) ≡ true → k ≡ shownOf n t k
+  shown-in q = rw (ap (λ (a : Bool). a && leb t n) (sym e) ∙ q)
+
+  pub shown-out : (x : Task) → x ≡ blank → (b && leb t n) ≡ false → x ≡ shownOf n t k
+  shown-out x z q = rw (ap (λ (a : Bool). a && leb t n) (sym e) ∙ q) z
 
 -- what stands at the place of t is task t, where t is the number of one
 pub shown-is : (ts : List Task) (n t : ℕ) → length ts ≡ 31 → shownOf n t (getD ts (indexOf t) blank) ≡ nth (take n ts) t
@@ -81,6 +97,9 @@ shown-is ts n t l =
 pub shown-at : (s : Supervisor) (t at : ℕ) (x : Task) → length (s .tasks) ≡ 31 → at ≡ indexOf t → x ≡ shownOf (s .created) t (getD (s .tasks) at blank) → x ≡ taskOf (view s) t
 shown-at s t at x l e q = q ∙ ap (λ (i : ℕ). shownOf (s .created) t (getD (s .tasks) i blank)) e ∙ shown-is (s .tasks) (s .created) t l
 
+pub left-at : (s : Supervisor) (t at d : ℕ) → length (s .tasks) ≡ 31 → at ≡ indexOf t → d ≡ ticksLeft (s .clock) (shownOf (s .created) t (getD (s .tasks) at blank) .timer) → d ≡ leftOf s t
+left-at s t at d l e q = q ∙ ap (λ (x : Task). ticksLeft (s .clock) (x .timer)) (shown-at s t at (shownOf (s .created) t (getD (s .tasks) at blank)) l e refl)
+
 -- where t is no task's number, what stood at the place is put back
 pub put-back : (ts : List Task) (t : ℕ) (x : Task) → length ts ≡ 31 → set ts (indexOf t) (if isNumber t then x else getD ts (indexOf t) blank) ≡ setNth ts t x
 put-back ts t x l =
@@ -90,63 +109,57 @@ put-back ts t x l =
     (λ r. rw (p, r) (set-getD ts 0 blank ∙ set-beyond ts x t (omega (arith, leb-false t 31 r, l)))))
     (λ p. let z : t ≡ 0 = omega (arith, ltb-false 0 t p) in rw (p, z) (set-getD ts 0 blank))
 
--- ---- lines
+-- ---- the struct
+
+-- the struct with other tasks
+abbrev with-tasks : Supervisor → List Task → Supervisor
+with-tasks s ts = record { clock = s .clock; created = s .created; tasks = ts; ready = s .ready; callers = s .callers; held = s .held; delays = s .delays }
 
 pub mapped-long : {X Y : Type 0} (f : X → Y) (l : List X) (n : ℕ) → length (map f l) ≡ n → length l ≡ n
 mapped-long f l n h = sym (length-map l f) ∙ h
 
 -- ---- the move, from what its parts answer
 
-pub with-beyond : (s : Supervisor) (t : ℕ) (x : Task) → length (s .tasks) < t → s ≡ withTask s t x
-with-beyond s t x h = λ i. record {
-  clock = s .clock;
-  created = s .created;
-  tasks = set-beyond (s .tasks) x t h i;
-  ready = s .ready;
-  callers = s .callers;
-  held = s .held;
-  delays = s .delays;
-}
+pub with-in : (s : Supervisor) (t : ℕ) (x : Task) → (t ≡ 0 → ⊥)
+    → record { clock = s .clock; created = s .created; tasks = set (s .tasks) (t - 1) x; ready = s .ready; callers = s .callers; held = s .held; delays = s .delays } ≡ withTask s t x
+with-in s t x h = ap (with-tasks s) (set-in (s .tasks) x t h)
+
+pub with-out : (s : Supervisor) (t : ℕ) (x : Task) → length (s .tasks) ≡ 31 → isNumber t ≡ false → s ≡ withTask s t x
+with-out s t x l e = ap (with-tasks s) (set-none (s .tasks) x t l e)
 
 -- the delay queue with t in its place: ordered insertion by the ticks left
-pub retime-due : (s : Supervisor) (t d n : ℕ) (l keys : List ℕ) → length (s .tasks) ≡ 31 → length (s .delays) ≡ 31 → l ≡ pad (remove t (line (s .delays))) → keys ≡ marked (leftOf s) (line l) noMarks → n ≡ ticksLeft (s .clock) (Due d)
-    → pad (insertBy keys n t (line l)) ≡ pad (retime (s .clock) (view s .tasks) (Due d) t (line (s .delays)))
-retime-due s t d n l keys long k e em q =
-    rw (em, q, insert-by (leftOf s) (ticksLeft (s .clock) (Due d)) t (line l) none, left-over (s .delays) t l k e)
-  where
-    -- a number above 31 is nobody's, and has no ticks left
-    none : (x : ℕ) → 32 ≤ x → leftOf s x ≡ 0
-    none x h = ap (λ (y : Task). ticksLeft (s .clock) (y .timer)) (sym (task-out (s .tasks) (s .created) x (omega arith)))
-
--- task t, put back into the table in another place
-pub task-put :
-    (s : Supervisor) (t : ℕ) (p : Place) (w : Timer) (at : ℕ) (x y z : Task) (b : Bool) → length (s .tasks) ≡ 31
-    → at ≡ indexOf t → x ≡ shownOf (s .created) t (getD (s .tasks) at blank) → y ≡ placed x p w → b ≡ isNumber t → z ≡ (if b then y else getD (s .tasks) at blank)
-    → set (s .tasks) at z ≡ setNth (s .tasks) t (placed (taskOf (view s) t) p w)
-task-put s t p w at x y z b l ea ex ey eb ez =
-    let f : z ≡ (if isNumber t then placed (taskOf (view s) t) p w else getD (s .tasks) at blank) =
-    ez ∙ ap (λ (a : Bool). if a then y else getD (s .tasks) at blank) eb
-    ∙ ap (λ (k : Task). if isNumber t then k else getD (s .tasks) at blank) (ey ∙ ap (λ (k : Task). placed k p w) (shown-at s t at x l ea ex)) in
-    ap (set (s .tasks) at) f ∙ ap (λ (i : ℕ). set (s .tasks) i (if isNumber t then placed (taskOf (view s) t) p w else getD (s .tasks) i blank)) ea ∙ put-back (s .tasks) t (placed (taskOf (view s) t) p w) l
+pub retime-due : (s : Supervisor) (t d n : ℕ) (l : List ℕ) → length (s .delays) ≡ 31 → l ≡ pad (remove t (line (s .delays))) → n ≡ ticksLeft (s .clock) (Due d)
+    → pad (insert (λ x. ltb n (leftOf s x)) t (line l)) ≡ pad (retime (s .clock) (view s .tasks) (Due d) t (line (s .delays)))
+retime-due s t d n l k e q = rw (q, left-over (s .delays) t l k e)
 
 pub moved-law :
-    (s : Supervisor) (t : ℕ) (p : Place) (w : Timer) (ts : List Task) (b1 b2 b3 : Bool) (r c h d : List ℕ) → ts ≡ setNth (s .tasks) t (placed (taskOf (view s) t) p w)
+    (s : Supervisor) (t : ℕ) (p : Place) (w : Timer) (n : Supervisor) (x y : Task) (b1 b2 b3 : Bool) (r c h d : List ℕ) → x ≡ taskOf (view s) t → y ≡ placed x p w → n ≡ withTask s t y
     → b1 ≡ isReady p → b2 ≡ isQueued p → b3 ≡ isHeld p
     → r ≡ pad (rejoin b1 t (line (s .ready))) → c ≡ pad (rejoin b2 t (line (s .callers))) → h ≡ pad (rejoin b3 t (line (s .held))) → d ≡ pad (retime (s .clock) (view s .tasks) w t (line (s .delays)))
-    → record { clock = s .clock; created = s .created; tasks = ts; ready = r; callers = c; held = h; delays = d }
+    → record { clock = n .clock; created = n .created; tasks = n .tasks; ready = r; callers = c; held = h; delays = d }
     ≡ movedOf s t p w
 unfolding movedOf
-moved-law s t p w ts b1 b2 b3 r c h d g e1 e2 e3 er ec eh ed = λ i. record {
-  clock = s .clock;
-  created = s .created;
-  tasks = g i;
-  ready = (er ∙ ap (λ (a : Bool). pad (rejoin a t (line (s .ready)))) e1) i;
-  callers = (ec ∙ ap (λ (a : Bool). pad (rejoin a t (line (s .callers)))) e2) i;
-  held = (eh ∙ ap (λ (a : Bool). pad (rejoin a t (line (s .held)))) e3) i;
-  delays = ed i;
-}
+moved-law s t p w n x y b1 b2 b3 r c h d ex ey en e1 e2 e3 er ec eh ed =
+    let g = en ∙ ap (withTask s t) (ey ∙ ap (λ (k : Task). placed k p w) ex) in λ i. record {
+      clock = g i .clock;
+      created = g i .created;
+      tasks = g i .tasks;
+      ready = (er ∙ ap (λ (a : Bool). pad (rejoin a t (line (s .ready)))) e1) i;
+      callers = (ec ∙ ap (λ (a : Bool). pad (rejoin a t (line (s .callers)))) e2) i;
+      held = (eh ∙ ap (λ (a : Bool). pad (rejoin a t (line (s .held)))) e3) i;
+      delays = ed i;
+    }
 
 -- ---- all of a line ready
+
+-- task t, put back into the table ready and with no time
+pub readied-put : (s : Supervisor) (t at : ℕ) (z : Task) → length (s .tasks) ≡ 31 → at ≡ indexOf t → z ≡ readiedTask (s .created) t (getD (s .tasks) at blank)
+    → set (s .tasks) at z ≡ setNth (s .tasks) t (placed (taskOf (view s) t) Ready Off)
+readied-put s t at z l ea ez =
+    let back : ℕ → Task = λ i. if isNumber t then placed (taskOf (view s) t) Ready Off else getD (s .tasks) i blank in
+    let f : z ≡ back at =
+    ez ∙ ap (λ (k : Task). if isNumber t then placed k Ready Off else getD (s .tasks) at blank) (shown-at s t at (shownOf (s .created) t (getD (s .tasks) at blank)) l ea refl) in
+    ap (set (s .tasks) at) f ∙ ap (λ (i : ℕ). set (s .tasks) i (back i)) ea ∙ put-back (s .tasks) t (placed (taskOf (view s) t) Ready Off) l
 
 -- one turn: the next of the list is ready in the table
 pub readied-on : (n : Supervisor) (t : ℕ) (xs ys : List ℕ) (ts : List Task) → xs ≡ t ∷ ys → ts ≡ setNth (n .tasks) t (placed (taskOf (view n) t) Ready Off)

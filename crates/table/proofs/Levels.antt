@@ -7,7 +7,7 @@ use mathlib.Core.List.{List, [], _∷_}
 use native.Mathlib.Omega.{arith}
 use lib.Dec.{ltb, leb, eqb}
 use lib.ListN.{length, getD, take}
-use borrow.Author.Tests.{ne-eqb, eqb-true, eqb-false, le-leb, lt-leb, le-ltb, leb-true, leb-false, ltb-true, ltb-false}
+use borrow.Author.Tests.{ne-eqb, eqb-true, eqb-false, le-leb, lt-leb, lt-ltb, le-ltb, leb-true, leb-false, ltb-true, ltb-false}
 use Rattle.lists.specs.Lists.{if_then_else_, filter}
 use Rattle.lists.proofs.ListLaws.{by-bool}
 use Rattle.rules.specs.State.{State, blank, nth, level, headUpTo, priorityOf, running}
@@ -62,7 +62,7 @@ module _ (f : ℕ → ℕ) where
   one-pass : (l : List ℕ) (b : Best) → bestOf f b l .task ≡ headIn l (b .priority) 15 (b .task)
   one-pass [] b = sym (none (b .priority) 15 (b .task))
   one-pass (x ∷ l) b =
-      let on : (c : Best) → betterOf b x (levelOf (f x)) ≡ c → bestOf f b (x ∷ l) .task ≡ headIn l (c .priority) 15 (c .task)
+      let on : (c : Best) → betterOf b x (f x) ≡ c → bestOf f b (x ∷ l) .task ≡ headIn l (c .priority) 15 (c .task)
       = λ c e. ap (λ (a : Best). bestOf f a l .task) e ∙ one-pass l c in
       by-bool (leb (f x) 15)
       (λ e. by-bool (ltb (b .priority) (f x))
@@ -84,17 +84,24 @@ one-pass-running s = sym (one-pass (priorityOf s) (s .ready) (record { task = 0;
 
 -- ── one turn ──
 
+module _ (b : Best) (t p l : ℕ) (e : l ≡ levelOf p) where
+  pub better-is : b .priority < l → record { task = t; priority = l } ≡ betterOf b t p
+  better-is h = rw (sym e, lt-ltb (b .priority) l h)
+
+  pub better-not : l ≤ b .priority → b ≡ betterOf b t p
+  better-not h = rw (sym e, le-ltb (b .priority) l h)
+
 pub last-low : (n : ℕ) → (lastOf n ≤ n) × (lastOf n ≤ 31)
 last-low n = by-bool (leb n 31) (λ e. rw e (omega arith, leb-true n 31 e)) (λ e. rw e (omega (arith, leb-false n 31 e), omega arith))
 
 module _ (s : Supervisor) (b : Best) (t n : ℕ) (xs ys : List ℕ) (q : xs ≡ t ∷ ys) where
   -- a task of the table
-  pub best-turn : (c : Best) (p : ℕ) → (t ≡ 0 → ⊥) → n ≡ lastOf (s .created) → t ≤ n → p ≡ levelOf (getD (s .tasks) (t - 1) blank .priority) → c ≡ betterOf b t p
+  pub best-turn : (c : Best) (p : ℕ) → (t ≡ 0 → ⊥) → n ≡ lastOf (s .created) → t ≤ n → p ≡ getD (s .tasks) (t - 1) blank .priority → c ≡ betterOf b t p
       → bestOf (priorityOf (view s)) b xs .task ≡ bestOf (priorityOf (view s)) c ys .task
   best-turn c p z en h ep ec =
       let k = last-low (s .created) in
       let x = task-in (s .tasks) (s .created) t z (omega arith) in
-      let e : betterOf b t (levelOf (priorityOf (view s) t)) ≡ c = sym (ec ∙ ap (betterOf b t) (ep ∙ ap (λ (y : Task). levelOf (y .priority)) x)) in
+      let e : betterOf b t (priorityOf (view s) t) ≡ c = sym (ec ∙ ap (betterOf b t) (ep ∙ ap (λ (y : Task). y .priority) x)) in
       rw q (ap (λ (a : Best). bestOf (priorityOf (view s)) a ys .task) e)
 
   -- a number that no task has
@@ -104,5 +111,5 @@ module _ (s : Supervisor) (b : Best) (t n : ℕ) (xs ys : List ℕ) (q : xs ≡ 
       by-bool (leb (s .created) 31)
       (λ e. task-past (s .tasks) (s .created) t (omega (arith, rw e at en)))
       (λ e. task-out (s .tasks) (s .created) t (omega (arith, rw e at en, l))) in
-      let e : betterOf b t (levelOf (priorityOf (view s) t)) ≡ b = ap (λ (y : Task). betterOf b t (levelOf (y .priority))) (sym x) ∙ rw (le-ltb (b .priority) 0 (omega arith)) in
+      let e : betterOf b t (priorityOf (view s) t) ≡ b = ap (λ (y : Task). betterOf b t (y .priority)) (sym x) ∙ rw (le-ltb (b .priority) 0 (omega arith)) in
       rw q (ap (λ (a : Best). bestOf (priorityOf (view s)) a ys .task) e)

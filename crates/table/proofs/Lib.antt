@@ -1,4 +1,5 @@
 pub mod LeafLaws
+pub mod PlaceLaws
 pub mod Levels
 pub mod Bits
 pub mod Unique

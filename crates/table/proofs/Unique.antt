@@ -28,8 +28,8 @@ use Rattle.table.proofs.tasks.fresh_task.Reads as fresh-task
 use Rattle.table.proofs.tasks.placed_at.Reads as placed-at
 use Rattle.table.proofs.tasks.is_number.Reads as is-number
 use Rattle.table.proofs.tasks.index_of.Reads as index-of
-use Rattle.table.proofs.tasks.pick_task.Reads as pick-task
 use Rattle.table.proofs.tasks.shown.Reads as shown
+use Rattle.table.proofs.tasks.left_of.Reads as left-of
 use Rattle.table.proofs.tasks.task_of.Reads as task-of
 use Rattle.table.proofs.tasks.with_task.Reads as with-task
 
@@ -121,11 +121,11 @@ is-number-once κs x r r′ y y′ p q = p ∙ sym q
 pub index-of-once : Once index-of.Post
 index-of-once κs x r r′ y y′ p q = p .0 ∙ sym (q .0)
 
-pub pick-task-once : Once pick-task.Post
-pick-task-once κs x r r′ y y′ p q = p ∙ sym q
-
 pub shown-once : Once shown.Post
 shown-once κs x r r′ y y′ p q = p ∙ sym q
+
+pub left-of-once : Once left-of.Post
+left-of-once κs x r r′ y y′ p q = p ∙ sym q
 
 pub task-of-once : Once task-of.Post
 task-of-once κs x r r′ y y′ p q = p ∙ sym q

@@ -14,11 +14,11 @@ lastOf n = if leb n 31 then n else 31
 abbrev pub levelOf : ℕ → ℕ
 levelOf p = if leb p 15 then p else 0
 
--- the better of one and the next, whose level is p: the first of the highest level
+-- the better of one and the next, whose priority is p: the first of the highest level
 abbrev pub betterOf : Best → ℕ → ℕ → Best
-betterOf b t p = if ltb (b .priority) p then record { task = t; priority = p } else b
+betterOf b t p = if ltb (b .priority) (levelOf p) then record { task = t; priority = levelOf p } else b
 
 -- one pass for the running task, where f gives priorities
 abbrev pub bestOf : (ℕ → ℕ) → Best → List ℕ → Best
 bestOf f b [] = b
-bestOf f b (t ∷ l) = bestOf f (betterOf b t (levelOf (f t))) l
+bestOf f b (t ∷ l) = bestOf f (betterOf b t (f t)) l

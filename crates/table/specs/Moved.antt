@@ -5,7 +5,7 @@ use mathlib.Core.Bool.{Bool, _&&_}
 use mathlib.Core.List.{List, [], _∷_, _++_}
 use lib.Dec.{eqb}
 use Rattle.lists.specs.Line.{line, pad}
-use Rattle.lists.specs.Lists.{rejoin}
+use Rattle.lists.specs.Lists.{if_then_else_, rejoin}
 use Rattle.lists.specs.Marks.{noMarks, marked, withMark}
 use Rattle.rules.specs.State.{State, setNth, taskOf, timerOf, isReady, isQueued, isHeld, ticksLeft, retime, placed, partnerOf, entryOf, meeting}
 use Rattle.rules.specs.declared.Place.the-variants.{Ready, Held}
@@ -17,6 +17,7 @@ use Rattle.rules.specs.declared.Task.{Task}
 use Rattle.rules.specs.declared.Timer.{Timer}
 use Rattle.rules.specs.declared.Place.{Place}
 use Rattle.rules.specs.declared.Supervisor.{Supervisor}
+use Rattle.table.specs.Numbers.{isNumber, shownOf}
 use Rattle.table.specs.declared.queues.Test.{Test}
 use Rattle.table.specs.declared.queues.Test.the-variants.{QueuedOn, HeldBy, DueAt, DueWithin}
 
@@ -43,6 +44,10 @@ movedOf s t p w = record {
   held = pad (rejoin (isHeld p) t (line (s .held)));
   delays = pad (retime (s .clock) (view s .tasks) w t (line (s .delays)));
 }
+
+-- what stands at the place of task t of n when it is ready, with no time, where k stood there; k where t is no task's number
+abbrev pub readiedTask : ℕ → ℕ → Task → Task
+readiedTask n t k = if isNumber t then placed (shownOf n t k) Ready Off else k
 
 -- those of the list are ready, with no time, in the table; the lines stay
 abbrev pub readiedOf : Supervisor → List ℕ → Supervisor

@@ -2,7 +2,7 @@
 ghost use mathlib.Core.Path.{_≡_};
 ghost use Rattle.rules.specs.State as state;
 ghost use Rattle.rules.specs.Whole.{view};
-ghost use Rattle.table.specs.Best.{betterOf, levelOf, lastOf};
+ghost use Rattle.table.specs.Best.{betterOf, lastOf};
 use rules::Supervisor;
 
 // A task and its priority.
@@ -18,21 +18,15 @@ fn last_of(n: u8) -> u8
     if n <= 31 { n } else { 31 }
 }
 
-// The level of the priority p; 0 where it is none.
-fn level(p: u8) -> u8
-    ensures { λ r. ⌜ r ≡ levelOf p ⌝ }
-{
-    if p <= 15 { p } else { 0 }
-}
-
-// The better of one and the next, whose level is p: the first of the highest level.
+// The better of one and the next, whose priority is p: the first of the highest level.
 fn better(b: Best, t: u8, p: u8) -> Best
     ensures { λ r. ⌜ r ≡ betterOf b t p ⌝ }
 {
-    if b.priority < p {
+    let level = if p <= 15 { p } else { 0 };
+    if b.priority < level {
         Best {
             task: t,
-            priority: p,
+            priority: level,
         }
     } else {
         b
@@ -55,8 +49,7 @@ pub fn running(s: Supervisor) -> u8
         }
         if t <= n {
             let at = (t - 1) as usize;
-            let k = s.tasks[at];
-            b = better(b, t, level(k.priority));
+            b = better(b, t, s.tasks[at].priority);
         }
     }
     b.task

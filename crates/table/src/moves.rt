@@ -1,44 +1,52 @@
 // The one way in which a task changes its place.
+ghost use lib.Dec.{ltb};
 ghost use mathlib.Core.Path.{_≡_};
+ghost use Rattle.lists.specs.Lists.{insert};
 ghost use Rattle.lists.specs.Line.{line, pad};
-ghost use Rattle.lists.specs.Marks.{noMarks, marked};
 ghost use Rattle.rules.specs.State.{retime};
 ghost use Rattle.rules.specs.Whole.{view};
-ghost use Rattle.table.specs.Moved.{movedOf, readiedOf, wokenOf, metOf, partedOf, leftOf};
+ghost use Rattle.table.specs.Moved.{movedOf, readiedOf, wokenOf, metOf, partedOf, leftOf, readiedTask};
 use super::place::is_held;
 use super::place::is_queued;
 use super::place::is_ready;
 use super::place::ticks_left;
+use super::tasks::fresh_task;
 use super::tasks::index_of;
 use super::tasks::is_number;
-use super::tasks::pick_task;
+use super::tasks::left_of;
 use super::tasks::placed_at;
 use super::tasks::shown;
+use super::tasks::task_of;
+use super::tasks::with_task;
 use rules::Meeting;
 use rules::Place;
 use rules::Supervisor;
+use rules::Task;
 use rules::Timer;
 
-// The ticks left of each of the line, by its number.
-fn keys_of(s: Supervisor, a: [u8; 31]) -> [u32; 32]
-    ensures { λ r. ⌜ r ≡ marked (leftOf s) (line a) noMarks ⌝ }
+// The line with t, which has n ticks left, before the first that has more, so behind those that have as many. Of a full line the last falls off.
+fn timed_in(s: Supervisor, a: [u8; 31], t: u8, n: u32) -> [u8; 31]
+    ensures { λ r. ⌜ r ≡ pad (insert (λ x. ltb n (leftOf s x)) t (line a)) ⌝ }
 {
-    let mut keys = [0u32; 32];
+    let mut r = [0u8; 31];
+    let mut carry = t;
+    let mut passed = false;
     for i in 0..31 {
         let x = a[i];
         if x == 0 {
-            return keys;
+            r[i] = carry;
+            return r;
         }
         let at = index_of(x);
-        let k = s.tasks[at];
-        let y = shown(s.created, x, k);
-        let w = y.timer;
-        let left = ticks_left(s.clock, w);
-        if x < 32 {
-            keys[x as usize] = left;
+        passed = passed | (n < left_of(s.clock, s.created, x, s.tasks[at]));
+        if passed {
+            r[i] = carry;
+            carry = x;
+        } else {
+            r[i] = x;
         }
     }
-    keys
+    r
 }
 
 // The delay queue without t, and with t in its place if it has a time now.
@@ -49,10 +57,7 @@ fn retimed(s: Supervisor, t: u8, w: Timer) -> [u8; 31]
     let a = lines::without(delays, t);
     match w {
         Timer::Off => a,
-        Timer::Due(d) => {
-            let keys = keys_of(s, a);
-            lines::put_by(a, t, keys, ticks_left(s.clock, w))
-        }
+        Timer::Due(d) => timed_in(s, a, t, ticks_left(s.clock, w)),
     }
 }
 
@@ -60,6 +65,7 @@ fn retimed(s: Supervisor, t: u8, w: Timer) -> [u8; 31]
 pub fn moved(s: Supervisor, t: u8, p: Place, w: Timer) -> Supervisor
     ensures { λ r. ⌜ r ≡ movedOf s t p w ⌝ }
 {
+    let mut n = with_task(s, t, placed_at(task_of(s, t), p, w));
     let ready = s.ready;
     let callers = s.callers;
     let held = s.held;
@@ -67,17 +73,23 @@ pub fn moved(s: Supervisor, t: u8, p: Place, w: Timer) -> Supervisor
     let callers_now = lines::rejoined(callers, t, is_queued(p));
     let held_now = lines::rejoined(held, t, is_held(p));
     let delays_now = retimed(s, t, w);
-    let at = index_of(t);
-    let k = s.tasks[at];
-    let x = shown(s.created, t, k);
-    let y = pick_task(is_number(t), placed_at(x, p, w), k);
-    let mut n = s;
     n.ready = ready_now;
     n.callers = callers_now;
     n.held = held_now;
     n.delays = delays_now;
-    n.tasks[at] = y;
     n
+}
+
+// What stands at the place of task t of n when it is ready, with no time, where k stood there; k where t is no task's number.
+fn readied_task(n: u8, t: u8, k: Task) -> Task
+    ensures { λ r. ⌜ r ≡ readiedTask n t k ⌝ }
+{
+    if is_number(t) {
+        let x = shown(n, t, k);
+        fresh_task(x.priority, x.entries)
+    } else {
+        k
+    }
 }
 
 // The tasks of the line are ready, with no time; the lines are as they were.
@@ -91,9 +103,7 @@ fn readied(s: Supervisor, l: [u8; 31]) -> Supervisor
             return n;
         }
         let at = index_of(t);
-        let k = n.tasks[at];
-        let x = shown(n.created, t, k);
-        n.tasks[at] = pick_task(is_number(t), placed_at(x, Place::Ready, Timer::Off), k);
+        n.tasks[at] = readied_task(n.created, t, n.tasks[at]);
     }
     n
 }

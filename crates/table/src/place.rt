@@ -13,13 +13,8 @@ pub fn is_ready(p: Place) -> bool
     ensures { λ r. ⌜ r ≡ isReady p ⌝ }
 {
     match p {
-        Place::Blank => false,
         Place::Ready => true,
-        Place::Delayed => false, // until its time comes
-        Place::Queued(_) => false,
-        Place::Held(_) => false,
-        Place::Accepting(_) => false,
-        Place::Completed => false,
+        _ => false, // not so one that is delayed until its time comes
     }
 }
 
@@ -27,13 +22,8 @@ pub fn is_queued(p: Place) -> bool
     ensures { λ r. ⌜ r ≡ isQueued p ⌝ }
 {
     match p {
-        Place::Blank => false,
-        Place::Ready => false,
-        Place::Delayed => false,
         Place::Queued(_) => true,
-        Place::Held(_) => false, // its call is accepted
-        Place::Accepting(_) => false,
-        Place::Completed => false,
+        _ => false, // not so one whose call is accepted
     }
 }
 
@@ -41,13 +31,8 @@ pub fn is_held(p: Place) -> bool
     ensures { λ r. ⌜ r ≡ isHeld p ⌝ }
 {
     match p {
-        Place::Blank => false,
-        Place::Ready => false,
-        Place::Delayed => false,
-        Place::Queued(_) => false, // its call is not accepted yet
         Place::Held(_) => true,
-        Place::Accepting(_) => false,
-        Place::Completed => false,
+        _ => false, // not so one whose call is not accepted yet
     }
 }
 
@@ -55,13 +40,8 @@ pub fn is_completed(p: Place) -> bool
     ensures { λ r. ⌜ r ≡ isCompleted p ⌝ }
 {
     match p {
-        Place::Blank => false, // not even created
-        Place::Ready => false,
-        Place::Delayed => false,
-        Place::Queued(_) => false,
-        Place::Held(_) => false,
-        Place::Accepting(_) => false,
         Place::Completed => true,
+        _ => false, // not so one that is not even created
     }
 }
 
@@ -69,13 +49,9 @@ pub fn partner_of(p: Place) -> u8
     ensures { λ r. ⌜ r ≡ partnerOf p ⌝ }
 {
     match p {
-        Place::Blank => 0,
-        Place::Ready => 0,
-        Place::Delayed => 0,
         Place::Queued(q) => q.target,
         Place::Held(m) => m.holder,
-        Place::Accepting(_) => 0,
-        Place::Completed => 0,
+        _ => 0, // who calls nobody
     }
 }
 
@@ -83,13 +59,9 @@ pub fn entry_of(p: Place) -> u8
     ensures { λ r. ⌜ r ≡ entryOf p ⌝ }
 {
     match p {
-        Place::Blank => 0,
-        Place::Ready => 0,
-        Place::Delayed => 0,
         Place::Queued(q) => q.entry,
         Place::Held(m) => m.entry,
-        Place::Accepting(_) => 0,
-        Place::Completed => 0,
+        _ => 0, // who calls no entry
     }
 }
 
@@ -98,13 +70,10 @@ pub fn expiry_of(p: Place) -> u8
     ensures { λ r. ⌜ r ≡ expiry p ⌝ }
 {
     match p {
-        Place::Blank => 0,
-        Place::Ready => 0,
         Place::Delayed => 1,
         Place::Queued(_) => 3,
-        Place::Held(_) => 0,
         Place::Accepting(_) => 6,
-        Place::Completed => 0,
+        _ => 0,
     }
 }
 
@@ -176,12 +145,7 @@ pub fn accepts_at(p: Place, e: u8) -> bool
     ensures { λ r. ⌜ r ≡ accepts p e ⌝ }
 {
     match p {
-        Place::Blank => false,
-        Place::Ready => false,
-        Place::Delayed => false,
-        Place::Queued(_) => false,
-        Place::Held(_) => false,
         Place::Accepting(o) => is_open(o.opens, e),
-        Place::Completed => false,
+        _ => false, // who does not wait to accept
     }
 }

@@ -1,18 +1,18 @@
 // The queues, picked out of a line by a test that is data.
+ghost use lib.Dec.{eqb};
+ghost use mathlib.Core.Bool.{_&&_};
 ghost use mathlib.Core.Path.{_≡_};
 ghost use Rattle.lists.specs.Line.{line, pad};
 ghost use Rattle.lists.specs.Lists.{filter};
 ghost use Rattle.rules.specs.Advance.{comesIn};
+ghost use Rattle.rules.specs.State.{isQueued, isHeld, partnerOf, entryOf};
 ghost use Rattle.rules.specs.Whole.{view};
 ghost use Rattle.table.specs.Moved.{isPicked, passesOf};
-use super::place::entry_of;
 use super::place::is_due;
-use super::place::is_held;
-use super::place::is_queued;
-use super::place::partner_of;
 use super::place::ticks_left;
 use super::tasks::index_of;
 use super::tasks::shown;
+use rules::Place;
 use rules::Supervisor;
 use rules::Task;
 use rules::Timer;
@@ -23,6 +23,26 @@ pub enum Test {
     HeldBy { holder: u8 },
     DueAt { now: u32 },
     DueWithin { now: u32, ticks: u32 },
+}
+
+// Whether a task in this place waits on entry e of task t.
+fn waits_on(p: Place, t: u8, e: u8) -> bool
+    ensures { λ r. ⌜ r ≡ (isQueued p && eqb (partnerOf p) t && eqb (entryOf p) e) ⌝ }
+{
+    match p {
+        Place::Queued(q) => (q.target == t) & (q.entry == e),
+        _ => false,
+    }
+}
+
+// Whether a task in this place is held by g.
+fn is_held_by(p: Place, g: u8) -> bool
+    ensures { λ r. ⌜ r ≡ (isHeld p && eqb (partnerOf p) g) ⌝ }
+{
+    match p {
+        Place::Held(m) => m.holder == g,
+        _ => false,
+    }
 }
 
 // Whether a time comes within n ticks from now.
@@ -40,10 +60,8 @@ fn passes(x: Task, q: Test) -> bool
     let p = x.place;
     let w = x.timer;
     match q {
-        Test::QueuedOn { target, entry } => {
-            is_queued(p) & (partner_of(p) == target) & (entry_of(p) == entry)
-        }
-        Test::HeldBy { holder } => is_held(p) & (partner_of(p) == holder),
+        Test::QueuedOn { target, entry } => waits_on(p, target, entry),
+        Test::HeldBy { holder } => is_held_by(p, holder),
         Test::DueAt { now } => is_due(now, w),
         Test::DueWithin { now, ticks } => comes_in(now, ticks, w),
     }
@@ -61,9 +79,7 @@ pub fn picked(s: Supervisor, a: [u8; 31], q: Test) -> [u8; 31]
             return r;
         }
         let at = index_of(x);
-        let k = s.tasks[at];
-        let y = shown(s.created, x, k);
-        if passes(y, q) {
+        if passes(shown(s.created, x, s.tasks[at]), q) {
             r[j] = x;
             j += 1;
         }

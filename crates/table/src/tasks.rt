@@ -1,11 +1,11 @@
 // The table of tasks.
 ghost use Prim.Native.Nat.{_<_};
 ghost use mathlib.Core.Path.{_≡_};
-ghost use Rattle.lists.specs.Lists.{if_then_else_};
-ghost use Rattle.rules.specs.State.{blank, taskOf, fresh, placed};
+ghost use Rattle.rules.specs.State.{blank, taskOf, fresh, placed, ticksLeft};
 ghost use Rattle.rules.specs.Whole.{view};
 ghost use Rattle.table.specs.Moved.{withTask};
 ghost use Rattle.table.specs.Numbers.{isNumber, indexOf, shownOf};
+use super::place::ticks_left;
 use rules::Place;
 use rules::Supervisor;
 use rules::Task;
@@ -59,17 +59,24 @@ pub fn index_of(t: u8) -> usize
     if is_number(t) { (t - 1) as usize } else { 0 }
 }
 
-pub fn pick_task(b: bool, x: Task, y: Task) -> Task
-    ensures { λ r. ⌜ r ≡ (if b then x else y) ⌝ }
-{
-    if b { x } else { y }
-}
-
 // Of n tasks, task t, where k is what stands at its place in the table; a blank one where t is the number of none.
 pub fn shown(n: u8, t: u8, k: Task) -> Task
     ensures { λ r. ⌜ r ≡ shownOf n t k ⌝ }
 {
-    pick_task(is_number(t) & (t <= n), k, blank_task())
+    if is_number(t) & (t <= n) {
+        k
+    } else {
+        blank_task()
+    }
+}
+
+// The ticks left of task x of n, where k stands at its place in the table.
+pub fn left_of(now: u32, n: u8, x: u8, k: Task) -> u32
+    ensures { λ r. ⌜ r ≡ ticksLeft now (shownOf n x k .timer) ⌝ }
+{
+    let y = shown(n, x, k);
+    let w = y.timer;
+    ticks_left(now, w)
 }
 
 // Task t; a blank one where t is the number of none.
@@ -77,22 +84,17 @@ pub fn task_of(s: Supervisor, t: u8) -> Task
     ensures { λ r. ⌜ r ≡ taskOf (view s) t ⌝ }
 {
     let at = index_of(t);
-    let k = s.tasks[at];
-    shown(s.created, t, k)
+    shown(s.created, t, s.tasks[at])
 }
 
 // The struct with task t as x.
 pub fn with_task(s: Supervisor, t: u8, x: Task) -> Supervisor
     ensures { λ r. ⌜ r ≡ withTask s t x ⌝ }
 {
-    if t == 0 {
-        return s;
-    }
-    if t > 31 {
-        return s;
-    }
-    let i = (t - 1) as usize;
     let mut n = s;
-    n.tasks[i] = x;
+    if is_number(t) {
+        let at = (t - 1) as usize;
+        n.tasks[at] = x;
+    }
     n
 }

@@ -6,11 +6,8 @@ use mathlib.Core.Bool.{Bool, true, false, _&&_}
 use mathlib.Core.Path.{_≡_, sym, _∙_, ap}
 use lib.Dec.{leb}
 use lib.ListN.{length, drop, getD}
-use Rattle.lists.proofs.Tests.{ways}
-use Rattle.rules.specs.State.{ticksLeft}
 use Rattle.rules.specs.Whole.{view}
-use Rattle.rules.specs.declared.Task.{Task}
-use Rattle.table.proofs.LeafLaws.{task-in, task-past}
+use Rattle.table.proofs.LeafLaws.{mapped-long, left-at}
 use Rattle.soundness.specs.Check.{leftOf, holdsIn, walked}
 use Rattle.soundness.specs.Marks.{withoutMark}
 use Rattle.soundness.proofs.Turns.{walk-blank, walk-on, walk-end}
@@ -19,7 +16,7 @@ use Rattle.soundness.proofs.stand.delays_hold.Tie as tie
 
 abbrev Inv-loop : tie.InvT-loop
 Inv-loop word s rest₀ last₀ i₀ rest last i =
-    (i ≤ 31) × (length (s .delays) ≡ 31) × (s .created ≤ 31) × (holdsIn (leftOf (view s)) word (s .delays) ≡ walked (leftOf (view s)) rest last (drop i (s .delays)))
+    (i ≤ 31) × (length (s .delays) ≡ 31) × (length (s .tasks) ≡ 31) × (holdsIn (leftOf (view s)) word (s .delays) ≡ walked (leftOf (view s)) rest last (drop i (s .delays)))
 
 abbrev μ-loop : tie.MeasureT-loop
 μ-loop word s rest₀ last₀ i₀ rest last i = 31 - i
@@ -27,7 +24,7 @@ abbrev μ-loop : tie.MeasureT-loop
 loop-holds : tie.Need-loop-holds Inv-loop μ-loop
 loop-holds c =
     let s = c .before .args .t1 in
-    (omega arith, search needs, c .before .pre, ap (λ (m : _). walked (leftOf (view s)) m 0 (s .delays)) (sym (c .next .ensures)))
+    (omega arith, search needs, search (needs, mapped-long), ap (λ (m : _). walked (leftOf (view s)) m 0 (s .delays)) (sym (c .next .ensures)))
 
 returns : tie.Need-returns Inv-loop μ-loop
 returns c =
@@ -38,44 +35,43 @@ returns c =
     ∙ sym (l .loop .inv .3 ∙ walk-blank (leftOf (view s)) (l .loop .rest) (l .loop .last) (s .delays) (l .loop .i) (omega arith) (n .before .if1 .taken))
 
 -- the ticks left that the code found, in the rules' words
-found : (c : tie.Joined2 Inv-loop μ-loop) →
-    let l = c .before .before .before .before in let s = l .before .before .args .t1 in
-    c .if2 .left ≡ leftOf (view s) (getD (s .delays) (l .loop .i) 0)
+found : (c : tie.After-left-of Inv-loop μ-loop) →
+    let l = c .before .before .before .before .before .before in let s = l .before .before .args .t1 in
+    c .left-of .result ≡ leftOf (view s) (getD (s .delays) (l .loop .i) 0)
 found c =
-    let l = c .before .before .before .before in let s = l .before .before .args .t1 in
-    let t = getD (s .delays) (l .loop .i) 0 in
-    ways (c .if2 .came)
-    (λ w. w .3 ∙ w .2 .ensures ∙ ap (λ (x : Task). ticksLeft (s .clock) (x .timer)) (task-in (s .tasks) (s .created) t (c .before .if1 .left) (w .0 .taken)))
-    (λ w. w .1 ∙ ap (λ (x : Task). ticksLeft (s .clock) (x .timer)) (task-past (s .tasks) (s .created) t (w .0 .left)))
+    let i = c .before .before in
+    let l = i .before .before .before .before in let s = l .before .before .args .t1 in
+    left-at s (getD (s .delays) (l .loop .i) 0) (i .index-of .result) (c .left-of .result) (l .loop .inv .2) (i .index-of .ensures .0) (c .left-of .ensures)
 
 -- the turn at a task, by what was found of it
 turn : (c : tie.After-has Inv-loop μ-loop) (b : Bool) →
     let j = c .before in
-    let l = j .before .before .before .before in let s = l .before .before .args .t1 in
+    let l = j .before .before .before .before .before .before in let s = l .before .before .args .t1 in
     let t = getD (s .delays) (l .loop .i) 0 in
-    (c .has .result && leb (l .loop .last) (j .if2 .left)) ≡ b →
+    (c .has .result && leb (l .loop .last) (j .left-of .result)) ≡ b →
     holdsIn (leftOf (view s)) (l .before .before .args .word) (s .delays)
     ≡ (b && walked (leftOf (view s)) (withoutMark (l .loop .rest) t) (leftOf (view s) t) (drop (l .loop .i + 1) (s .delays)))
 turn c b e =
     let j = c .before in
-    let l = j .before .before .before .before in let s = l .before .before .args .t1 in
+    let n = j .before .before .before in
+    let l = n .before .before .before in let s = l .before .before .args .t1 in
     let k : length (s .delays) ≡ 31 = l .loop .inv .1 in
-    l .loop .inv .3 ∙ walk-on (leftOf (view s)) (l .loop .rest) (l .loop .last) (s .delays) (l .loop .i) (omega arith) (j .before .if1 .left) b
+    l .loop .inv .3 ∙ walk-on (leftOf (view s)) (l .loop .rest) (l .loop .last) (s .delays) (l .loop .i) (omega arith) (n .if1 .left) b
     (sym e ∙ (λ z. c .has .ensures z && leb (l .loop .last) (found j z)))
 
 returns-2 : tie.Need-returns-2 Inv-loop μ-loop
-returns-2 c = sym (turn (c .before) false (c .if3 .left))
+returns-2 c = sym (turn (c .before) false (c .if2 .left))
 
 loop-again : tie.Need-loop-again Inv-loop μ-loop
 loop-again c =
     let h = c .before .before in
     let j = h .before in
-    let l = j .before .before .before .before in let s = l .before .before .args .t1 in
+    let l = j .before .before .before .before .before .before in let s = l .before .before .args .t1 in
     let v = l .loop .inv in (
       omega arith,
       v .1,
       v .2,
-      turn h true (c .before .if3 .taken) ∙ (λ z. walked (leftOf (view s)) (sym (c .without .ensures) z) (sym (found j) z) (drop (l .loop .i + 1) (s .delays))),
+      turn h true (c .before .if2 .taken) ∙ (λ z. walked (leftOf (view s)) (sym (c .without .ensures) z) (sym (found j) z) (drop (l .loop .i + 1) (s .delays))),
     )
 
 returns-3 : tie.Need-returns-3 Inv-loop μ-loop
@@ -87,5 +83,5 @@ returns-3 c =
 pub delays-hold-spec : {M : Type 1} → statement M
 delays-hold-spec =
     tie.close
-    (tie.spec Inv-loop μ-loop (λ c κs. search needs) loop-holds (λ c. omega arith) (λ c κs. search needs) (λ c κs. search needs) returns (λ c. omega arith) (λ c. search needs) (λ c. omega arith)
-    (λ c. omega arith) (λ c κs. search needs) (λ c κs. search needs) (λ c κs. search needs) returns-2 (λ c. search needs) (λ c. search needs) loop-again (λ c κs. search needs) returns-3)
+    (tie.spec Inv-loop μ-loop (λ c κs. search needs) loop-holds (λ c. omega arith) (λ c κs. search needs) (λ c κs. search needs) returns (λ c κs. search needs) (λ c. omega arith) (λ c. search needs)
+    (λ c κs. search needs) (λ c κs. search needs) (λ c κs. search needs) returns-2 (λ c. search needs) (λ c. search needs) loop-again (λ c κs. search needs) returns-3)

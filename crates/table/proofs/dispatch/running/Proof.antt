@@ -1,7 +1,7 @@
 use native.Mathlib.Omega.{arith}
 use borrow.Author.Needs.{needs}
 use Prim.Native.Nat.{_-_, _≤_}
-use mathlib.Core.Path.{_≡_, sym, _∙_}
+use mathlib.Core.Path.{_≡_, refl, sym, _∙_}
 use lib.ListN.{drop, length, getD}
 use Rattle.lists.specs.Line.{line}
 use Rattle.lists.proofs.Tests.{ways}
@@ -43,7 +43,7 @@ loop-again c =
     let v = l .loop .inv in
     let rest = rest-entry (s .ready) (l .loop .i) (omega arith) (c .before .if1 .left) in
     ways (c .if2 .came)
-    (λ w. (omega arith, v .1, v .2, v .3, rw (w .4) (v .4 ∙ best-turn s (l .loop .b) _ _ _ _ rest _ _ (c .before .if1 .left) (v .3) (w .0 .taken) (w .2 .ensures) (w .3 .ensures))))
+    (λ w. (omega arith, v .1, v .2, v .3, rw (w .2) (v .4 ∙ best-turn s (l .loop .b) _ _ _ _ rest _ _ (c .before .if1 .left) (v .3) (w .0 .taken) refl (w .1 .ensures))))
     (λ w. (omega arith, v .1, v .2, v .3, rw (w .1) (v .4 ∙ best-skip s (l .loop .b) _ _ _ _ rest (v .1) (v .3) (w .0 .left))))
 
 returns-2 : tie.Need-returns-2 Inv-loop μ-loop
@@ -55,4 +55,4 @@ pub running-spec : {M : Type 1} → statement M
 running-spec =
     tie.close
     (tie.spec Inv-loop μ-loop (λ c κs. search needs) loop-holds (λ c. omega arith) returns (λ c. omega arith) (λ c. search needs)
-    (λ c. omega (arith, in-table c)) (λ c. omega (arith, in-table c)) (λ c κs. search needs) (λ c κs. search needs) (λ c. omega arith) (λ c. omega arith) loop-again returns-2)
+    (λ c. omega (arith, in-table c)) (λ c. omega (arith, in-table c)) (λ c κs. search needs) (λ c. omega arith) (λ c. omega arith) loop-again returns-2)

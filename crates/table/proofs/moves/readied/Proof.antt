@@ -7,10 +7,8 @@ use lib.ListN.{drop, getD, length, length-set}
 use Rattle.lists.specs.Line.{line}
 use Rattle.lists.proofs.Turns.{rest-blank, rest-entry, rest-end}
 use Rattle.rules.specs.declared.Task.{Task}
-use Rattle.rules.specs.declared.Place.the-variants.{Ready}
-use Rattle.rules.specs.declared.Timer.the-variants.{Off}
 use Rattle.table.specs.Moved.{readiedOf}
-use Rattle.table.proofs.LeafLaws.{mapped-long, task-put, readied-on}
+use Rattle.table.proofs.LeafLaws.{mapped-long, readied-put, readied-on}
 use Rattle.table.proofs.moves.readied.Statement.{statement}
 use Rattle.table.proofs.moves.readied.Tie as tie
 
@@ -27,15 +25,15 @@ returns c =
 
 loop-again : tie.Need-loop-again Inv-loop μ-loop
 loop-again c =
-    let i = c .before .before .before .before .before in
+    let i = c .before .before in
     let e = i .before in
     let s = e .before .before .loop in
     let t = e .before .before .before .args .t2 in (
       omega arith,
-      length-set {A = Task} (s .n .tasks) _ (c .pick-task .result) ∙ s .inv .1,
+      length-set {A = Task} (s .n .tasks) _ (c .readied-task .result) ∙ s .inv .1,
       s .inv .2
           ∙ readied-on (s .n) (getD t (s .i) 0) _ _ _ (rest-entry t (s .i) (search needs) (e .if1 .left))
-          (task-put (s .n) (getD t (s .i) 0) Ready Off _ _ _ _ _ (s .inv .1) (i .index-of .ensures .0) (c .before .before .before .shown .ensures) (c .before .placed-at .ensures) (c .before .before .is-number .ensures) (c .pick-task .ensures)),
+          (readied-put (s .n) (getD t (s .i) 0) _ _ (s .inv .1) (i .index-of .ensures .0) (c .readied-task .ensures)),
     )
 
 returns-2 : tie.Need-returns-2 Inv-loop μ-loop
@@ -48,5 +46,4 @@ pub readied-spec : {M : Type 1} → statement M
 readied-spec =
     tie.close
     (tie.spec Inv-loop μ-loop (λ c. (omega arith, search (needs, mapped-long), refl)) (λ c. search needs) returns (λ c κs. search needs) (λ c. omega arith)
-    (λ c. search needs) (λ c κs. search needs) (λ c κs. search needs) (λ c κs. search needs) (λ c κs. search needs)
-    (λ c. omega arith) (λ c. search needs) (λ c. omega arith) (λ c. omega arith) loop-again returns-2)
+    (λ c. search needs) (λ c κs. search needs) (λ c. omega arith) (λ c. search needs) (λ c. omega arith) (λ c. omega arith) loop-again returns-2)

@@ -28,7 +28,7 @@ loop-holds c = (omega arith, omega arith, fill-none, refl, search (needs, mapped
 returns : tie.Need-returns Inv-loop μ-loop
 returns c =
     let l = c .before .before .loop in
-    simp (l .inv .3, rest-blank (c .before .before .before .args .t2) (l .i) (search needs) (c .if1 .taken)) (sym (filled (l .r) (l .j) (l .inv .2)))
+    rw (l .inv .3, rest-blank (c .before .before .before .args .t2) (l .i) (search needs) (c .if1 .taken)) (sym (filled (l .r) (l .j) (l .inv .2)))
 
 -- what the code's test says of the task at place i
 passes-here : (c : tie.After-passes Inv-loop μ-loop) → let a = c .before .before .before .before .before .before .before .args in c .passes .result ≡ passesOf (view (a .t1)) (a .q) (getD (a .t2) (c .before .before .before .before .before .before .loop .i) 0)
@@ -48,14 +48,14 @@ loop-again c =
     let room : l .j < 31 = omega arith in (
       omega arith,
       omega arith,
-      simp (w .1, w .2) (fill (l .r) (l .j) _ room (l .inv .2)),
+      rw (w .1, w .2) (fill (l .r) (l .j) _ room (l .inv .2)),
       rw (w .1, w .2) (l .inv .3 ∙ pick-on p (l .r) (l .j) _ _ _ room (l .inv .2) rest (test ∙ w .0 .taken)),
       l .inv .4,
     ))
     (λ w. (
       omega arith,
       omega arith,
-      simp (w .1, w .2) (l .inv .2),
+      rw (w .1, w .2) (l .inv .2),
       rw (w .1, w .2) (l .inv .3 ∙ pick-off p _ _ _ (take (l .j) (l .r)) rest (test ∙ w .0 .left)),
       l .inv .4,
     ))
@@ -64,7 +64,7 @@ returns-2 : tie.Need-returns-2 Inv-loop μ-loop
 returns-2 c =
     let l = c .before .loop in
     let k : length (c .before .before .args .t2) ≡ 31 = search needs in
-    simp (l .inv .3, rest-end (c .before .before .args .t2) (l .i) (omega arith)) (sym (filled (l .r) (l .j) (l .inv .2)))
+    rw (l .inv .3, rest-end (c .before .before .args .t2) (l .i) (omega arith)) (sym (filled (l .r) (l .j) (l .inv .2)))
 
 pub picked-spec : {M : Type 1} → statement M
 picked-spec =
