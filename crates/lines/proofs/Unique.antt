@@ -11,6 +11,7 @@ use Rattle.lines.proofs.first_of.Reads as first-of
 use Rattle.lines.proofs.last_of.Reads as last-of
 use Rattle.lines.proofs.marks_of.Reads as marks-of
 use Rattle.lines.proofs.picked.Reads as picked
+use Rattle.lines.proofs.put_by.Reads as put-by
 
 pub len-once : Once len.Post
 len-once κs x r r′ y y′ p q = p ∙ sym q
@@ -38,3 +39,6 @@ marks-of-once κs x r r′ y y′ p q = p ∙ sym q
 
 pub picked-once : Once picked.Post
 picked-once κs x r r′ y y′ p q = p ∙ sym q
+
+pub put-by-once : Once put-by.Post
+put-by-once κs x r r′ y y′ p q = p ∙ sym q

@@ -6,7 +6,7 @@ ghost use lib.Dec.{ltb};
 ghost use lib.ListN.{length, set};
 ghost use Rattle.lists.specs.Lists.{if_then_else_, remove, rejoin, first, last};
 ghost use Rattle.lists.specs.Line.{line, pad};
-ghost use Rattle.lists.specs.Marks.{noMarks, markOf, marked, withMark};
+ghost use Rattle.lists.specs.Marks.{noMarks, markOf, marked, withMark, insertBy};
 
 // How many stand in the line.
 pub fn len(a: [u8; 31]) -> usize
@@ -171,6 +171,37 @@ pub fn picked(a: [u8; 31], marks: [u8; 32], k: u8) -> [u8; 31]
         if mark_of(marks, x) == k {
             r[j] = x;
             j += 1;
+        }
+    }
+    r
+}
+
+// The key of t; 0 for a number that has none.
+fn key_of(keys: [u32; 32], t: u8) -> u32
+    ensures { λ r. ⌜ r ≡ markOf keys t ⌝ }
+{
+    if t < 32 { keys[t as usize] } else { 0 }
+}
+
+// The line with t, whose key is k, in its order: before the first that has a larger key, so behind those that have an equal one. Of a full line the last falls off.
+pub fn put_by(a: [u8; 31], t: u8, keys: [u32; 32], k: u32) -> [u8; 31]
+    ensures { λ r. ⌜ r ≡ pad (insertBy keys k t (line a)) ⌝ }
+{
+    let mut r = [0u8; 31];
+    let mut carry = t;
+    let mut passed = false;
+    for i in 0..31 {
+        let x = a[i];
+        if x == 0 {
+            r[i] = carry;
+            return r;
+        }
+        passed = passed | (k < key_of(keys, x));
+        if passed {
+            r[i] = carry;
+            carry = x;
+        } else {
+            r[i] = x;
         }
     }
     r

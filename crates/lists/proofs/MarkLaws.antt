@@ -1,4 +1,4 @@
--- Laws of marks, and of the filters that they make: two filters in a row, tests that agree, lists joined.
+-- Laws of marks, and of the filters and the insertion that they make: two filters in a row, tests that agree, lists joined.
 -- Assumes nothing.
 use Prim.Native.Nat.{ℕ, _+_, _≤_, _<_}
 use mathlib.Core.Path.{_≡_, refl, sym, _∙_, ap}
@@ -9,11 +9,11 @@ use lib.Dec.{eqb, ltb}
 use lib.ListN.{length, set, length-set, getD-replicate, List·getD-eq-default}
 use lib.Seq.{getD-set-same, getD-set-other, set-out}
 use borrow.Author.Tests.{eq-eqb, ne-eqb, ltb-true, ltb-false}
-use Rattle.lists.specs.Lists.{bit, filter, remove, count}
-use Rattle.lists.specs.Marks.{noMarks, markOf, marked}
+use Rattle.lists.specs.Lists.{bit, filter, remove, insert, count}
+use Rattle.lists.specs.Marks.{noMarks, markOf, marked, insertBy}
 use Rattle.lists.proofs.ListLaws.{by-bool, by-eq}
 
--- ── filters ──
+-- ── filters and insertion ──
 
 -- tests that agree on the members pick the same
 pub filter-same : (f g : ℕ → Bool) (l : List ℕ) → ((x : ℕ) → 0 < count x l → f x ≡ g x) → filter f l ≡ filter g l
@@ -21,6 +21,14 @@ filter-same f g [] h = refl
 filter-same f g (x ∷ xs) h =
     let here = h x (rw (eq-eqb x x refl) (omega arith)) in
     let rest = filter-same f g xs (λ y k. h y (omega arith)) in
+    rw (here, rest)
+
+-- tests that agree on the members insert alike
+pub insert-same : (f g : ℕ → Bool) (t : ℕ) (l : List ℕ) → ((x : ℕ) → 0 < count x l → f x ≡ g x) → insert f t l ≡ insert g t l
+insert-same f g t [] h = refl
+insert-same f g t (x ∷ xs) h =
+    let here = h x (rw (eq-eqb x x refl) (omega arith)) in
+    let rest = insert-same f g t xs (λ y k. h y (omega arith)) in
     rw (here, rest)
 
 -- all pass
@@ -63,6 +71,17 @@ mark-in f (t ∷ ts) m x h k =
     (λ e. mark-out f ts (set m t (f t)) x z ∙ rw e (getD-set-same m x (f x) 0 k))
     (λ e. absurd (omega (arith, z, rw (ne-eqb t x e) at h))))
     (λ z. mark-in f ts (set m t (f t)) x (omega arith) (omega (arith, length-set m t (f t))))
+
+-- who is in the list has what f gives as its mark, if f gives nothing to the numbers that have none
+pub mark-is : (f : ℕ → ℕ) (l : List ℕ) (x : ℕ) → 0 < count x l → (32 ≤ x → f x ≡ 0) → markOf (marked f l noMarks) x ≡ f x
+mark-is f l x h k =
+    by-bool (ltb x 32)
+    (λ e. mark-in f l noMarks x h (ltb-true x 32 e))
+    (λ e. List·getD-eq-default (marked f l noMarks) 0 (omega (arith, ltb-false x 32 e, marked-length f l noMarks)) ∙ sym (k (ltb-false x 32 e)))
+
+-- insertion by keys is insertion by what f gives
+pub insert-by : (f : ℕ → ℕ) (k t : ℕ) (l : List ℕ) → ((x : ℕ) → 32 ≤ x → f x ≡ 0) → insertBy (marked f l noMarks) k t l ≡ insert (λ x. ltb k (f x)) t l
+insert-by f k t l h = insert-same _ _ t l (λ x j. ap (ltb k) (mark-is f l x j (h x)))
 
 -- one turn of marking: x has a place among the marks
 pub mark-on : (f : ℕ → ℕ) (xs : List ℕ) (x : ℕ) (ys m : List ℕ) (v : ℕ) → xs ≡ x ∷ ys → v ≡ f x → marked f xs m ≡ marked f ys (set m x v)

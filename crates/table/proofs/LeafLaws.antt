@@ -14,8 +14,9 @@ use Rattle.lists.specs.Line.{line, pad}
 use Rattle.lists.proofs.ListLaws.{by-bool, by-eq, clash}
 use Rattle.lists.proofs.Tests.{and-first, and-second}
 use Rattle.lists.proofs.LineLaws.{left-over, line-picked}
-use Rattle.lists.specs.Lists.{if_then_else_, remove, rejoin, insert}
-use Rattle.lists.specs.Marks.{noMarks, markOf, marked, withMark}
+use Rattle.lists.proofs.MarkLaws.{insert-by}
+use Rattle.lists.specs.Lists.{if_then_else_, remove, rejoin}
+use Rattle.lists.specs.Marks.{noMarks, markOf, marked, withMark, insertBy}
 use Rattle.rules.specs.State.{blank, nth, setNth, taskOf, isReady, isQueued, isHeld, retime, ticksLeft, placed}
 use Rattle.rules.specs.Whole.{view}
 use Rattle.rules.specs.declared.Supervisor.{Supervisor}
@@ -128,9 +129,14 @@ pub with-out : (s : Supervisor) (t : ℕ) (x : Task) → length (s .tasks) ≡ 3
 with-out s t x l e = ap (with-tasks s) (set-none (s .tasks) x t l e)
 
 -- the delay queue with t in its place: ordered insertion by the ticks left
-pub retime-due : (s : Supervisor) (t d n : ℕ) (l : List ℕ) → length (s .delays) ≡ 31 → l ≡ pad (remove t (line (s .delays))) → n ≡ ticksLeft (s .clock) (Due d)
-    → pad (insert (λ x. ltb n (leftOf s x)) t (line l)) ≡ pad (retime (s .clock) (view s .tasks) (Due d) t (line (s .delays)))
-retime-due s t d n l k e q = rw (q, left-over (s .delays) t l k e)
+pub retime-due : (s : Supervisor) (t d n : ℕ) (l keys : List ℕ) → length (s .tasks) ≡ 31 → length (s .delays) ≡ 31 → l ≡ pad (remove t (line (s .delays))) → keys ≡ marked (leftOf s) (line l) noMarks → n ≡ ticksLeft (s .clock) (Due d)
+    → pad (insertBy keys n t (line l)) ≡ pad (retime (s .clock) (view s .tasks) (Due d) t (line (s .delays)))
+retime-due s t d n l keys long k e em q =
+    rw (em, q, insert-by (leftOf s) (ticksLeft (s .clock) (Due d)) t (line l) none, left-over (s .delays) t l k e)
+  where
+    -- a number above 31 is nobody's, and has no ticks left
+    none : (x : ℕ) → 32 ≤ x → leftOf s x ≡ 0
+    none x h = ap (λ (y : Task). ticksLeft (s .clock) (y .timer)) (sym (task-out (s .tasks) (s .created) x (omega arith)))
 
 pub moved-law :
     (s : Supervisor) (t : ℕ) (p : Place) (w : Timer) (n : Supervisor) (x y : Task) (b1 b2 b3 : Bool) (r c h d : List ℕ) → x ≡ taskOf (view s) t → y ≡ placed x p w → n ≡ withTask s t y

@@ -1,8 +1,7 @@
 // The one way in which a task changes its place.
-ghost use lib.Dec.{ltb};
 ghost use mathlib.Core.Path.{_≡_};
-ghost use Rattle.lists.specs.Lists.{insert};
 ghost use Rattle.lists.specs.Line.{line, pad};
+ghost use Rattle.lists.specs.Marks.{noMarks, marked};
 ghost use Rattle.rules.specs.State.{retime};
 ghost use Rattle.rules.specs.Whole.{view};
 ghost use Rattle.table.specs.Moved.{movedOf, readiedOf, wokenOf, metOf, partedOf, leftOf, readiedTask};
@@ -24,29 +23,23 @@ use rules::Supervisor;
 use rules::Task;
 use rules::Timer;
 
-// The line with t, which has n ticks left, before the first that has more, so behind those that have as many. Of a full line the last falls off.
-fn timed_in(s: Supervisor, a: [u8; 31], t: u8, n: u32) -> [u8; 31]
-    ensures { λ r. ⌜ r ≡ pad (insert (λ x. ltb n (leftOf s x)) t (line a)) ⌝ }
+// The ticks left of each of the line, by its number.
+fn keys_of(s: Supervisor, a: [u8; 31]) -> [u32; 32]
+    ensures { λ r. ⌜ r ≡ marked (leftOf s) (line a) noMarks ⌝ }
 {
-    let mut r = [0u8; 31];
-    let mut carry = t;
-    let mut passed = false;
+    let mut keys = [0u32; 32];
     for i in 0..31 {
         let x = a[i];
         if x == 0 {
-            r[i] = carry;
-            return r;
+            return keys;
         }
         let at = index_of(x);
-        passed = passed | (n < left_of(s.clock, s.created, x, s.tasks[at]));
-        if passed {
-            r[i] = carry;
-            carry = x;
-        } else {
-            r[i] = x;
+        let left = left_of(s.clock, s.created, x, s.tasks[at]);
+        if x < 32 {
+            keys[x as usize] = left;
         }
     }
-    r
+    keys
 }
 
 // The delay queue without t, and with t in its place if it has a time now.
@@ -57,7 +50,10 @@ fn retimed(s: Supervisor, t: u8, w: Timer) -> [u8; 31]
     let a = lines::without(delays, t);
     match w {
         Timer::Off => a,
-        Timer::Due(d) => timed_in(s, a, t, ticks_left(s.clock, w)),
+        Timer::Due(d) => {
+            let keys = keys_of(s, a);
+            lines::put_by(a, t, keys, ticks_left(s.clock, w))
+        }
     }
 }
 
