@@ -1,6 +1,6 @@
 -- From what the parts of the reader promise to what a line says.
 -- Assumes nothing.
-use Prim.Native.Nat.{ℕ, _-_, _%_, _≤_, _<_, min}
+use Prim.Native.Nat.{ℕ, _-_, _≤_, _<_, min}
 use mathlib.Core.Path.{_≡_, refl, sym, ap, _∙_}
 use mathlib.Core.Bool.{true, false, false≢true}
 use mathlib.Core.List.{List, [], _∷_}
@@ -8,7 +8,6 @@ use native.Mathlib.Omega.{arith}
 use lib.Dec.{eqb}
 use lib.ListN.{length, take, drop, length-take}
 use lib.Seq.{take-at}
-use lib.IntN.{ℤ}
 use borrow.Author.Tests.{eqb-true, eq-eqb, le-ltb}
 use Rattle.lists.proofs.Tests.{and-first, and-second}
 use Rattle.calls.specs.Record.{encode}
@@ -19,7 +18,7 @@ use Rattle.calls.specs.declared.Call.the-variants.{Create, Delay, Call, Select,
 use Rattle.script.specs.CallText.{textOf}
 use Rattle.script.specs.Rows.{textIn, cut, Grown}
 use Rattle.script.specs.Says.{Fits, Says}
-use Rattle.script.specs.Guess.{alike, hear, unseen, timeOf, callBy, guessBy, guessOf}
+use Rattle.script.specs.Guess.{alike, hear, unseen, guessBy, guessOf}
 use Rattle.script.specs.declared.guess.Seen.{Seen}
 use Rattle.script.specs.declared.row.Row.{Row}
 use Rattle.script.specs.declared.Line.the-variants as L
@@ -51,11 +50,9 @@ record-taken c room after w n h p q m =
 
 -- ── the guess ──
 
-pub guess-is : (words : List ℕ) (s : Seen) (t : ℤ) (r : C.Call) → s ≡ hear unseen words → t ≡ timeOf (s .minus) (s .last .number)
-    → r ≡ callBy (s .letters % 432) (s .fourth) (s .third) (s .second) (s .last) t → r ≡ guessOf words
+pub guess-is : (words : List ℕ) (s : Seen) (r : C.Call) → s ≡ hear unseen words → r ≡ guessBy s → r ≡ guessOf words
 unfolding guessOf
-guess-is words s t r p q e =
-    e ∙ ap (callBy (s .letters % 432) (s .fourth) (s .third) (s .second) (s .last)) q ∙ ap guessBy p
+guess-is words s r p e = e ∙ ap guessBy p
 
 -- ── what words say ──
 

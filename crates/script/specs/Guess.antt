@@ -73,22 +73,22 @@ selectBy letters b c d time n =
     else if eqb letters 9 then Select c S.Else
     else Advance n
 
--- the call that the sum of the letters stands for, with the four last words a, b, c, d; each form of a call has a sum of its own
-abbrev pub callBy : ℕ → Word → Word → Word → Word → ℤ → C.Call
-callBy letters a b c d time =
-    if eqb letters 4 then Create (c .byte) (d .byte)
+-- the call that what is seen looks like, by the sum of its letters: each form of a call has a sum of its own
+abbrev pub callBy : ℕ → Seen → ℤ → C.Call
+callBy letters s time =
+    if eqb letters 4 then Create (s .second .byte) (s .last .byte)
     else if eqb letters 367 then Delay time
-    else if eqb letters 284 then Call (c .byte) (d .byte) Simple
-    else if eqb letters 383 then Call (a .byte) (b .byte) (Timed time)
-    else if eqb letters 160 then Call (b .byte) (c .byte) Conditional
+    else if eqb letters 284 then Call (s .second .byte) (s .last .byte) Simple
+    else if eqb letters 383 then Call (s .fourth .byte) (s .third .byte) (Timed time)
+    else if eqb letters 160 then Call (s .third .byte) (s .second .byte) Conditional
     else if eqb letters 215 then End
     else if eqb letters 17 then Finish
     else if eqb letters 299 then Tick
-    else selectBy letters (b .set) (c .set) (d .set) time (d .number)
+    else selectBy letters (s .third .set) (s .second .set) (s .last .set) time (s .last .number)
 
--- the call that what is seen looks like; the sum of the letters of "none" is 432, so that word counts for nothing
+-- the sum of the letters of "none" is 432, so that word counts for nothing
 abbrev pub guessBy : Seen → C.Call
-guessBy s = callBy (s .letters % 432) (s .fourth) (s .third) (s .second) (s .last) (timeOf (s .minus) (s .last .number))
+guessBy s = callBy (s .letters % 432) s (timeOf (s .minus) (s .last .number))
 
 -- the call that words look like
 unfoldable pub guessOf : List ℕ → C.Call

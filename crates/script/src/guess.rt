@@ -2,7 +2,7 @@
 // prints it and compares.
 ghost use mathlib.Core.Path.{_≡_};
 ghost use Prim.Native.Nat.{_%_};
-ghost use Rattle.script.specs.Guess.{bitOf, grownOf, addedOf, heardOf, hear, unseen, timeOf, selectBy, callBy, guessOf};
+ghost use Rattle.script.specs.Guess.{bitOf, grownOf, addedOf, heardOf, hear, unseen, timeOf, selectBy, guessBy};
 use calls::Call;
 use calls::CallMode;
 use calls::SelectMode;
@@ -112,7 +112,7 @@ fn nothing() -> Seen
 }
 
 // What is seen of words.
-fn seen_in(words: &[u8]) -> Seen
+pub fn seen_in(words: &[u8]) -> Seen
     ensures { λ r. ⌜ r ≡ hear unseen (now (words .entry)) ⌝ }
 {
     let mut s = nothing();
@@ -156,47 +156,44 @@ fn select_by(letters: u64, b: u8, c: u8, d: u8, time: i32, n: u32) -> Call
     }
 }
 
-// The call that the sum of the letters stands for, with the four last words a, b, c, d. Each form of a call has a sum of its own; `none` counts
-// for nothing, since the sum of its letters is 432.
-fn call_by(letters: u64, a: Word, b: Word, c: Word, d: Word, time: i32) -> Call
-    ensures { λ r. ⌜ r ≡ callBy letters a b c d time ⌝ }
+// The call that what is seen looks like. Each form of a call has a sum of letters of its own; `none` counts for nothing, since the sum of its
+// letters is 432.
+pub fn guess_by(s: Seen) -> Call
+    ensures { λ r. ⌜ r ≡ guessBy s ⌝ }
 {
+    let letters = s.letters % 432;
+    let time = time_of(s.minus, s.last.number);
     match letters {
         4 => Call::Create {
-            priority: c.byte,
-            entries: d.byte,
+            priority: s.second.byte,
+            entries: s.last.byte,
         },
         367 => Call::Delay(time),
         284 => Call::Call {
-            target: c.byte,
-            entry: d.byte,
+            target: s.second.byte,
+            entry: s.last.byte,
             mode: CallMode::Simple,
         },
         383 => Call::Call {
-            target: a.byte,
-            entry: b.byte,
+            target: s.fourth.byte,
+            entry: s.third.byte,
             mode: CallMode::Timed(time),
         },
         160 => Call::Call {
-            target: b.byte,
-            entry: c.byte,
+            target: s.third.byte,
+            entry: s.second.byte,
             mode: CallMode::Conditional,
         },
         215 => Call::End,
         17 => Call::Finish,
         299 => Call::Tick,
-        _ => select_by(letters, b.set, c.set, d.set, time, d.number),
+        _ => select_by(
+            letters,
+            s.third.set,
+            s.second.set,
+            s.last.set,
+            time,
+            s.last.number,
+        ),
     }
-}
-
-// The call that words look like.
-pub fn guess_at(words: &[u8]) -> Call
-    ensures { λ r. ⌜ r ≡ guessOf (now (words .entry)) ⌝ }
-{
-    let s = seen_in(words);
-    let a = s.fourth;
-    let b = s.third;
-    let c = s.second;
-    let d = s.last;
-    call_by(s.letters % 432, a, b, c, d, time_of(s.minus, d.number))
 }

@@ -5,7 +5,8 @@ ghost use Rattle.script.specs.Words.{partOf, wordsOf};
 ghost use Rattle.script.specs.Says.{Says};
 ghost use Rattle.script.specs.Guess.{alike};
 use crate::Line;
-use crate::guess::guess_at;
+use crate::guess::guess_by;
+use crate::guess::seen_in;
 use crate::print::with_call;
 use crate::row::Row;
 use crate::row::empty;
@@ -69,7 +70,7 @@ fn read_words(words: &[u8]) -> Line
     if words.len() == 0 {
         return Line::Nothing;
     }
-    let call = guess_at(words);
+    let call = guess_by(seen_in(words));
     let row = with_call(with_byte(empty(), b' '), call);
     let text = row.bytes;
     let n = least(row.place, 64);

@@ -1,20 +1,26 @@
-use mir.Facts.{toZ-ofZ}
+use mathlib.Core.Path.{_≡_}
+use mir.Syntax.{w32}
+use mir.Val.{toZ, ofZ}
 use borrow.Author.Tests.{ne-eqb}
 use borrow.Author.Needs.{needs}
-use Rattle.script.proofs.guess.call_by.Statement.{statement}
-use Rattle.script.proofs.guess.call_by.Tie as tie
+use Rattle.script.proofs.guess.guess_by.Statement.{statement}
+use Rattle.script.proofs.guess.guess_by.Tie as tie
+
+-- the duration as an arm has it
+timed : (c : tie.After-time-of) → toZ w32 (ofZ w32 (c .time-of .result)) ≡ c .time-of .result
+timed c = search needs
 
 returns : tie.Need-returns
 returns c = rw (c .match .keys1)
 
 returns-2 : tie.Need-returns-2
-returns-2 c = rw (c .match .keys2, toZ-ofZ (c .before .fits .time))
+returns-2 c = rw (c .match .keys2, timed (c .before), c .before .time-of .ensures)
 
 returns-3 : tie.Need-returns-3
 returns-3 c = rw (c .match .keys3)
 
 returns-4 : tie.Need-returns-4
-returns-4 c = rw (c .match .keys4, toZ-ofZ (c .before .fits .time))
+returns-4 c = rw (c .match .keys4, timed (c .before), c .before .time-of .ensures)
 
 returns-5 : tie.Need-returns-5
 returns-5 c = rw (c .match .keys5)
@@ -40,12 +46,13 @@ returns-9 c =
       ne-eqb _ _ (n .0 .0 .0 .0 .0 .1),
       ne-eqb _ _ (n .0 .0 .0 .0 .0 .0 .1),
       ne-eqb _ _ (n .0 .0 .0 .0 .0 .0 .0 .1),
-    ) (rw (toZ-ofZ (c .before .before .fits .time)) at (c .select-by .ensures))
+    ) (rw (timed (c .before .before), c .before .before .time-of .ensures) at (c .select-by .ensures))
 
-pub call-by-spec : {M : Type 1} → statement M
-call-by-spec =
+pub guess-by-spec : {M : Type 1} → statement M
+guess-by-spec =
     tie.close
     (tie.spec
+    (λ c κs. search needs)
     (λ c κs. search needs)
     returns
     returns-2
