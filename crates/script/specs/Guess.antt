@@ -42,13 +42,24 @@ addedOf n b = if ltb 64 b then n % 65536 + b else n
 abbrev pub heardOf : Seen → ℕ → Seen
 heardOf s b =
     if eqb b 32
-    then record { letters = s .letters; minus = s .minus; fourth = s .third; third = s .second; second = s .last; last = fresh }
+    then record {
+      letters = s .letters;
+      minus = s .minus;
+      fourth = s .third;
+      third = s .second;
+      far = s .near;
+      second = s .last .byte;
+      near = s .last .set;
+      last = fresh;
+    }
     else record {
       letters = addedOf (s .letters) b;
       minus = eqb b 45 || s .minus;
       fourth = s .fourth;
       third = s .third;
+      far = s .far;
       second = s .second;
+      near = s .near;
       last = grownOf (s .last) b;
     }
 
@@ -59,7 +70,7 @@ hear s (b ∷ l) = hear (heardOf s b) l
 
 -- nothing is seen yet
 abbrev pub unseen : Seen
-unseen = record { letters = 0; minus = false; fourth = fresh; third = fresh; second = fresh; last = fresh }
+unseen = record { letters = 0; minus = false; fourth = 0; third = 0; far = 0; second = 0; near = 0; last = fresh }
 
 -- a number with or without a minus, as a duration
 abbrev pub timeOf : Bool → ℕ → ℤ
@@ -76,15 +87,15 @@ selectBy letters b c d time n =
 -- the call that what is seen looks like, by the sum of its letters: each form of a call has a sum of its own
 abbrev pub callBy : ℕ → Seen → ℤ → C.Call
 callBy letters s time =
-    if eqb letters 4 then Create (s .second .byte) (s .last .byte)
+    if eqb letters 4 then Create (s .second) (s .last .byte)
     else if eqb letters 367 then Delay time
-    else if eqb letters 284 then Call (s .second .byte) (s .last .byte) Simple
-    else if eqb letters 383 then Call (s .fourth .byte) (s .third .byte) (Timed time)
-    else if eqb letters 160 then Call (s .third .byte) (s .second .byte) Conditional
+    else if eqb letters 284 then Call (s .second) (s .last .byte) Simple
+    else if eqb letters 383 then Call (s .fourth) (s .third) (Timed time)
+    else if eqb letters 160 then Call (s .third) (s .second) Conditional
     else if eqb letters 215 then End
     else if eqb letters 17 then Finish
     else if eqb letters 299 then Tick
-    else selectBy letters (s .third .set) (s .second .set) (s .last .set) time (s .last .number)
+    else selectBy letters (s .far) (s .near) (s .last .set) time (s .last .number)
 
 -- the sum of the letters of "none" is 432, so that word counts for nothing
 abbrev pub guessBy : Seen → C.Call

@@ -17,13 +17,16 @@ pub struct Word {
     pub number: u32,
 }
 
-// What is seen of a line: the sum of its letters, whether there is a minus, and its four last words.
+// What is seen of a line: the sum of its letters, whether there is a minus, and its four last words: of the fourth, the third and the second
+// the byte, of the third and the second the open set too (`far` and `near`), and the last.
 pub struct Seen {
     pub letters: u64,
     pub minus: bool,
-    pub fourth: Word,
-    pub third: Word,
-    pub second: Word,
+    pub fourth: u8,
+    pub third: u8,
+    pub far: u8,
+    pub second: u8,
+    pub near: u8,
     pub last: Word,
 }
 
@@ -61,9 +64,6 @@ fn added(n: u64, b: u8) -> u64
 fn heard(s: Seen, b: u8) -> Seen
     ensures { λ r. ⌜ r ≡ heardOf s b ⌝ }
 {
-    let fourth = s.fourth;
-    let third = s.third;
-    let second = s.second;
     let last = s.last;
     if b == 32 {
         let new = Word {
@@ -74,9 +74,11 @@ fn heard(s: Seen, b: u8) -> Seen
         Seen {
             letters: s.letters,
             minus: s.minus,
-            fourth: third,
-            third: second,
-            second: last,
+            fourth: s.third,
+            third: s.second,
+            far: s.near,
+            second: last.byte,
+            near: last.set,
             last: new,
         }
     } else {
@@ -84,9 +86,11 @@ fn heard(s: Seen, b: u8) -> Seen
         Seen {
             letters: added(s.letters, b),
             minus: (b == 45) | s.minus,
-            fourth,
-            third,
-            second,
+            fourth: s.fourth,
+            third: s.third,
+            far: s.far,
+            second: s.second,
+            near: s.near,
             last: more,
         }
     }
@@ -104,9 +108,11 @@ fn nothing() -> Seen
     Seen {
         letters: 0,
         minus: false,
-        fourth: new,
-        third: new,
-        second: new,
+        fourth: 0,
+        third: 0,
+        far: 0,
+        second: 0,
+        near: 0,
         last: new,
     }
 }
@@ -165,35 +171,28 @@ pub fn guess_by(s: Seen) -> Call
     let time = time_of(s.minus, s.last.number);
     match letters {
         4 => Call::Create {
-            priority: s.second.byte,
+            priority: s.second,
             entries: s.last.byte,
         },
         367 => Call::Delay(time),
         284 => Call::Call {
-            target: s.second.byte,
+            target: s.second,
             entry: s.last.byte,
             mode: CallMode::Simple,
         },
         383 => Call::Call {
-            target: s.fourth.byte,
-            entry: s.third.byte,
+            target: s.fourth,
+            entry: s.third,
             mode: CallMode::Timed(time),
         },
         160 => Call::Call {
-            target: s.third.byte,
-            entry: s.second.byte,
+            target: s.third,
+            entry: s.second,
             mode: CallMode::Conditional,
         },
         215 => Call::End,
         17 => Call::Finish,
         299 => Call::Tick,
-        _ => select_by(
-            letters,
-            s.third.set,
-            s.second.set,
-            s.last.set,
-            time,
-            s.last.number,
-        ),
+        _ => select_by(letters, s.far, s.near, s.last.set, time, s.last.number),
     }
 }
