@@ -76,14 +76,6 @@ unseen = record { letters = 0; minus = false; fourth = 0; third = 0; far = 0; se
 abbrev pub timeOf : Bool → ℕ → ℤ
 timeOf minus n = if minus then negsuc ((n + 2147483647) % 2147483648) else pos (n % 2147483648)
 
--- a SELECT by the sum of the letters and the last words as open sets, or an ADVANCE
-abbrev pub selectBy : ℕ → ℕ → ℕ → ℕ → ℤ → ℕ → C.Call
-selectBy letters b c d time n =
-    if eqb letters 16 then Select d S.Plain
-    else if eqb letters 111 then Select b (S.Delay time)
-    else if eqb letters 9 then Select c S.Else
-    else Advance n
-
 -- the call that what is seen looks like, by the sum of its letters: each form of a call has a sum of its own
 abbrev pub callBy : ℕ → Seen → ℤ → C.Call
 callBy letters s time =
@@ -95,7 +87,10 @@ callBy letters s time =
     else if eqb letters 215 then End
     else if eqb letters 17 then Finish
     else if eqb letters 299 then Tick
-    else selectBy letters (s .far) (s .near) (s .last .set) time (s .last .number)
+    else if eqb letters 16 then Select (s .last .set) S.Plain
+    else if eqb letters 111 then Select (s .far) (S.Delay time)
+    else if eqb letters 9 then Select (s .near) S.Else
+    else Advance (s .last .number)
 
 -- the sum of the letters of "none" is 432, so that word counts for nothing
 abbrev pub guessBy : Seen → C.Call

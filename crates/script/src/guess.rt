@@ -2,7 +2,7 @@
 // prints it and compares.
 ghost use mathlib.Core.Path.{_≡_};
 ghost use Prim.Native.Nat.{_%_};
-ghost use Rattle.script.specs.Guess.{bitOf, grownOf, addedOf, heardOf, hear, unseen, timeOf, selectBy, guessBy};
+ghost use Rattle.script.specs.Guess.{bitOf, grownOf, addedOf, heardOf, hear, unseen, timeOf, guessBy};
 use calls::Call;
 use calls::CallMode;
 use calls::SelectMode;
@@ -141,27 +141,6 @@ fn time_of(minus: bool, n: u32) -> i32
     }
 }
 
-// A SELECT by the sum of the letters and the last words as open sets, or an ADVANCE.
-fn select_by(letters: u64, b: u8, c: u8, d: u8, time: i32, n: u32) -> Call
-    ensures { λ r. ⌜ r ≡ selectBy letters b c d time n ⌝ }
-{
-    match letters {
-        16 => Call::Select {
-            open: d,
-            mode: SelectMode::Plain,
-        },
-        111 => Call::Select {
-            open: b,
-            mode: SelectMode::Delay(time),
-        },
-        9 => Call::Select {
-            open: c,
-            mode: SelectMode::Else,
-        },
-        _ => Call::Advance(n),
-    }
-}
-
 // The call that what is seen looks like. Each form of a call has a sum of letters of its own; `none` counts for nothing, since the sum of its
 // letters is 432.
 pub fn guess_by(s: Seen) -> Call
@@ -193,6 +172,18 @@ pub fn guess_by(s: Seen) -> Call
         215 => Call::End,
         17 => Call::Finish,
         299 => Call::Tick,
-        _ => select_by(letters, s.far, s.near, s.last.set, time, s.last.number),
+        16 => Call::Select {
+            open: s.last.set,
+            mode: SelectMode::Plain,
+        },
+        111 => Call::Select {
+            open: s.far,
+            mode: SelectMode::Delay(time),
+        },
+        9 => Call::Select {
+            open: s.near,
+            mode: SelectMode::Else,
+        },
+        _ => Call::Advance(s.last.number),
     }
 }

@@ -3,7 +3,6 @@
 ghost use mathlib.Core.Path.{_≡_};
 ghost use mathlib.Core.Bool.{cond};
 ghost use mathlib.Core.List.{_++_};
-ghost use Rattle.calls.specs.Record.{encode};
 ghost use Rattle.text.specs.Text.{Put};
 ghost use Rattle.script.specs.CallText.{spaced, spacedTime, entry, entries, openText, modeText, textOf};
 ghost use Rattle.script.specs.Rows.{Grown};
@@ -32,23 +31,16 @@ fn with_spaced(row: Row, n: u64) -> Row
     with_number(k, n)
 }
 
-// A blank and a duration. Of a duration below 0, `!d` is one less than its distance from 0.
-fn with_time(row: Row, d: i32) -> Row
-    ensures { λ r. ⌜ Grown row (spacedTime d) r ⌝ }
-{
-    if d < 0 {
-        let k = with_bytes(row, b" -");
-        return with_number(k, ticks(!d) as u64 + 1);
-    }
-    with_spaced(row, ticks(d) as u64)
-}
-
-// A word and a duration.
-fn with_timed(row: Row, word: &[u8], d: i32) -> Row
+// A word and a duration. Of a duration below 0, `!d` is one less than its distance from 0.
+fn with_time(row: Row, word: &[u8], d: i32) -> Row
     ensures { λ r. ⌜ Grown row (now (word .entry) ++ spacedTime d) r ⌝ }
 {
     let k = with_bytes(row, word);
-    with_time(k, d)
+    if d < 0 {
+        let l = with_bytes(k, b" -");
+        return with_number(l, ticks(!d) as u64 + 1);
+    }
+    with_spaced(k, ticks(d) as u64)
 }
 
 // A word and two numbers.
@@ -113,7 +105,7 @@ fn with_mode(row: Row, timed: &[u8], other: &[u8], mode: Mode) -> Row
     let m = mode.number;
     match m {
         0 => row,
-        1 => with_timed(row, timed, mode.time),
+        1 => with_time(row, timed, mode.time),
         _ => with_bytes(row, other),
     }
 }
@@ -147,7 +139,7 @@ pub(crate) fn with_call(row: Row, c: Call) -> Row
 {
     match c {
         Call::Create { priority, entries } => with_pair(row, b"CREATE", priority, entries),
-        Call::Delay(d) => with_timed(row, b"DELAY", d),
+        Call::Delay(d) => with_time(row, b"DELAY", d),
         Call::Call {
             target,
             entry,
@@ -171,23 +163,18 @@ pub fn put_call(c: Call, out: &mut [u8], at: usize) -> usize
     put_bytes(&text[0..n], out, at)
 }
 
-// The record of a call.
-fn put_encoded(c: Call, out: &mut [u8], at: usize) -> usize
-    ensures { λ r. ⌜ Put (now (out .entry)) at (encode c) (now (out .exit)) r ⌝ }
-{
-    let mut room = [0u8; 10];
-    let w = calls::write_record(c, &mut room);
-    let n = least(w.count, 10);
-    put_bytes(&room[0..n], out, at)
-}
-
 // The record of what a line says; nothing where it says no call.
 pub fn put_record(line: Line, out: &mut [u8], at: usize) -> usize
     ensures { λ r. ⌜ Put (now (out .entry)) at (recordOf line) (now (out .exit)) r ⌝ }
 {
     match line {
         Line::Nothing => least(at, out.len()),
-        Line::Says(c) => put_encoded(c, out, at),
+        Line::Says(c) => {
+            let mut room = [0u8; 10];
+            let w = calls::write_record(c, &mut room);
+            let n = least(w.count, 10);
+            put_bytes(&room[0..n], out, at)
+        }
         Line::Unread => least(at, out.len()),
     }
 }

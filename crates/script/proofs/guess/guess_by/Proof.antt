@@ -35,8 +35,17 @@ returns-8 : tie.Need-returns-8
 returns-8 c = rw (c .match .keys8)
 
 returns-9 : tie.Need-returns-9
-returns-9 c =
-    let n = c .before .match .rest in
+returns-9 c = rw (c .match .keys9)
+
+returns-10 : tie.Need-returns-10
+returns-10 c = rw (c .match .keys10, timed (c .before), c .before .time-of .ensures)
+
+returns-11 : tie.Need-returns-11
+returns-11 c = rw (c .match .keys11)
+
+returns-12 : tie.Need-returns-12
+returns-12 c =
+    let n = c .match .rest in
     simp (
       ne-eqb _ _ (n .1),
       ne-eqb _ _ (n .0 .1),
@@ -46,13 +55,15 @@ returns-9 c =
       ne-eqb _ _ (n .0 .0 .0 .0 .0 .1),
       ne-eqb _ _ (n .0 .0 .0 .0 .0 .0 .1),
       ne-eqb _ _ (n .0 .0 .0 .0 .0 .0 .0 .1),
-    ) (rw (timed (c .before .before), c .before .before .time-of .ensures) at (c .select-by .ensures))
+      ne-eqb _ _ (n .0 .0 .0 .0 .0 .0 .0 .0 .1),
+      ne-eqb _ _ (n .0 .0 .0 .0 .0 .0 .0 .0 .0 .1),
+      ne-eqb _ _ (n .0 .0 .0 .0 .0 .0 .0 .0 .0 .0 .1),
+    )
 
 pub guess-by-spec : {M : Type 1} → statement M
 guess-by-spec =
     tie.close
     (tie.spec
-    (λ c κs. search needs)
     (λ c κs. search needs)
     returns
     returns-2
@@ -62,4 +73,7 @@ guess-by-spec =
     returns-6
     returns-7
     returns-8
-    returns-9)
+    returns-9
+    returns-10
+    returns-11
+    returns-12)

@@ -20,7 +20,7 @@ unfolding textOf
 returns-2 c =
     let k = c .before .before .before .c2 .given in
     let e : toZ w32 (ofZ w32 (k .0 .0)) ≡ k .0 .0 = search needs in
-    (rw (k .1) (rw e at (c .with-timed .ensures)), fits (c .before .before .before .before .before))
+    (rw (k .1) (rw e at (c .with-time .ensures)), fits (c .before .before .before .before .before))
 
 returns-3 : tie.Need-returns-3
 returns-3 c = (rw (c .before .before .c3 .given .1) (c .with-entry-call .ensures), fits (c .before .before .before .before))

@@ -17,7 +17,7 @@ unfolding modeText
 returns-2 c =
     let d = c .before .before .before .before .before .args .mode .time in
     let e : toZ w32 (ofZ w32 d) ≡ d = search needs in
-    rw (c .before .before .match .keys2) (rw e at (c .with-timed .ensures))
+    rw (c .before .before .match .keys2) (rw e at (c .with-time .ensures))
 
 returns-3 : tie.Need-returns-3
 unfolding modeText
