@@ -1,17 +1,20 @@
 -- What a turn of each loop knows.
 -- Assumes nothing.
-use Prim.Native.Nat.{ℕ, suc, _+_, _-_, _/_, _%_, _≤_, _<_}
-use mathlib.Core.Path.{_≡_, refl, ap}
+use Prim.Native.Nat.{ℕ, suc, _+_, _-_, _/_, _%_, _≤_, _<_, min}
+use mathlib.Core.Path.{_≡_, refl, sym, ap, _∙_}
 use mathlib.Core.Bool.{Bool, true, false, cond, _&&_}
 use mathlib.Core.List.{List, [], _∷_, _++_}
 use native.Mathlib.Omega.{arith}
 use lib.Dec.{eqb, ltb}
-use lib.ListN.{length, getD, drop, drop-of-length-le}
+use lib.ListN.{length, getD, take, drop, length-take, drop-of-length-le}
+use lib.Seq.{getD-take}
 use borrow.Author.Tests.{eq-eqb, ne-eqb}
 use Rattle.text.proofs.Puts.{rest-cons}
 use Rattle.script.specs.CallText.{entry, entries}
 use Rattle.script.specs.Words.{partOf, wordsFrom}
 use Rattle.script.specs.Guess.{alike, hear, heardOf}
+use Rattle.script.specs.Rows.{textIn}
+use Rattle.script.specs.declared.row.Row.{Row}
 use Rattle.script.specs.declared.guess.Seen.{Seen}
 
 -- ── the entries of an open set ──
@@ -43,30 +46,74 @@ no-part line inside i h = rw (drop-of-length-le line {i = i} h) refl
 
 -- ── two texts, byte by byte ──
 
-pub alike-next : (a b : List ℕ) (i : ℕ) → i < length a → i < length b → getD a i 0 ≡ getD b i 0
+alike-next : (a b : List ℕ) (i : ℕ) → i < length a → i < length b → getD a i 0 ≡ getD b i 0
     → alike (drop i a) (drop i b) ≡ alike (drop (i + 1) a) (drop (i + 1) b)
 alike-next a b i h g e = rw (rest-cons a i h, rest-cons b i g, eq-eqb (getD a i 0) (getD b i 0) e) refl
 
-pub alike-not : (a b : List ℕ) (i : ℕ) → i < length a → i < length b → (getD a i 0 ≡ getD b i 0 → ⊥) → alike (drop i a) (drop i b) ≡ false
+alike-not : (a b : List ℕ) (i : ℕ) → i < length a → i < length b → (getD a i 0 ≡ getD b i 0 → ⊥) → alike (drop i a) (drop i b) ≡ false
 alike-not a b i h g n = rw (rest-cons a i h, rest-cons b i g, ne-eqb (getD a i 0) (getD b i 0) n) refl
 
-pub alike-done : (a b : List ℕ) (i : ℕ) → length a ≤ i → length b ≤ i → alike (drop i a) (drop i b) ≡ true
+alike-done : (a b : List ℕ) (i : ℕ) → length a ≤ i → length b ≤ i → alike (drop i a) (drop i b) ≡ true
 alike-done a b i h g = rw (drop-of-length-le a {i = i} h, drop-of-length-le b {i = i} g) refl
 
 and-false : (b : Bool) → (b && false) ≡ false
 and-false true = refl
 and-false false = refl
 
-pub unlike : (a b : List ℕ) → (length a ≡ length b → ⊥) → alike a b ≡ false
+unlike : (a b : List ℕ) → (length a ≡ length b → ⊥) → alike a b ≡ false
 unlike [] [] n = absurd (n refl)
 unlike [] (y ∷ b) n = refl
 unlike (x ∷ a) [] n = refl
 unlike (x ∷ a) (y ∷ b) n = rw (unlike a b (λ e. n (ap suc e))) (and-false (eqb x y))
 
+-- ── two rows, byte by byte ──
+
+-- both are rows, and their texts have one length
+abbrev pub Even : Row → Row → Type 0
+Even a b = (length (a .bytes) ≡ 64) × ((length (b .bytes) ≡ 64) × (a .place ≡ min (b .place) 64))
+
+first-long : (a b : Row) → Even a b → length (textIn a) ≡ a .place
+first-long a b e = omega (arith, length-take (a .place) (a .bytes), e .0, e .1 .1)
+
+second-long : (a b : Row) → Even a b → length (textIn b) ≡ a .place
+second-long a b e = omega (arith, length-take (b .place) (b .bytes), e .1 .0, e .1 .1)
+
+pub rows-next : (a b : Row) (i : ℕ) → Even a b → i < a .place → getD (a .bytes) i 0 ≡ getD (b .bytes) i 0
+    → alike (drop i (textIn a)) (drop i (textIn b)) ≡ alike (drop (i + 1) (textIn a)) (drop (i + 1) (textIn b))
+rows-next a b i e h q =
+    alike-next (textIn a) (textIn b) i (omega (arith, first-long a b e)) (omega (arith, second-long a b e))
+    (getD-take (a .place) (a .bytes) i 0 h ∙ q ∙ sym (getD-take (b .place) (b .bytes) i 0 (omega (arith, e .1 .1))))
+
+pub rows-not : (a b : Row) (i : ℕ) → Even a b → i < a .place → (getD (a .bytes) i 0 ≡ getD (b .bytes) i 0 → ⊥)
+    → alike (drop i (textIn a)) (drop i (textIn b)) ≡ false
+rows-not a b i e h n =
+    alike-not (textIn a) (textIn b) i (omega (arith, first-long a b e)) (omega (arith, second-long a b e))
+    (λ q. n (sym (getD-take (a .place) (a .bytes) i 0 h) ∙ q ∙ getD-take (b .place) (b .bytes) i 0 (omega (arith, e .1 .1))))
+
+pub rows-done : (a b : Row) (i : ℕ) → Even a b → a .place ≤ i → alike (drop i (textIn a)) (drop i (textIn b)) ≡ true
+rows-done a b i e h = alike-done (textIn a) (textIn b) i (omega (arith, first-long a b e)) (omega (arith, second-long a b e))
+
+pub rows-unlike : (a b : Row) → length (a .bytes) ≡ 64 → length (b .bytes) ≡ 64 → a .place ≤ 64 → (a .place ≡ min (b .place) 64 → ⊥)
+    → alike (textIn a) (textIn b) ≡ false
+rows-unlike a b g h s n =
+    unlike (textIn a) (textIn b) (λ e. n (omega (arith, e, length-take (a .place) (a .bytes), length-take (b .place) (b .bytes), g, h)))
+
 -- ── all bytes, one after the other ──
 
-pub hear-next : (s : Seen) (words : List ℕ) (i : ℕ) → i < length words → hear s (drop i words) ≡ hear (heardOf s (getD words i 0)) (drop (i + 1) words)
+hear-next : (s : Seen) (words : List ℕ) (i : ℕ) → i < length words → hear s (drop i words) ≡ hear (heardOf s (getD words i 0)) (drop (i + 1) words)
 hear-next s words i h = rw (rest-cons words i h) refl
 
-pub hear-done : (s : Seen) (words : List ℕ) (i : ℕ) → length words ≤ i → hear s (drop i words) ≡ s
+hear-done : (s : Seen) (words : List ℕ) (i : ℕ) → length words ≤ i → hear s (drop i words) ≡ s
 hear-done s words i h = rw (drop-of-length-le words {i = i} h) refl
+
+pub row-long : (row : Row) → length (row .bytes) ≡ 64 → row .place ≤ 64 → length (textIn row) ≡ row .place
+row-long row g h = omega (arith, length-take (row .place) (row .bytes), g)
+
+pub hear-row : (s : Seen) (row : Row) (i : ℕ) → length (row .bytes) ≡ 64 → row .place ≤ 64 → i < row .place
+    → hear s (drop i (textIn row)) ≡ hear (heardOf s (getD (row .bytes) i 0)) (drop (i + 1) (textIn row))
+hear-row s row i g l h =
+    hear-next s (textIn row) i (omega (arith, row-long row g l))
+    ∙ ap (λ (b : ℕ). hear (heardOf s b) (drop (i + 1) (textIn row))) (getD-take (row .place) (row .bytes) i 0 h)
+
+pub heard-row : (s : Seen) (row : Row) (i : ℕ) → length (row .bytes) ≡ 64 → row .place ≤ 64 → row .place ≤ i → hear s (drop i (textIn row)) ≡ s
+heard-row s row i g l h = hear-done s (textIn row) i (omega (arith, row-long row g l))

@@ -22,7 +22,7 @@ use Rattle.script.specs.Guess.{alike, hear, unseen, guessBy, guessOf}
 use Rattle.script.specs.declared.guess.Seen.{Seen}
 use Rattle.script.specs.declared.row.Row.{Row}
 use Rattle.script.specs.declared.Line.the-variants as L
-use Rattle.script.proofs.Growing.{then-grown, alone, text-taken}
+use Rattle.script.proofs.Growing.{take-whole, then-grown, alone}
 use Rattle.script.proofs.Back.{guess-back}
 use Rattle.script.proofs.Shape.{text-short}
 
@@ -67,16 +67,9 @@ alike-self : (a : List ℕ) → alike a a ≡ true
 alike-self [] = refl
 alike-self (x ∷ a) = rw (eq-eqb x x refl) (alike-self a)
 
-pub empty : (l : List ℕ) → length l ≡ 0 → l ≡ []
-empty [] h = refl
-empty (x ∷ l) h = absurd (omega arith)
-
 -- the text of a call behind a blank is what was printed
-pub printed : (c : C.Call) (e b row : Row) (n : ℕ) → Fits c → textIn e ≡ [] → Grown e (32 ∷ []) b → Grown b (textOf c) row → n ≡ min (row .place) 64
-    → take (n - 0) (row .bytes) ≡ 32 ∷ textOf c
-printed c e b row n f p q r l =
-    let s = text-short c f in
-    text-taken row n (32 ∷ textOf c) (r .long) l (alone p (then-grown q r)) (omega arith)
+pub printed : (c : C.Call) (e b row : Row) → Fits c → textIn e ≡ [] → Grown e (32 ∷ []) b → Grown b (textOf c) row → textIn row ≡ 32 ∷ textOf c
+printed c e b row f p q r = let s = text-short c f in alone p (then-grown q r) ∙ take-whole 64 (32 ∷ textOf c) (omega arith)
 
 -- the print is what the words are
 pub said : (words text : List ℕ) (c : C.Call) → Fits c → text ≡ 32 ∷ textOf c → alike words text ≡ true → Says words (L.Says c)
@@ -101,7 +94,7 @@ too-long words row g p h =
     (λ z. let k = ap length z in omega arith, λ d f z. let k = ap length z in let s = text-short d f in omega arith)
 
 -- words that do not fill the row are in it
-pub all-taken : (words : List ℕ) (row : Row) → length (row .bytes) ≡ 64 → textIn row ≡ cut words → row .place < 64 → take (row .place - 0) (row .bytes) ≡ words
-all-taken words row g p h =
+pub all-there : (words : List ℕ) (row : Row) → length (row .bytes) ≡ 64 → textIn row ≡ cut words → row .place < 64 → textIn row ≡ words
+all-there words row g p h =
     let k : length (textIn row) ≡ length (cut words) = ap length p in
-    text-taken row (row .place) words g (omega arith) p (omega (arith, k, length-take (row .place) (row .bytes), length-take 64 words, g))
+    p ∙ take-whole 64 words (omega (arith, k, length-take (row .place) (row .bytes), length-take 64 words, g))

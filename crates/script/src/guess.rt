@@ -1,8 +1,10 @@
 // A guess at the call that words look like. It is right where they are the text of a call, and may be anything where they are not: the reader
 // prints it and compares.
 ghost use mathlib.Core.Path.{_≡_};
-ghost use Prim.Native.Nat.{_%_};
+ghost use Prim.Native.Nat.{_%_, _≤_};
+ghost use Rattle.script.specs.Rows.{textIn};
 ghost use Rattle.script.specs.Guess.{bitOf, grownOf, addedOf, heardOf, hear, unseen, timeOf, guessBy};
+use crate::row::Row;
 use calls::Call;
 use calls::CallMode;
 use calls::SelectMode;
@@ -118,13 +120,14 @@ fn nothing() -> Seen
 }
 
 // What is seen of words.
-pub fn seen_in(words: &[u8]) -> Seen
-    ensures { λ r. ⌜ r ≡ hear unseen (now (words .entry)) ⌝ }
+pub fn seen_in(words: Row) -> Seen
+    requires { ⌜ words .place ≤ 64 ⌝ }
+    ensures { λ r. ⌜ r ≡ hear unseen (textIn words) ⌝ }
 {
     let mut s = nothing();
     let mut i = 0;
-    while i < words.len() {
-        s = heard(s, words[i]);
+    while i < words.place {
+        s = heard(s, words.bytes[i]);
         i += 1;
     }
     s
