@@ -8,7 +8,8 @@ use native.Mathlib.Omega.{arith}
 use lib.Dec.{eqb, ltb}
 use lib.ListN.{length, getD, take, drop, length-take, drop-of-length-le}
 use lib.Seq.{getD-take}
-use borrow.Author.Tests.{eq-eqb, ne-eqb}
+use borrow.Author.Tests.{eq-eqb, ne-eqb, eqb-true, eqb-false}
+use Rattle.lists.proofs.ListLaws.{by-bool}
 use Rattle.text.proofs.Puts.{rest-cons}
 use Rattle.script.specs.CallText.{entry, entries}
 use Rattle.script.specs.Words.{partOf, wordsFrom}
@@ -46,13 +47,6 @@ no-part line inside i h = rw (drop-of-length-le line {i = i} h) refl
 
 -- ── two texts, byte by byte ──
 
-alike-next : (a b : List ℕ) (i : ℕ) → i < length a → i < length b → getD a i 0 ≡ getD b i 0
-    → alike (drop i a) (drop i b) ≡ alike (drop (i + 1) a) (drop (i + 1) b)
-alike-next a b i h g e = rw (rest-cons a i h, rest-cons b i g, eq-eqb (getD a i 0) (getD b i 0) e) refl
-
-alike-not : (a b : List ℕ) (i : ℕ) → i < length a → i < length b → (getD a i 0 ≡ getD b i 0 → ⊥) → alike (drop i a) (drop i b) ≡ false
-alike-not a b i h g n = rw (rest-cons a i h, rest-cons b i g, ne-eqb (getD a i 0) (getD b i 0) n) refl
-
 alike-done : (a b : List ℕ) (i : ℕ) → length a ≤ i → length b ≤ i → alike (drop i a) (drop i b) ≡ true
 alike-done a b i h g = rw (drop-of-length-le a {i = i} h, drop-of-length-le b {i = i} g) refl
 
@@ -68,35 +62,43 @@ unlike (x ∷ a) (y ∷ b) n = rw (unlike a b (λ e. n (ap suc e))) (and-false (
 
 -- ── two rows, byte by byte ──
 
--- both are rows, and their texts have one length
-abbrev pub Even : Row → Row → Type 0
-Even a b = (length (a .bytes) ≡ 64) × ((length (b .bytes) ≡ 64) × (a .place ≡ min (b .place) 64))
+-- rows whose texts have one length
+abbrev pub even : Row → Row → Bool
+even a b = eqb (a .place) (min (b .place) 64)
 
-first-long : (a b : Row) → Even a b → length (textIn a) ≡ a .place
-first-long a b e = omega (arith, length-take (a .place) (a .bytes), e .0, e .1 .1)
+abbrev pub Rows : Row → Row → Type 0
+Rows a b = (length (a .bytes) ≡ 64) × ((length (b .bytes) ≡ 64) × (a .place ≤ 64))
 
-second-long : (a b : Row) → Even a b → length (textIn b) ≡ a .place
-second-long a b e = omega (arith, length-take (b .place) (b .bytes), e .1 .0, e .1 .1)
+pub rows-begin : (a b : Row) → Rows a b → alike (textIn a) (textIn b) ≡ (even a b && alike (textIn a) (textIn b))
+rows-begin a b r = by-bool (even a b) (λ e. rw e refl)
+    (λ e. let n = eqb-false (a .place) (min (b .place) 64) e in
+    rw e
+    (unlike (textIn a) (textIn b)
+    (λ q. n (omega (arith, q, length-take (a .place) (a .bytes), length-take (b .place) (b .bytes), r .0, r .1 .0, r .1 .1)))))
 
-pub rows-next : (a b : Row) (i : ℕ) → Even a b → i < a .place → getD (a .bytes) i 0 ≡ getD (b .bytes) i 0
-    → alike (drop i (textIn a)) (drop i (textIn b)) ≡ alike (drop (i + 1) (textIn a)) (drop (i + 1) (textIn b))
-rows-next a b i e h q =
-    alike-next (textIn a) (textIn b) i (omega (arith, first-long a b e)) (omega (arith, second-long a b e))
-    (getD-take (a .place) (a .bytes) i 0 h ∙ q ∙ sym (getD-take (b .place) (b .bytes) i 0 (omega (arith, e .1 .1))))
+next : (a b : Row) (i : ℕ) → Rows a b → a .place ≡ min (b .place) 64 → i < a .place
+    → alike (drop i (textIn a)) (drop i (textIn b)) ≡ (eqb (getD (a .bytes) i 0) (getD (b .bytes) i 0) && alike (drop (i + 1) (textIn a)) (drop (i + 1) (textIn b)))
+next a b i r e h =
+    rw (
+      rest-cons (textIn a) i (omega (arith, length-take (a .place) (a .bytes), r .0, e)),
+      rest-cons (textIn b) i (omega (arith, length-take (b .place) (b .bytes), r .1 .0, e)),
+      getD-take (a .place) (a .bytes) i 0 h,
+      getD-take (b .place) (b .bytes) i 0 (omega (arith, e)),
+    ) refl
 
-pub rows-not : (a b : Row) (i : ℕ) → Even a b → i < a .place → (getD (a .bytes) i 0 ≡ getD (b .bytes) i 0 → ⊥)
-    → alike (drop i (textIn a)) (drop i (textIn b)) ≡ false
-rows-not a b i e h n =
-    alike-not (textIn a) (textIn b) i (omega (arith, first-long a b e)) (omega (arith, second-long a b e))
-    (λ q. n (sym (getD-take (a .place) (a .bytes) i 0 h) ∙ q ∙ getD-take (b .place) (b .bytes) i 0 (omega (arith, e .1 .1))))
+-- a turn, with what is known of the bytes before
+pub rows-next : (a b : Row) (known : Bool) (i : ℕ) → Rows a b → (known ≡ true → even a b ≡ true) → i < a .place
+    → (known && alike (drop i (textIn a)) (drop i (textIn b)))
+    ≡ ((known && eqb (getD (a .bytes) i 0) (getD (b .bytes) i 0)) && alike (drop (i + 1) (textIn a)) (drop (i + 1) (textIn b)))
+rows-next a b true i r e h = next a b i r (eqb-true (a .place) (min (b .place) 64) (e refl)) h
+rows-next a b false i r e h = refl
 
-pub rows-done : (a b : Row) (i : ℕ) → Even a b → a .place ≤ i → alike (drop i (textIn a)) (drop i (textIn b)) ≡ true
-rows-done a b i e h = alike-done (textIn a) (textIn b) i (omega (arith, first-long a b e)) (omega (arith, second-long a b e))
-
-pub rows-unlike : (a b : Row) → length (a .bytes) ≡ 64 → length (b .bytes) ≡ 64 → a .place ≤ 64 → (a .place ≡ min (b .place) 64 → ⊥)
-    → alike (textIn a) (textIn b) ≡ false
-rows-unlike a b g h s n =
-    unlike (textIn a) (textIn b) (λ e. n (omega (arith, e, length-take (a .place) (a .bytes), length-take (b .place) (b .bytes), g, h)))
+pub rows-done : (a b : Row) (known : Bool) (i : ℕ) → Rows a b → (known ≡ true → even a b ≡ true) → a .place ≤ i
+    → (known && alike (drop i (textIn a)) (drop i (textIn b))) ≡ known
+rows-done a b true i r e h =
+    let q = eqb-true (a .place) (min (b .place) 64) (e refl) in
+    alike-done (textIn a) (textIn b) i (omega (arith, length-take (a .place) (a .bytes), r .0, q)) (omega (arith, length-take (b .place) (b .bytes), r .1 .0, q))
+rows-done a b false i r e h = refl
 
 -- ── all bytes, one after the other ──
 

@@ -52,17 +52,13 @@ fn same(a: Row, b: Row) -> bool
     requires { ⌜ a .place ≤ 64 ⌝ }
     ensures { λ r. ⌜ r ≡ alike (textIn a) (textIn b) ⌝ }
 {
-    if a.place != least(b.place, 64) {
-        return false;
-    }
+    let mut is_same = a.place == least(b.place, 64);
     let mut i = 0;
     while i < a.place {
-        if a.bytes[i] != b.bytes[i] {
-            return false;
-        }
+        is_same = is_same & (a.bytes[i] == b.bytes[i]);
         i += 1;
     }
-    true
+    is_same
 }
 
 // What a line says: the call that its words look like, where that call's text is what they are. No text of a call has 63 bytes, so words that
