@@ -3,7 +3,7 @@ ghost use Prim.Native.Nat.{_<_};
 ghost use Rattle.script.specs.CallText.{wordOf};
 ghost use Rattle.script.specs.Rows.{Grown};
 use crate::row::Row;
-use crate::row::with_bytes;
+use text::put_bytes;
 
 pub(crate) const CREATE: usize = 0;
 
@@ -124,5 +124,7 @@ pub(crate) fn with_word(row: Row, word: usize) -> Row
     let words = WORDS;
     let from = STARTS[word];
     let to = STARTS[word + 1];
-    with_bytes(row, &words[from..to])
+    let mut bytes = row.bytes;
+    let place = put_bytes(&words[from..to], &mut bytes, row.place);
+    Row { bytes, place }
 }

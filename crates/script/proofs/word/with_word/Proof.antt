@@ -1,26 +1,25 @@
 use Prim.Native.Nat.{_<_}
 use native.Mathlib.Omega.{arith}
 use borrow.Author.Needs.{needs}
+use Rattle.script.proofs.Growing.{put-grown}
 use Rattle.script.proofs.Table.{in-order}
 use Rattle.script.proofs.word.with_word.Statement.{statement}
 use Rattle.script.proofs.word.with_word.Tie as tie
 
-sub-with-bytes : tie.Need-sub-with-bytes
-sub-with-bytes c = let h : c .args .word < 14 = search needs in omega (arith, in-order (c .args .word) h .0)
+small : (c : tie.Start) → c .args .word < 14
+small c = search needs
 
-part-with-bytes-start : tie.Need-part-with-bytes-start
-part-with-bytes-start c =
-    let k = c .before in
-    let h : k .args .word < 14 = search needs in
-    let p = in-order (k .args .word) h in
-    omega (arith, p .0, p .1)
+sub-put-bytes : tie.Need-sub-put-bytes
+sub-put-bytes c = omega (arith, in-order (c .before .args .word) (small (c .before)) .0)
 
-part-with-bytes-end : tie.Need-part-with-bytes-end
-part-with-bytes-end c =
-    let k = c .before in
-    let h : k .args .word < 14 = search needs in
-    let p = in-order (k .args .word) h in
-    omega (arith, p .0, p .1)
+part-put-bytes-start : tie.Need-part-put-bytes-start
+part-put-bytes-start c = let k = c .before .before in let p = in-order (k .args .word) (small k) in omega (arith, p .0, p .1)
+
+part-put-bytes-end : tie.Need-part-put-bytes-end
+part-put-bytes-end c = let k = c .before .before in let p = in-order (k .args .word) (small k) in omega (arith, p .0, p .1)
+
+returns : tie.Need-returns
+returns c = put-grown (c .before .before .before .before .before .before .args .row) (search needs) (c .before .put-bytes .ensures)
 
 pub with-word-spec : {M : Type 1} → statement M
 with-word-spec =
@@ -31,8 +30,9 @@ with-word-spec =
     (λ c. search needs)
     (λ c. search needs)
     (λ c. search needs)
-    sub-with-bytes
-    part-with-bytes-start
-    part-with-bytes-end
+    sub-put-bytes
+    part-put-bytes-start
+    part-put-bytes-end
+    (λ c. search needs)
     (λ c κs. search needs)
-    (λ c. search needs))
+    returns)
