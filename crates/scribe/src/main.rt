@@ -5,9 +5,11 @@ mod errors; // errors.rt: what is told on standard error
 mod forth; // forth.rt: text to records
 mod work; // work.rt: input on its way to output
 
-use stream::output::flushed;
+use work::Step;
 use work::Work;
+use work::after;
 use work::begun;
+use work::finished;
 
 // Whether the only argument is `back`.
 fn is_back(count: usize, word: &[u8; 5], n: usize) -> bool {
@@ -19,23 +21,29 @@ fn is_back(count: usize, word: &[u8; 5], n: usize) -> bool {
         & (word[3] == b'k')
 }
 
-// One turn, on the line or record that comes next.
-fn turn(is_back: bool, w: Work, buf: &mut [u8], out: &mut [u8]) -> Work {
+// The line or record that comes next, to output.
+fn step(is_back: bool, w: Work, buf: &[u8], out: &mut [u8]) -> Step {
     if is_back {
-        return back::turn(w, buf, out);
+        return back::step(w.flow.window, buf, out, w.flow.waits);
     }
-    forth::turn(w, buf, out)
+    forth::step(w.flow.window, w.unread, w.number, buf, out, w.flow.waits)
+}
+
+// One turn, on what stands in the window.
+fn turn(is_back: bool, w: Work, buf: &mut [u8], out: &mut [u8]) -> Work {
+    let s = step(is_back, w, buf, out);
+    after(w, s, buf, out)
 }
 
 // All lines or records of standard input.
 fn run(is_back: bool, buf: &mut [u8], out: &mut [u8]) {
     let mut w = begun();
     let mut turns = u64::MAX;
-    while turns > 0 && w.flow.goes {
+    while turns > 0 && (w.flow.goes & w.more) {
         w = turn(is_back, w, buf, out);
         turns -= 1;
     }
-    flushed(out, w.flow.waits);
+    finished(w, out);
 }
 
 fn main() {

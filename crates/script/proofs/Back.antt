@@ -20,7 +20,7 @@ use Rattle.calls.specs.declared.Call.the-variants.{Create, Delay, Call, Select,
 use Rattle.text.specs.Text.{decimal}
 use Rattle.script.specs.CallText.{spaced, spacedTime, entries, openText, callModeText, selectModeText, textOf}
 use Rattle.script.specs.Says.{Fits}
-use Rattle.script.specs.Guess.{fresh, grownOf, heardOf, hear, timeOf, guessBy, guessOf}
+use Rattle.script.specs.Guess.{fresh, grownOf, heardOf, hear, unseen, timeOf, guessBy, guessOf}
 use Rattle.script.specs.declared.guess.Word.{Word}
 use Rattle.script.specs.declared.guess.Seen.{Seen}
 use Rattle.script.proofs.Digits.{AllPlain, growAll, decimal-plain, decimal-back, decimal-byte}
@@ -34,11 +34,16 @@ hear-append s (x ∷ a) b = hear-append (heardOf s x) a b
 
 -- with another last word
 abbrev withLast : Seen → Word → Seen
-withLast s w = record { letters = s .letters; minus = s .minus; fourth = s .fourth; third = s .third; second = s .second; last = w }
+withLast s w = record { letters = s .letters; minus = s .minus; fourth = s .fourth; third = s .third; far = s .far; second = s .second; near = s .near; last = w }
+
+-- with another word behind the last
+abbrev behind : ℕ → Bool → Seen → Word → Seen
+behind n minus s w =
+    record { letters = n; minus = minus; fourth = s .third; third = s .second; far = s .near; second = s .last .byte; near = s .last .set; last = w }
 
 -- behind a blank
 abbrev shifted : Seen → Seen
-shifted s = record { letters = s .letters; minus = s .minus; fourth = s .third; third = s .second; second = s .last; last = fresh }
+shifted s = behind (s .letters) (s .minus) s fresh
 
 -- a byte that is neither a blank nor a letter nor a minus changes the last word alone
 quiet : (s : Seen) (b : ℕ) → (b ≡ 32 → ⊥) → b ≤ 64 → (b ≡ 45 → ⊥) → heardOf s b ≡ withLast s (grownOf (s .last) b)
@@ -80,10 +85,10 @@ timeWord (pos n) = numbered n
 timeWord (negsuc n) = numbered (suc n)
 
 hear-time : (s : Seen) (d : ℤ) → s .minus ≡ false
-    → hear s (spacedTime d) ≡ record { letters = s .letters; minus = minusOf d; fourth = s .third; third = s .second; second = s .last; last = timeWord d }
+    → hear s (spacedTime d) ≡ behind (s .letters) (minusOf d) s (timeWord d)
 unfolding spacedTime minusOf timeWord numbered
 hear-time s (pos n) e =
-    hear-number s n ∙ ap (λ (m : Bool). record { letters = s .letters; minus = m; fourth = s .third; third = s .second; second = s .last; last = numbered n }) e
+    hear-number s n ∙ ap (λ (m : Bool). behind (s .letters) m s (numbered n)) e
 hear-time s (negsuc n) e = hear-plain (heardOf (shifted s) 45) (decimal (suc n)) (decimal-plain (suc n))
 
 time-back : (d : ℤ) → SFits w32 d → timeOf (minusOf d) (timeWord d .number) ≡ d
@@ -99,14 +104,14 @@ time-back (negsuc n) f =
 
 -- behind the first word
 abbrev begun : ℕ → Seen
-begun n = record { letters = n; minus = false; fourth = fresh; third = fresh; second = fresh; last = fresh }
+begun n = behind n false unseen fresh
 
 -- behind two numbers, and behind an open set
 abbrev paired : ℕ → ℕ → ℕ → Seen
-paired n a b = record { letters = n; minus = false; fourth = fresh; third = fresh; second = numbered a; last = numbered b }
+paired n a b = behind n false (withLast unseen (numbered a)) (numbered b)
 
 abbrev opened : ℕ → Word → Seen
-opened n w = record { letters = n; minus = false; fourth = fresh; third = fresh; second = fresh; last = w }
+opened n w = behind n false unseen w
 
 hear-two : (n a b : ℕ) (rest : List ℕ) → hear (begun n) (spaced a ++ (spaced b ++ rest)) ≡ hear (paired n a b) rest
 hear-two n a b rest =
@@ -120,7 +125,7 @@ call-mode-back : (t e : ℕ) (m : CallMode) → SFits w32 (callTime m)
 unfolding callModeText
 call-mode-back t e Simple f = refl
 call-mode-back t e (Timed d) f =
-    ap guessBy (hear-time (record { letters = 815; minus = false; fourth = fresh; third = numbered t; second = numbered e; last = fresh }) d refl)
+    ap guessBy (hear-time (behind 815 false (paired 284 t e) fresh) d refl)
     ∙ ap (λ (d : ℤ). Call (numbered t .byte) (numbered e .byte) (Timed d)) (time-back d f)
 call-mode-back t e Conditional f = refl
 
@@ -129,12 +134,12 @@ select-mode-back : (none : Bool) (w : Word) (m : SelectMode) → SFits w32 (sele
 unfolding selectModeText
 select-mode-back true w S.Plain f = refl
 select-mode-back true w (S.Delay d) f =
-    ap guessBy (hear-time (record { letters = 1407; minus = false; fourth = fresh; third = fresh; second = w; last = fresh }) d refl)
+    ap guessBy (hear-time (behind 1407 false (opened 880 w) fresh) d refl)
     ∙ ap (λ (d : ℤ). Select (w .set) (S.Delay d)) (time-back d f)
 select-mode-back true w S.Else f = refl
 select-mode-back false w S.Plain f = refl
 select-mode-back false w (S.Delay d) f =
-    ap guessBy (hear-time (record { letters = 975; minus = false; fourth = fresh; third = fresh; second = w; last = fresh }) d refl)
+    ap guessBy (hear-time (behind 975 false (opened 448 w) fresh) d refl)
     ∙ ap (λ (d : ℤ). Select (w .set) (S.Delay d)) (time-back d f)
 select-mode-back false w S.Else f = refl
 

@@ -5,7 +5,8 @@ use mathlib.Core.Path.{_≡_, refl, sym, ap, subst, _∙_}
 use mathlib.Core.List.{List, [], _∷_, _++_}
 use native.Mathlib.Omega.{arith}
 use native.Mathlib.Nat.{pow-suc, pow-zero}
-use lib.Dec.{ltb}
+use mathlib.Core.Bool.{true, _&&_}
+use lib.Dec.{leb, ltb}
 use lib.ListN.{length, length-append}
 use borrow.Author.Tests.{le-leb, ltb-true, ltb-false}
 use Rattle.lists.proofs.ListLaws.{by-bool}
@@ -101,6 +102,11 @@ spelled-back m read z c (suc k) n h b = by-bool (ltb n 10)
     ∙ ap read (grow-append fresh (spelled k (n / 10)) ((48 + n % 10) ∷ []))
     ∙ c w (n % 10) (omega arith) (omega (arith, ih))
     ∙ (omega (arith, ih)))
+
+-- a digit counts, given its bit
+pub digit-counts : (w : Word) (b bit : ℕ) → (leb 48 b && leb b 57) ≡ true → bit ≡ bitOf (b % 16)
+    → record { byte = (w .byte * 10 + b % 16) % 256; set = (w .set + bit) % 256; number = (w .number * 10 + b % 16) % 4294967296 } ≡ grownOf w b
+digit-counts w b bit e q = rw (e, q) refl
 
 digit-taken : (w : Word) (d : ℕ) → d < 10
     → grownOf w (48 + d) ≡ record { byte = (w .byte * 10 + d) % 256; set = (w .set + bitOf d) % 256; number = (w .number * 10 + d) % 4294967296 }

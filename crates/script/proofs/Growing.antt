@@ -17,7 +17,7 @@ take-again zero a b = refl
 take-again (suc n) [] b = refl
 take-again (suc n) (x ∷ a) b = ap (λ (l : List ℕ). x ∷ l) (take-again n a b)
 
-take-whole : (n : ℕ) (l : List ℕ) → length l ≤ n → take n l ≡ l
+pub take-whole : (n : ℕ) (l : List ℕ) → length l ≤ n → take n l ≡ l
 take-whole zero [] h = refl
 take-whole zero (x ∷ l) h = absurd (omega arith)
 take-whole (suc n) [] h = refl

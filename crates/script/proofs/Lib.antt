@@ -5,6 +5,7 @@ pub mod Times
 pub mod Typed
 pub mod Digits
 pub mod Sets
+pub mod Table
 pub mod Back
 pub mod Shape
 pub mod Reading

@@ -1,6 +1,6 @@
 -- From what the parts of the reader promise to what a line says.
 -- Assumes nothing.
-use Prim.Native.Nat.{ℕ, _-_, _%_, _≤_, _<_, min}
+use Prim.Native.Nat.{ℕ, _-_, _≤_, _<_, min}
 use mathlib.Core.Path.{_≡_, refl, sym, ap, _∙_}
 use mathlib.Core.Bool.{true, false, false≢true}
 use mathlib.Core.List.{List, [], _∷_}
@@ -8,7 +8,6 @@ use native.Mathlib.Omega.{arith}
 use lib.Dec.{eqb}
 use lib.ListN.{length, take, drop, length-take}
 use lib.Seq.{take-at}
-use lib.IntN.{ℤ}
 use borrow.Author.Tests.{eqb-true, eq-eqb, le-ltb}
 use Rattle.lists.proofs.Tests.{and-first, and-second}
 use Rattle.calls.specs.Record.{encode}
@@ -19,11 +18,11 @@ use Rattle.calls.specs.declared.Call.the-variants.{Create, Delay, Call, Select,
 use Rattle.script.specs.CallText.{textOf}
 use Rattle.script.specs.Rows.{textIn, cut, Grown}
 use Rattle.script.specs.Says.{Fits, Says}
-use Rattle.script.specs.Guess.{alike, hear, unseen, timeOf, callBy, guessBy, guessOf}
+use Rattle.script.specs.Guess.{alike, hear, unseen, guessBy, guessOf}
 use Rattle.script.specs.declared.guess.Seen.{Seen}
 use Rattle.script.specs.declared.row.Row.{Row}
 use Rattle.script.specs.declared.Line.the-variants as L
-use Rattle.script.proofs.Growing.{then-grown, alone, text-taken}
+use Rattle.script.proofs.Growing.{take-whole, then-grown, alone}
 use Rattle.script.proofs.Back.{guess-back}
 use Rattle.script.proofs.Shape.{text-short}
 
@@ -51,11 +50,9 @@ record-taken c room after w n h p q m =
 
 -- ── the guess ──
 
-pub guess-is : (words : List ℕ) (s : Seen) (t : ℤ) (r : C.Call) → s ≡ hear unseen words → t ≡ timeOf (s .minus) (s .last .number)
-    → r ≡ callBy (s .letters % 432) (s .fourth) (s .third) (s .second) (s .last) t → r ≡ guessOf words
+pub guess-is : (words : List ℕ) (s : Seen) (r : C.Call) → s ≡ hear unseen words → r ≡ guessBy s → r ≡ guessOf words
 unfolding guessOf
-guess-is words s t r p q e =
-    e ∙ ap (callBy (s .letters % 432) (s .fourth) (s .third) (s .second) (s .last)) q ∙ ap guessBy p
+guess-is words s r p e = e ∙ ap guessBy p
 
 -- ── what words say ──
 
@@ -70,16 +67,9 @@ alike-self : (a : List ℕ) → alike a a ≡ true
 alike-self [] = refl
 alike-self (x ∷ a) = rw (eq-eqb x x refl) (alike-self a)
 
-pub empty : (l : List ℕ) → length l ≡ 0 → l ≡ []
-empty [] h = refl
-empty (x ∷ l) h = absurd (omega arith)
-
 -- the text of a call behind a blank is what was printed
-pub printed : (c : C.Call) (e b row : Row) (n : ℕ) → Fits c → textIn e ≡ [] → Grown e (32 ∷ []) b → Grown b (textOf c) row → n ≡ min (row .place) 64
-    → take (n - 0) (row .bytes) ≡ 32 ∷ textOf c
-printed c e b row n f p q r l =
-    let s = text-short c f in
-    text-taken row n (32 ∷ textOf c) (r .long) l (alone p (then-grown q r)) (omega arith)
+pub printed : (c : C.Call) (e b row : Row) → Fits c → textIn e ≡ [] → Grown e (32 ∷ []) b → Grown b (textOf c) row → textIn row ≡ 32 ∷ textOf c
+printed c e b row f p q r = let s = text-short c f in alone p (then-grown q r) ∙ take-whole 64 (32 ∷ textOf c) (omega arith)
 
 -- the print is what the words are
 pub said : (words text : List ℕ) (c : C.Call) → Fits c → text ≡ 32 ∷ textOf c → alike words text ≡ true → Says words (L.Says c)
@@ -104,7 +94,7 @@ too-long words row g p h =
     (λ z. let k = ap length z in omega arith, λ d f z. let k = ap length z in let s = text-short d f in omega arith)
 
 -- words that do not fill the row are in it
-pub all-taken : (words : List ℕ) (row : Row) → length (row .bytes) ≡ 64 → textIn row ≡ cut words → row .place < 64 → take (row .place - 0) (row .bytes) ≡ words
-all-taken words row g p h =
+pub all-there : (words : List ℕ) (row : Row) → length (row .bytes) ≡ 64 → textIn row ≡ cut words → row .place < 64 → textIn row ≡ words
+all-there words row g p h =
     let k : length (textIn row) ≡ length (cut words) = ap length p in
-    text-taken row (row .place) words g (omega arith) p (omega (arith, k, length-take (row .place) (row .bytes), length-take 64 words, g))
+    p ∙ take-whole 64 words (omega (arith, k, length-take (row .place) (row .bytes), length-take 64 words, g))

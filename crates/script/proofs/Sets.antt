@@ -33,7 +33,8 @@ neat k =
 but : (k n : ℕ) → k ≤ suc n → (k ≡ suc n → ⊥) → k ≤ n
 but k n h z = by-bool (leb k n) (λ e. leb-true k n e) (λ e. let g = leb-false k n e in absurd (z (omega arith)))
 
-each : (p : ℕ → Bool) (n : ℕ) → every p (downFrom n) ≡ true → (k : ℕ) → 0 < k → k ≤ n → p k ≡ true
+-- what a table shows of all numbers up to n
+pub each : (p : ℕ → Bool) (n : ℕ) → every p (downFrom n) ≡ true → (k : ℕ) → 0 < k → k ≤ n → p k ≡ true
 each p zero e k h g = absurd (omega arith)
 each p (suc n) e k h g = by-bool (eqb k (suc n))
     (λ q. subst (λ (x : ℕ). p x ≡ true) (sym (eqb-true k (suc n) q)) (and-first (p (suc n)) (every p (downFrom n)) e))

@@ -42,13 +42,24 @@ addedOf n b = if ltb 64 b then n % 65536 + b else n
 abbrev pub heardOf : Seen → ℕ → Seen
 heardOf s b =
     if eqb b 32
-    then record { letters = s .letters; minus = s .minus; fourth = s .third; third = s .second; second = s .last; last = fresh }
+    then record {
+      letters = s .letters;
+      minus = s .minus;
+      fourth = s .third;
+      third = s .second;
+      far = s .near;
+      second = s .last .byte;
+      near = s .last .set;
+      last = fresh;
+    }
     else record {
       letters = addedOf (s .letters) b;
       minus = eqb b 45 || s .minus;
       fourth = s .fourth;
       third = s .third;
+      far = s .far;
       second = s .second;
+      near = s .near;
       last = grownOf (s .last) b;
     }
 
@@ -59,36 +70,31 @@ hear s (b ∷ l) = hear (heardOf s b) l
 
 -- nothing is seen yet
 abbrev pub unseen : Seen
-unseen = record { letters = 0; minus = false; fourth = fresh; third = fresh; second = fresh; last = fresh }
+unseen = record { letters = 0; minus = false; fourth = 0; third = 0; far = 0; second = 0; near = 0; last = fresh }
 
 -- a number with or without a minus, as a duration
 abbrev pub timeOf : Bool → ℕ → ℤ
 timeOf minus n = if minus then negsuc ((n + 2147483647) % 2147483648) else pos (n % 2147483648)
 
--- a SELECT by the sum of the letters and the last words as open sets, or an ADVANCE
-abbrev pub selectBy : ℕ → ℕ → ℕ → ℕ → ℤ → ℕ → C.Call
-selectBy letters b c d time n =
-    if eqb letters 16 then Select d S.Plain
-    else if eqb letters 111 then Select b (S.Delay time)
-    else if eqb letters 9 then Select c S.Else
-    else Advance n
-
--- the call that the sum of the letters stands for, with the four last words a, b, c, d; each form of a call has a sum of its own
-abbrev pub callBy : ℕ → Word → Word → Word → Word → ℤ → C.Call
-callBy letters a b c d time =
-    if eqb letters 4 then Create (c .byte) (d .byte)
+-- the call that what is seen looks like, by the sum of its letters: each form of a call has a sum of its own
+abbrev pub callBy : ℕ → Seen → ℤ → C.Call
+callBy letters s time =
+    if eqb letters 4 then Create (s .second) (s .last .byte)
     else if eqb letters 367 then Delay time
-    else if eqb letters 284 then Call (c .byte) (d .byte) Simple
-    else if eqb letters 383 then Call (a .byte) (b .byte) (Timed time)
-    else if eqb letters 160 then Call (b .byte) (c .byte) Conditional
+    else if eqb letters 284 then Call (s .second) (s .last .byte) Simple
+    else if eqb letters 383 then Call (s .fourth) (s .third) (Timed time)
+    else if eqb letters 160 then Call (s .third) (s .second) Conditional
     else if eqb letters 215 then End
     else if eqb letters 17 then Finish
     else if eqb letters 299 then Tick
-    else selectBy letters (b .set) (c .set) (d .set) time (d .number)
+    else if eqb letters 16 then Select (s .last .set) S.Plain
+    else if eqb letters 111 then Select (s .far) (S.Delay time)
+    else if eqb letters 9 then Select (s .near) S.Else
+    else Advance (s .last .number)
 
--- the call that what is seen looks like; the sum of the letters of "none" is 432, so that word counts for nothing
+-- the sum of the letters of "none" is 432, so that word counts for nothing
 abbrev pub guessBy : Seen → C.Call
-guessBy s = callBy (s .letters % 432) (s .fourth) (s .third) (s .second) (s .last) (timeOf (s .minus) (s .last .number))
+guessBy s = callBy (s .letters % 432) s (timeOf (s .minus) (s .last .number))
 
 -- the call that words look like
 unfoldable pub guessOf : List ℕ → C.Call

@@ -1,8 +1,10 @@
 // A guess at the call that words look like. It is right where they are the text of a call, and may be anything where they are not: the reader
 // prints it and compares.
 ghost use mathlib.Core.Path.{_≡_};
-ghost use Prim.Native.Nat.{_%_};
-ghost use Rattle.script.specs.Guess.{bitOf, grownOf, addedOf, heardOf, hear, unseen, timeOf, selectBy, callBy, guessOf};
+ghost use Prim.Native.Nat.{_%_, _≤_};
+ghost use Rattle.script.specs.Rows.{textIn};
+ghost use Rattle.script.specs.Guess.{bitOf, grownOf, addedOf, heardOf, hear, unseen, timeOf, guessBy};
+use crate::row::Row;
 use calls::Call;
 use calls::CallMode;
 use calls::SelectMode;
@@ -17,13 +19,16 @@ pub struct Word {
     pub number: u32,
 }
 
-// What is seen of a line: the sum of its letters, whether there is a minus, and its four last words.
+// What is seen of a line: the sum of its letters, whether there is a minus, and its four last words: of the fourth, the third and the second
+// the byte, of the third and the second the open set too (`far` and `near`), and the last.
 pub struct Seen {
     pub letters: u64,
     pub minus: bool,
-    pub fourth: Word,
-    pub third: Word,
-    pub second: Word,
+    pub fourth: u8,
+    pub third: u8,
+    pub far: u8,
+    pub second: u8,
+    pub near: u8,
     pub last: Word,
 }
 
@@ -61,9 +66,6 @@ fn added(n: u64, b: u8) -> u64
 fn heard(s: Seen, b: u8) -> Seen
     ensures { λ r. ⌜ r ≡ heardOf s b ⌝ }
 {
-    let fourth = s.fourth;
-    let third = s.third;
-    let second = s.second;
     let last = s.last;
     if b == 32 {
         let new = Word {
@@ -74,9 +76,11 @@ fn heard(s: Seen, b: u8) -> Seen
         Seen {
             letters: s.letters,
             minus: s.minus,
-            fourth: third,
-            third: second,
-            second: last,
+            fourth: s.third,
+            third: s.second,
+            far: s.near,
+            second: last.byte,
+            near: last.set,
             last: new,
         }
     } else {
@@ -84,9 +88,11 @@ fn heard(s: Seen, b: u8) -> Seen
         Seen {
             letters: added(s.letters, b),
             minus: (b == 45) | s.minus,
-            fourth,
-            third,
-            second,
+            fourth: s.fourth,
+            third: s.third,
+            far: s.far,
+            second: s.second,
+            near: s.near,
             last: more,
         }
     }
@@ -104,21 +110,24 @@ fn nothing() -> Seen
     Seen {
         letters: 0,
         minus: false,
-        fourth: new,
-        third: new,
-        second: new,
+        fourth: 0,
+        third: 0,
+        far: 0,
+        second: 0,
+        near: 0,
         last: new,
     }
 }
 
 // What is seen of words.
-fn seen_in(words: &[u8]) -> Seen
-    ensures { λ r. ⌜ r ≡ hear unseen (now (words .entry)) ⌝ }
+pub fn seen_in(words: Row) -> Seen
+    requires { ⌜ words .place ≤ 64 ⌝ }
+    ensures { λ r. ⌜ r ≡ hear unseen (textIn words) ⌝ }
 {
     let mut s = nothing();
     let mut i = 0;
-    while i < words.len() {
-        s = heard(s, words[i]);
+    while i < words.place {
+        s = heard(s, words.bytes[i]);
         i += 1;
     }
     s
@@ -135,68 +144,49 @@ fn time_of(minus: bool, n: u32) -> i32
     }
 }
 
-// A SELECT by the sum of the letters and the last words as open sets, or an ADVANCE.
-fn select_by(letters: u64, b: u8, c: u8, d: u8, time: i32, n: u32) -> Call
-    ensures { λ r. ⌜ r ≡ selectBy letters b c d time n ⌝ }
+// The call that what is seen looks like. Each form of a call has a sum of letters of its own; `none` counts for nothing, since the sum of its
+// letters is 432.
+pub fn guess_by(s: Seen) -> Call
+    ensures { λ r. ⌜ r ≡ guessBy s ⌝ }
 {
-    match letters {
-        16 => Call::Select {
-            open: d,
-            mode: SelectMode::Plain,
-        },
-        111 => Call::Select {
-            open: b,
-            mode: SelectMode::Delay(time),
-        },
-        9 => Call::Select {
-            open: c,
-            mode: SelectMode::Else,
-        },
-        _ => Call::Advance(n),
-    }
-}
-
-// The call that the sum of the letters stands for, with the four last words a, b, c, d. Each form of a call has a sum of its own; `none` counts
-// for nothing, since the sum of its letters is 432.
-fn call_by(letters: u64, a: Word, b: Word, c: Word, d: Word, time: i32) -> Call
-    ensures { λ r. ⌜ r ≡ callBy letters a b c d time ⌝ }
-{
+    let letters = s.letters % 432;
+    let time = time_of(s.minus, s.last.number);
     match letters {
         4 => Call::Create {
-            priority: c.byte,
-            entries: d.byte,
+            priority: s.second,
+            entries: s.last.byte,
         },
         367 => Call::Delay(time),
         284 => Call::Call {
-            target: c.byte,
-            entry: d.byte,
+            target: s.second,
+            entry: s.last.byte,
             mode: CallMode::Simple,
         },
         383 => Call::Call {
-            target: a.byte,
-            entry: b.byte,
+            target: s.fourth,
+            entry: s.third,
             mode: CallMode::Timed(time),
         },
         160 => Call::Call {
-            target: b.byte,
-            entry: c.byte,
+            target: s.third,
+            entry: s.second,
             mode: CallMode::Conditional,
         },
         215 => Call::End,
         17 => Call::Finish,
         299 => Call::Tick,
-        _ => select_by(letters, b.set, c.set, d.set, time, d.number),
+        16 => Call::Select {
+            open: s.last.set,
+            mode: SelectMode::Plain,
+        },
+        111 => Call::Select {
+            open: s.far,
+            mode: SelectMode::Delay(time),
+        },
+        9 => Call::Select {
+            open: s.near,
+            mode: SelectMode::Else,
+        },
+        _ => Call::Advance(s.last.number),
     }
-}
-
-// The call that words look like.
-pub fn guess_at(words: &[u8]) -> Call
-    ensures { λ r. ⌜ r ≡ guessOf (now (words .entry)) ⌝ }
-{
-    let s = seen_in(words);
-    let a = s.fourth;
-    let b = s.third;
-    let c = s.second;
-    let d = s.last;
-    call_by(s.letters % 432, a, b, c, d, time_of(s.minus, d.number))
 }

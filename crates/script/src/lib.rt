@@ -3,6 +3,7 @@ mod guess;
 pub mod print;
 pub mod reader;
 mod row;
+mod word;
 
 use calls::Call;
 pub use print::put_call;

@@ -3,17 +3,18 @@
 ghost use mathlib.Core.Path.{_≡_};
 ghost use mathlib.Core.Bool.{cond};
 ghost use mathlib.Core.List.{_++_};
-ghost use Rattle.calls.specs.Record.{encode};
 ghost use Rattle.text.specs.Text.{Put};
-ghost use Rattle.script.specs.CallText.{spaced, spacedTime, entry, entries, openText, modeText, textOf};
+ghost use Prim.Native.Nat.{_<_};
+ghost use Rattle.script.specs.CallText.{wordOf, spaced, spacedTime, entry, entries, openText, modeText, textOf};
 ghost use Rattle.script.specs.Rows.{Grown};
 ghost use Rattle.script.specs.Says.{Fits, recordOf};
 use crate::Line;
 use crate::row::Row;
 use crate::row::empty;
 use crate::row::with_byte;
-use crate::row::with_bytes;
 use crate::row::with_number;
+use crate::word;
+use crate::word::with_word;
 use calls::Call;
 use calls::CallMode;
 use calls::SelectMode;
@@ -32,30 +33,25 @@ fn with_spaced(row: Row, n: u64) -> Row
     with_number(k, n)
 }
 
-// A blank and a duration. Of a duration below 0, `!d` is one less than its distance from 0.
-fn with_time(row: Row, d: i32) -> Row
-    ensures { λ r. ⌜ Grown row (spacedTime d) r ⌝ }
+// A word and a duration. Of a duration below 0, `!d` is one less than its distance from 0.
+fn with_time(row: Row, word: usize, d: i32) -> Row
+    requires { ⌜ word < 14 ⌝ }
+    ensures { λ r. ⌜ Grown row (wordOf word ++ spacedTime d) r ⌝ }
 {
+    let k = with_word(row, word);
     if d < 0 {
-        let k = with_bytes(row, b" -");
-        return with_number(k, ticks(!d) as u64 + 1);
+        let l = with_word(k, word::MINUS);
+        return with_number(l, ticks(!d) as u64 + 1);
     }
-    with_spaced(row, ticks(d) as u64)
-}
-
-// A word and a duration.
-fn with_timed(row: Row, word: &[u8], d: i32) -> Row
-    ensures { λ r. ⌜ Grown row (now (word .entry) ++ spacedTime d) r ⌝ }
-{
-    let k = with_bytes(row, word);
-    with_time(k, d)
+    with_spaced(k, ticks(d) as u64)
 }
 
 // A word and two numbers.
-fn with_pair(row: Row, word: &[u8], a: u8, b: u8) -> Row
-    ensures { λ r. ⌜ Grown row (now (word .entry) ++ (spaced a ++ spaced b)) r ⌝ }
+fn with_pair(row: Row, word: usize, a: u8, b: u8) -> Row
+    requires { ⌜ word < 14 ⌝ }
+    ensures { λ r. ⌜ Grown row (wordOf word ++ (spaced a ++ spaced b)) r ⌝ }
 {
-    let k = with_bytes(row, word);
+    let k = with_word(row, word);
     let l = with_spaced(k, a as u64);
     with_spaced(l, b as u64)
 }
@@ -101,43 +97,38 @@ fn with_open(row: Row, set: u8) -> Row
     ensures { λ r. ⌜ Grown row (openText set) r ⌝ }
 {
     if set == 0 {
-        return with_bytes(row, b" none");
+        return with_word(row, word::NONE);
     }
     with_entries(row, set)
 }
 
 // How a call waits: nothing, a word and its duration, or another word.
-fn with_mode(row: Row, timed: &[u8], other: &[u8], mode: Mode) -> Row
-    ensures { λ r. ⌜ Grown row (modeText (now (timed .entry)) (now (other .entry)) (mode .number) (mode .time)) r ⌝ }
+fn with_mode(row: Row, timed: usize, other: usize, mode: Mode) -> Row
+    requires { ⌜ timed < 14 ⌝ }
+    requires { ⌜ other < 14 ⌝ }
+    ensures { λ r. ⌜ Grown row (modeText (wordOf timed) (wordOf other) (mode .number) (mode .time)) r ⌝ }
 {
     let m = mode.number;
     match m {
         0 => row,
-        1 => with_timed(row, timed, mode.time),
-        _ => with_bytes(row, other),
+        1 => with_time(row, timed, mode.time),
+        _ => with_word(row, other),
     }
 }
 
 fn with_entry_call(row: Row, target: u8, entry: u8, mode: CallMode) -> Row
     ensures { λ r. ⌜ Grown row (textOf (Call.Call target entry mode)) r ⌝ }
 {
-    let k = with_pair(row, b"CALL", target, entry);
-    with_mode(k, b" timed", b" conditional", mode_of_call(mode))
+    let k = with_pair(row, word::CALL, target, entry);
+    with_mode(k, word::TIMED, word::CONDITIONAL, mode_of_call(mode))
 }
 
 fn with_select(row: Row, set: u8, mode: SelectMode) -> Row
     ensures { λ r. ⌜ Grown row (textOf (Call.Select set mode)) r ⌝ }
 {
-    let k = with_bytes(row, b"SELECT");
+    let k = with_word(row, word::SELECT);
     let l = with_open(k, set);
-    with_mode(l, b" delay", b" else", mode_of_select(mode))
-}
-
-fn with_advance(row: Row, n: u32) -> Row
-    ensures { λ r. ⌜ Grown row (textOf (Call.Advance n)) r ⌝ }
-{
-    let k = with_bytes(row, b"ADVANCE");
-    with_spaced(k, n as u64)
+    with_mode(l, word::WITH_DELAY, word::ELSE, mode_of_select(mode))
 }
 
 // The text of a call. Its numbers are those of its types, so it is short.
@@ -146,18 +137,18 @@ pub(crate) fn with_call(row: Row, c: Call) -> Row
     ensures { λ r. ⌜ Fits c ⌝ }
 {
     match c {
-        Call::Create { priority, entries } => with_pair(row, b"CREATE", priority, entries),
-        Call::Delay(d) => with_timed(row, b"DELAY", d),
+        Call::Create { priority, entries } => with_pair(row, word::CREATE, priority, entries),
+        Call::Delay(d) => with_time(row, word::DELAY, d),
         Call::Call {
             target,
             entry,
             mode,
         } => with_entry_call(row, target, entry, mode),
         Call::Select { open, mode } => with_select(row, open, mode),
-        Call::End => with_bytes(row, b"END"),
-        Call::Finish => with_bytes(row, b"FINISH"),
-        Call::Tick => with_bytes(row, b"TICK"),
-        Call::Advance(n) => with_advance(row, n),
+        Call::End => with_word(row, word::END),
+        Call::Finish => with_word(row, word::FINISH),
+        Call::Tick => with_word(row, word::TICK),
+        Call::Advance(n) => with_spaced(with_word(row, word::ADVANCE), n as u64),
     }
 }
 
@@ -171,23 +162,18 @@ pub fn put_call(c: Call, out: &mut [u8], at: usize) -> usize
     put_bytes(&text[0..n], out, at)
 }
 
-// The record of a call.
-fn put_encoded(c: Call, out: &mut [u8], at: usize) -> usize
-    ensures { λ r. ⌜ Put (now (out .entry)) at (encode c) (now (out .exit)) r ⌝ }
-{
-    let mut room = [0u8; 10];
-    let w = calls::write_record(c, &mut room);
-    let n = least(w.count, 10);
-    put_bytes(&room[0..n], out, at)
-}
-
 // The record of what a line says; nothing where it says no call.
 pub fn put_record(line: Line, out: &mut [u8], at: usize) -> usize
     ensures { λ r. ⌜ Put (now (out .entry)) at (recordOf line) (now (out .exit)) r ⌝ }
 {
     match line {
         Line::Nothing => least(at, out.len()),
-        Line::Says(c) => put_encoded(c, out, at),
+        Line::Says(c) => {
+            let mut room = [0u8; 10];
+            let w = calls::write_record(c, &mut room);
+            let n = least(w.count, 10);
+            put_bytes(&room[0..n], out, at)
+        }
         Line::Unread => least(at, out.len()),
     }
 }

@@ -1,11 +1,13 @@
 // The reader of lines: the words of a line, the call that they look like, and whether that call's text is what they are.
 ghost use mathlib.Core.Path.{_≡_};
+ghost use Prim.Native.Nat.{_≤_};
 ghost use Rattle.script.specs.Rows.{textIn, cut, Grown};
 ghost use Rattle.script.specs.Words.{partOf, wordsOf};
 ghost use Rattle.script.specs.Says.{Says};
 ghost use Rattle.script.specs.Guess.{alike};
 use crate::Line;
-use crate::guess::guess_at;
+use crate::guess::guess_by;
+use crate::guess::seen_in;
 use crate::print::with_call;
 use crate::row::Row;
 use crate::row::empty;
@@ -45,49 +47,37 @@ fn words_of(line: &[u8]) -> Row
     words
 }
 
-// Whether two texts are the same.
-fn same(a: &[u8], b: &[u8]) -> bool
-    ensures { λ r. ⌜ r ≡ alike (now (a .entry)) (now (b .entry)) ⌝ }
+// Whether two rows have the same text.
+fn same(a: Row, b: Row) -> bool
+    requires { ⌜ a .place ≤ 64 ⌝ }
+    ensures { λ r. ⌜ r ≡ alike (textIn a) (textIn b) ⌝ }
 {
-    if a.len() != b.len() {
-        return false;
-    }
+    let mut is_same = a.place == least(b.place, 64);
     let mut i = 0;
-    while i < a.len() {
-        if a[i] != b[i] {
-            return false;
-        }
+    while i < a.place {
+        is_same = is_same & (a.bytes[i] == b.bytes[i]);
         i += 1;
     }
-    true
+    is_same
 }
 
-// What words say.
-fn read_words(words: &[u8]) -> Line
-    ensures { λ r. ⌜ Says (now (words .entry)) r ⌝ }
-{
-    if words.len() == 0 {
-        return Line::Nothing;
-    }
-    let call = guess_at(words);
-    let row = with_call(with_byte(empty(), b' '), call);
-    let text = row.bytes;
-    let n = least(row.place, 64);
-    if same(words, &text[0..n]) {
-        return Line::Says(call);
-    }
-    Line::Unread
-}
-
-// What a line says. No text of a call has 63 bytes, so words that fill the room are none.
+// What a line says: the call that its words look like, where that call's text is what they are. No text of a call has 63 bytes, so words that
+// fill the row are none.
 pub fn read_line(line: &[u8]) -> Line
     ensures { λ r. ⌜ Says (wordsOf (now (line .entry))) r ⌝ }
 {
-    let row = words_of(line);
-    let n = row.place;
+    let words = words_of(line);
+    let n = words.place;
     if 64 <= n {
         return Line::Unread;
     }
-    let words = row.bytes;
-    read_words(&words[0..n])
+    if n == 0 {
+        return Line::Nothing;
+    }
+    let call = guess_by(seen_in(words));
+    let row = with_call(with_byte(empty(), b' '), call);
+    if same(words, row) {
+        return Line::Says(call);
+    }
+    Line::Unread
 }

@@ -4,7 +4,6 @@ ghost use mathlib.Core.List.{[], _∷_};
 ghost use Rattle.text.specs.Text.{decimal};
 ghost use Rattle.script.specs.Rows.{textIn, Grown};
 use text::put_byte;
-use text::put_bytes;
 use text::put_number;
 
 pub struct Row {
@@ -26,15 +25,6 @@ pub fn with_byte(row: Row, b: u8) -> Row
 {
     let mut bytes = row.bytes;
     let place = put_byte(b, &mut bytes, row.place);
-    Row { bytes, place }
-}
-
-// A row with more text.
-pub fn with_bytes(row: Row, text: &[u8]) -> Row
-    ensures { λ r. ⌜ Grown row (now (text .entry)) r ⌝ }
-{
-    let mut bytes = row.bytes;
-    let place = put_bytes(text, &mut bytes, row.place);
     Row { bytes, place }
 }
 

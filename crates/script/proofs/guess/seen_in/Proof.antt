@@ -1,6 +1,7 @@
-use Rattle.script.proofs.Loops.{hear-next, hear-done}
+use Rattle.script.proofs.Loops.{hear-row, heard-row}
 use Rattle.script.specs.declared.guess.Seen.{Seen}
 use Rattle.script.specs.Guess.{hear, unseen}
+use Rattle.script.specs.Rows.{textIn}
 use borrow.Author.Needs.{needs}
 use native.Mathlib.Omega.{arith}
 use lib.ListN.{length, drop}
@@ -10,16 +11,17 @@ use Rattle.script.proofs.guess.seen_in.Statement.{statement}
 use Rattle.script.proofs.guess.seen_in.Tie as tie
 
 abbrev Inv-loop : tie.InvT-loop
-Inv-loop words s₀ i₀ s i = (i ≤ length words) × (hear unseen words ≡ hear s (drop i words))
+Inv-loop words s₀ i₀ s i =
+    (length (words .bytes) ≡ 64) × ((words .place ≤ 64) × ((i ≤ words .place) × (hear unseen (textIn words) ≡ hear s (drop i (textIn words)))))
 
 abbrev μ-loop : tie.MeasureT-loop
-μ-loop words s₀ i₀ s i = length words - i
+μ-loop words s₀ i₀ s i = words .place - i
 
 loop-holds : tie.Need-loop-holds Inv-loop μ-loop
-loop-holds c = (omega arith, ap (λ (s : Seen). hear s (c .before .before .args .words .now)) (sym (c .nothing .ensures)))
+loop-holds c = (search needs, (search needs, (omega arith, ap (λ (s : Seen). hear s (textIn (c .before .args .t1))) (sym (c .nothing .ensures)))))
 
-shared-slice-read-heard : tie.Need-shared-slice-read-heard Inv-loop μ-loop
-shared-slice-read-heard c = omega arith
+element-copy-out-heard : tie.Need-element-copy-out-heard Inv-loop μ-loop
+element-copy-out-heard c = let v = c .before .loop .inv in omega (arith, v .0, v .1 .0, c .loop-test .taken)
 
 add-i : tie.Need-add-i Inv-loop μ-loop
 add-i c = omega arith
@@ -30,12 +32,15 @@ loop-less c = omega arith
 loop-again : tie.Need-loop-again Inv-loop μ-loop
 loop-again c =
     let l = c .before .before .before .loop in
-    let w = c .before .before .before .before .before .before .args .words .now in
-    (omega arith, l .inv .1 ∙ hear-next (l .s) w (l .i) (omega arith) ∙ ap (λ (s : Seen). hear s (drop (l .i + 1) w)) (sym (c .heard .ensures)))
+    let w = c .before .before .before .before .before .args .t1 in
+    let v = l .inv in
+    let h = c .before .before .loop-test .taken in
+    (v .0, (v .1 .0, (omega arith, v .1 .1 .1 ∙ hear-row (l .s) w (l .i) (v .0) (v .1 .0) h ∙ ap (λ (s : Seen). hear s (drop (l .i + 1) (textIn w))) (sym (c .heard .ensures)))))
 
 returns : tie.Need-returns Inv-loop μ-loop
 returns c =
-    let l = c .before .loop in sym (l .inv .1 ∙ hear-done (l .s) (c .before .before .before .before .args .words .now) (l .i) (omega arith))
+    let l = c .before .loop in
+    sym (l .inv .1 .1 .1 ∙ heard-row (l .s) (c .before .before .before .args .t1) (l .i) (l .inv .0) (l .inv .1 .0) (c .loop-test .left))
 
 pub seen-in-spec : {M : Type 1} → statement M
 seen-in-spec =
@@ -45,7 +50,7 @@ seen-in-spec =
     μ-loop
     (λ c κs. search needs)
     loop-holds
-    shared-slice-read-heard
+    element-copy-out-heard
     (λ c κs. search needs)
     add-i
     loop-less

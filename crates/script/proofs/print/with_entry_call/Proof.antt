@@ -11,8 +11,8 @@ use Rattle.script.proofs.print.with_entry_call.Tie as tie
 returns : tie.Need-returns
 unfolding textOf
 returns c =
-    let k = c .before .before .before .before in
-    let a = k .before .before .args in
+    let k = c .before .before in
+    let a = k .before .args in
     let word : List ℕ = 67 ∷ 65 ∷ 76 ∷ 76 ∷ [] in
     same-grown (append-assoc word (spaced (a .target) ++ spaced (a .entry)) (callModeText (a .mode)) ∙ ap (λ (t : List ℕ). word ++ t) (append-assoc (spaced (a .target)) (spaced (a .entry)) (callModeText (a .mode))))
     (then-grown (k .with-pair .ensures) (rw (c .before .mode-of-call .ensures, call-mode-text (a .mode)) at (c .with-mode .ensures)))
@@ -21,10 +21,7 @@ pub with-entry-call-spec : {M : Type 1} → statement M
 with-entry-call-spec =
     tie.close
     (tie.spec
-    (λ c. search needs)
     (λ c κs. search needs)
-    (λ c. search needs)
-    (λ c. search needs)
     (λ c κs. search needs)
     (λ c κs. search needs)
     returns)
