@@ -73,9 +73,7 @@ pub fn place_of(a: [Stretch; 32], n: usize, test: Test, s: u32) -> usize
 {
     let mut i = 0;
     while i < n {
-        let x = nth(a, i);
-        let found = passes(test, s, x);
-        if found {
+        if passes(test, s, nth(a, i)) {
             return i;
         }
         i += 1;
@@ -89,9 +87,7 @@ pub fn all_none(a: [Stretch; 32], n: usize) -> bool
 {
     let mut i = n;
     while i < 32 {
-        let x = nth(a, i);
-        let unused = is_none(x);
-        if unused {
+        if is_none(nth(a, i)) {
             i += 1;
         } else {
             return false;

@@ -150,15 +150,14 @@ pub fn granted(seen: Look, used: Used, size: u32) -> Done
 {
     let bs = seen.blocks;
     let fs = seen.free;
-    let p = seen.place;
-    let s = nth(fs, p);
+    let s = nth(fs, seen.place);
     let k = place_of(bs, used.blocks, Test::StartsBehind, s.start);
     let block = Stretch {
         start: s.start,
         length: size,
     };
     let blocks = opened(bs, k, block);
-    let free = cut_at(fs, p, size);
+    let free = cut_at(fs, seen.place, size);
     let left = used.free - (s.length <= size) as usize;
     done_as(blocks, free, s.start, used.blocks + 1, left)
 }
@@ -249,8 +248,7 @@ pub fn freed(seen: Look, used: Used, p: usize) -> Done
 pub fn released(seen: Look, used: Used, start: u32) -> Done
     ensures { λ r. ⌜ r ≡ releaseSeen seen used start ⌝ }
 {
-    let kept = keeps(seen, used);
-    if kept {
+    if keeps(seen, used) {
         let bs = seen.blocks;
         let p = place_of(bs, used.blocks, Test::StartsAt, start);
         if p < used.blocks {
