@@ -87,8 +87,10 @@ pub fn fresh(blocks: &mut [Stretch], free: &mut [Stretch]) -> Answer
         × (now (blocks .exit) ≡ blocksAfter (now (blocks .entry)) (freshOf (now (blocks .entry)) (now (free .entry))))
         × (now (free .exit) ≡ freeAfter (now (free .entry)) (freshOf (now (blocks .entry)) (now (free .entry)))) ⌝ }
 {
+    let used = Used { blocks: 0, free: 0 };
+    let start = 0;
     let old = look_at(blocks, free, 0);
-    let new = made(old);
+    let new = made(old, used, start);
     write_back(blocks, free, new);
     new.answer
 }

@@ -83,9 +83,9 @@ pub fn refused(seen: Look, used: Used, refusal: u8) -> Done
     }
 }
 
-// A fresh area is one free stretch.
-pub fn made(seen: Look) -> Done
-    ensures { λ r. ⌜ r ≡ freshSeen seen ⌝ }
+// A fresh area is one free stretch, from `start` on; a refusal answers `used`.
+pub fn made(seen: Look, used: Used, start: u32) -> Done
+    ensures { λ r. ⌜ r ≡ freshSeen seen used start ⌝ }
 {
     if seen.long {
         let none = Stretch {
@@ -94,13 +94,12 @@ pub fn made(seen: Look) -> Done
         };
         let blocks = [none; 32];
         let all = Stretch {
-            start: 0,
+            start,
             length: 65536,
         };
         let free = with_at(blocks, 0, all);
         done_as(blocks, free, 0, 0, 1)
     } else {
-        let used = Used { blocks: 0, free: 0 };
         refused(seen, used, 2)
     }
 }
