@@ -6,7 +6,7 @@
 --     operates     the code meets it, where what is to be done says the outcome
 -- The signatures of the two are the same, and so are those of `requested` and `released`: each stands here by the name of the first.
 -- Assumes `Given`.
-use Rattle.workspace.proofs.Prelude.{_≡_, refl, _∙_, subst, ℕ, _<_, _^_, List, [], _∷_, length, URA, fullShare, named, erased, imm, mut, w32, Ty, tyInt, tyUnit, Val, vint, SProp, ent, emp, via, fst∗, snd∗, exE, Lft, Share, ftrue, fat, froom, fdies, flft, Memory, Routine, Heap, Env, WpFn, Calls, Loops, Tables, Atoms, sem, Fun, fact, Given, Item, _⊛_, ⋆, runs, atRet, Sq, _$_, _∵_, !, qed, by, move, drop, split, join, fsplit, fjoin, suffices, frame, done, agg, whole, sub, look-in, look, init, stop, hop, fld, from, load, addr, of-opd, and-then, no-more, assigns, land, returns, enter, alloc1, alloc0, params1, pass1, pass0, free0, FmC, fmOf, WpFn-mono, owns, Is, uint-vals, uint-tells, uint-makes, u32, RefT, MutSlice, Room, finally, slice-vals, mut-slice-tells, plain, nothing, owned, Vals, onEntry, Meets, tripleOf, Contract, Triple, ensured, lasts, says, Stays, gave-slice, stay-none, walkOf, AllGo, goes-gave-slice, goes-none, Walks, ends-at, walked, walk-meets, yes, ‵, lit, lit<, now, Body, assign, call, return, seq}
+use Rattle.workspace.proofs.Prelude.{_≡_, refl, _∙_, subst, ℕ, _<_, _^_, List, [], _∷_, length, URA, fullShare, named, erased, imm, mut, w32, Ty, tyInt, tyUnit, Val, vint, SProp, ent, emp, via, fst∗, snd∗, exE, Lft, Share, ftrue, fat, froom, fdies, flft, Memory, Routine, Heap, Env, WpFn, Calls, Loops, Tables, Atoms, sem, Fun, fact, Given, Item, _⊛_, ⋆, runs, atRet, Sq, _$_, _∵_, !, qed, by, move, drop, split, join, fsplit, fjoin, suffices, frame, done, agg, whole, sub, look-in, look, init, store, stop, hop, fld, from, load, addr, of-opd, and-then, no-more, assigns, land, returns, enter, alloc1, alloc0, params1, pass1, pass0, free0, FmC, fmOf, WpFn-mono, owns, Is, uint-vals, uint-tells, uint-makes, u32, RefT, MutSlice, Room, finally, slice-vals, mut-slice-tells, plain, nothing, owned, Vals, onEntry, Meets, tripleOf, Contract, Triple, ensured, lasts, says, Stays, gave-slice, stay-none, walkOf, AllGo, goes-gave-slice, goes-none, Walks, ends-at, walked, walk-meets, yes, ‵, lit, lit<, now, Body, assign, call, return, seq}
 use mir.Syntax.{Name, Fn, Local, local, valueLocal, Opd as Operand, copy, int, place, field, deref, addrOf, aggregate, rvOpd}
 use types.Kit.{Go, nth}
 use types.Run.{Opd}
@@ -20,8 +20,8 @@ use Rattle.workspace.specs.Operations.{Outcome, answerOf, blocksAfter, f
 use Rattle.workspace.specs.Seen.{laid, lookOf}
 use Rattle.workspace.proofs.Bridge.{Says}
 use Rattle.workspace.proofs.Walks.{lets-go}
-use Rattle.workspace.proofs.Calls.{Told, tells-struct, calls-told}
-use Rattle.workspace.proofs.Both.{ptr, slice, answer, counts, Counts, looked, Looked, low, Low, Lent, val, LookAt, WriteBack, looks, writes-back, ref}
+use Rattle.workspace.proofs.Calls.{Told, tells-struct, calls-told, Stored, stores}
+use Rattle.workspace.proofs.Both.{ptr, slice, answer, counts, Counts, looked, Looked, low, Low, Lent, val, LookAt, looks, ref}
 use Rattle.workspace.proofs.Stretch as T
 use Rattle.workspace.proofs.Stretch.Laws as T′
 use Rattle.workspace.proofs.Used as S
@@ -33,7 +33,7 @@ use Rattle.workspace.proofs.Answer.Laws as R′
 use Rattle.workspace.proofs.Done as N
 use Rattle.workspace.proofs.Done.Laws as N′
 use Rattle.workspace.proofs.lent.look_at.Symbol.{name as #workspace·look-at}
-use Rattle.workspace.proofs.lent.write_back.Symbol.{name as #workspace·write-back}
+use Rattle.workspace.proofs.lent.stored.Symbol.{name as #workspace·stored}
 use Rattle.workspace.proofs.steps.requested as requested
 use Rattle.workspace.proofs.request as f
 
@@ -68,15 +68,17 @@ lends a b c rest =
     seq (assign (place b []) (addrOf (place a (field 0 ∷ deref T′.mir ∷ []))))
     (seq (assign (place c []) (aggregate (copy (place b []) ∷ copy (place a (field 1 ∷ [])) ∷ []))) rest)
 
--- both tables are lent to `look_at`, f is called with what is seen, and both are lent to `write_back` with what is done
+-- both tables are lent to `look_at`, f is called with what is seen, and each is lent to `stored` with what is done to it
 abbrev body : Name → Sought → Body
 body f s =
     lends 1 7 8 (lends 2 9 10
     (seq (call #workspace·look-at (copy (place 8 []) ∷ copy (place 10 []) ∷ operand s ∷ []) (place 5 []))
     (seq (call f (copy (place 5 []) ∷ copy (place 3 []) ∷ copy (place 4 []) ∷ []) (place 6 []))
-    (lends 1 12 13 (lends 2 14 15
-    (seq (call #workspace·write-back (copy (place 13 []) ∷ copy (place 15 []) ∷ copy (place 6 []) ∷ []) (place 11 []))
-    (seq (assign (place 0 []) (rvOpd (copy (place 6 (field 2 ∷ []))))) return)))))))
+    (lends 1 12 13
+    (seq (call #workspace·stored (copy (place 13 []) ∷ copy (place 6 (field 0 ∷ [])) ∷ []) (place 11 []))
+    (lends 2 14 15
+    (seq (call #workspace·stored (copy (place 15 []) ∷ copy (place 6 (field 1 ∷ [])) ∷ []) (place 11 []))
+    (seq (assign (place 0 []) (rvOpd (copy (place 6 (field 2 ∷ []))))) return))))))))
 
 -- the locals: the result, blocks, free, the places used, the number, what is seen, what is done, and each table's reference and slice that is lent, to be read and to be written
 abbrev pub function : Name → Sought → Fn
@@ -135,7 +137,7 @@ module _ {M : Type 1} (𝓤 : URA M) (H : Heap 𝓤) (A : Atoms 𝓤) (W : Given
   abbrev r : Done
   r = F (lookOf (t₁ .now) (t₂ .now) (least s n)) u n
 
-  module _ (C : Calls 𝓤 H) (Λ : Loops 𝓤 H) (fm : FmC 𝓤 H (W .laws) C) (known-look-at : Triple 𝓤 (C #workspace·look-at) (LookAt 𝓤 H A mem run)) (known-work : Triple 𝓤 (C #work) (Does 𝓤 H A F)) (known-write-back : Triple 𝓤 (C #workspace·write-back) (WriteBack 𝓤 H A mem run))
+  module _ (C : Calls 𝓤 H) (Λ : Loops 𝓤 H) (fm : FmC 𝓤 H (W .laws) C) (known-look-at : Triple 𝓤 (C #workspace·look-at) (LookAt 𝓤 H A mem run)) (known-work : Triple 𝓤 (C #work) (Does 𝓤 H A F)) (known-stored : Triple 𝓤 (C #workspace·stored) (Stored 𝓤 H A mem run))
       (l₀ l₁ l₂ l₃ l₄ l₅ l₆ l₇ l₈ l₉ l₁₀ l₁₁ l₁₂ l₁₃ l₁₄ l₁₅ : ℕ) where
     abbrev locals : Env 𝓤 H
     locals = En 𝓤 H l₀ l₁ l₂ l₃ l₄ l₅ l₆ l₇ l₈ l₉ l₁₀ l₁₁ l₁₂ l₁₃ l₁₄ l₁₅
@@ -168,14 +170,17 @@ module _ {M : Type 1} (𝓤 : URA M) (H : Heap 𝓤) (A : Atoms 𝓤) (W : Given
         land ! (from ! (stop !)) (init ! 22 refl (LL.lawful N.the-type N′.the-laws 𝓤 H A W .typed r _ gr .0)) $
         assigns ! (addr ! (from ! (fld ! refl (hop ! (look-in ! 32 (sub ! 0 refl (whole !))) (stop !))))) (from ! (stop !)) (init ! 10 refl (tt, tt)) $
         assigns ! (agg ! (and-then ! (load ! (from ! (stop !)) (look ! 10 refl)) (and-then ! (load ! (from ! (fld ! refl (stop !))) (look-in ! 32 (sub ! 1 refl (whole !)))) (no-more !)))) (from ! (stop !)) (init ! 8 refl (tt, (tt, (record { fits = room₁ .0 }, tt)))) $
+        -- in the call: [what it asks; what free owns; its token; _15; …]
+        stores ! mem run (named 0) κ₁ q₁ (t₁ .b) (t₁ .o) (t₁ .γ) (t₁ .now) (r .blocks) (LL.owed N.the-type N′.the-laws r _ gr .0) fm known-stored (and-then ! (load ! (from ! (stop !)) (look ! 7 refl)) (and-then ! (load ! (from ! (fld ! refl (stop !))) (look-in ! 21 (sub ! 0 refl (whole !)))) (no-more !))) (λ us e₁ n₁.
+        land ! (from ! (stop !)) (init ! 12 refl (tt, tt)) $ move ! (2 ∷ 3 ∷ []) $
+        -- [what free owns; its token; blocks' last list; its token; _15; …]
         assigns ! (addr ! (from ! (fld ! refl (hop ! (look-in ! 30 (sub ! 0 refl (whole !))) (stop !))))) (from ! (stop !)) (init ! 6 refl (tt, tt)) $
         assigns ! (agg ! (and-then ! (load ! (from ! (stop !)) (look ! 6 refl)) (and-then ! (load ! (from ! (fld ! refl (stop !))) (look-in ! 30 (sub ! 1 refl (whole !)))) (no-more !)))) (from ! (stop !)) (init ! 4 refl (tt, (tt, (record { fits = room₂ .0 }, tt)))) $
-        -- in the call: [what it asks; _15; …]
-        writes-back ! mem run κ₁ κ₂ q₁ q₂ t₁ t₂ r gr fm known-write-back (and-then ! (load ! (from ! (stop !)) (look ! 5 refl)) (and-then ! (load ! (from ! (stop !)) (look ! 1 refl)) (and-then ! (load ! (from ! (stop !)) (look ! 19 refl)) (no-more !)))) (λ us vs e n₁ n₂.
-        land ! (from ! (stop !)) (init ! 12 refl (tt, tt)) $
+        stores ! mem run (named 1) κ₂ q₂ (t₂ .b) (t₂ .o) (t₂ .γ) (t₂ .now) (r .free) (LL.owed N.the-type N′.the-laws r _ gr .1 .0) fm known-stored (and-then ! (load ! (from ! (stop !)) (look ! 3 refl)) (and-then ! (load ! (from ! (fld ! refl (stop !))) (look-in ! 21 (sub ! 1 refl (whole !)))) (no-more !))) (λ vs e₂ n₂.
+        land ! (from ! (stop !)) (store ! 12 refl (tt, tt)) $
         assigns ! (of-opd ! (load ! (from ! (fld ! refl (stop !))) (look-in ! 22 (sub ! 2 refl (whole !))))) (from ! (stop !)) (init ! 34 refl (LL.lawful R.the-type R′.the-laws 𝓤 H A W .typed (r .answer) _ (LL.owed N.the-type N′.the-laws r _ gr .1 .1 .0) .0)) $
-        returns ! (look ! 34 refl) $ lets-go ! 34 refl refl $ lets-go ! 32 refl refl $ lets-go ! 30 refl refl $ lets-go ! 28 refl refl $ lets-go ! 26 refl refl $ lets-go ! 24 refl refl $ lets-go ! 22 refl refl $ lets-go ! 20 refl refl $ lets-go ! 18 refl refl $ lets-go ! 16 refl refl $ lets-go ! 14 refl refl $ lets-go ! 12 refl refl $ lets-go ! 10 refl refl $ lets-go ! 8 refl refl $ lets-go ! 6 refl refl $ lets-go ! 4 refl refl $ free0 ! $
-        by ! (exits us vs e n₁ n₂ (LL.owed N.the-type N′.the-laws r _ gr .1 .1 .0)))))
+        returns ! (look ! 34 refl) $ lets-go ! 34 refl refl $ lets-go ! 32 refl refl $ lets-go ! 30 refl refl $ lets-go ! 28 refl refl $ lets-go ! 26 refl refl $ lets-go ! 24 refl refl $ lets-go ! 22 refl refl $ lets-go ! 20 refl refl $ lets-go ! 18 refl refl $ lets-go ! 16 refl refl $ lets-go ! 14 refl refl $ lets-go ! 12 refl refl $ lets-go ! 10 refl refl $ lets-go ! 8 refl refl $ lets-go ! 6 refl refl $ lets-go ! 4 refl refl $ free0 ! $ move ! (2 ∷ 3 ∷ []) $
+        by ! (exits us vs (e₁, e₂) n₁ n₂ (LL.owed N.the-type N′.the-laws r _ gr .1 .1 .0))))))
 
 -- ---- the contract of the whole
 module _ {M : Type 1} (𝓤 : URA M) (O : List Stretch → List Stretch → Used → ℕ → Outcome) where
@@ -222,7 +227,7 @@ module _ {M : Type 1} (𝓤 : URA M) (H : Heap 𝓤) (A : Atoms 𝓤) (W : Given
       frame ! $ nothing ! $ owned ! u32 (Is u32) (uint-makes 𝓤 H A W w32) n _ (refl, gs) $ fjoin ! $ owned ! S.the-row (Is S.the-row) (LL.makes S.the-type S′.the-plain 𝓤 H A) u _ gu $ fjoin ! $ move ! (2 ∷ 0 ∷ []) $ fjoin ! $ move ! (1 ∷ 0 ∷ []) $ fjoin ! $
       frame ! $ owned ! R.the-row (Is R.the-row) (LL.makes R.the-type R′.the-plain 𝓤 H A) (d .answer) _ ga $ done !
 
-  module _ (C : Calls 𝓤 H) (Λ : Loops 𝓤 H) (fm : FmC 𝓤 H (W .laws) C) (known-look-at : Triple 𝓤 (C #workspace·look-at) (LookAt 𝓤 H A mem run)) (known-work : Triple 𝓤 (C #work) (Does 𝓤 H A F)) (known-write-back : Triple 𝓤 (C #workspace·write-back) (WriteBack 𝓤 H A mem run))
+  module _ (C : Calls 𝓤 H) (Λ : Loops 𝓤 H) (fm : FmC 𝓤 H (W .laws) C) (known-look-at : Triple 𝓤 (C #workspace·look-at) (LookAt 𝓤 H A mem run)) (known-work : Triple 𝓤 (C #work) (Does 𝓤 H A F)) (known-stored : Triple 𝓤 (C #workspace·stored) (Stored 𝓤 H A mem run))
       (l₀ l₁ l₂ l₃ l₄ l₅ l₆ l₇ l₈ l₉ l₁₀ l₁₁ l₁₂ l₁₃ l₁₄ l₁₅ : ℕ) where
     abbrev Locals : Env 𝓤 H
     Locals = En 𝓤 H l₀ l₁ l₂ l₃ l₄ l₅ l₆ l₇ l₈ l₉ l₁₀ l₁₁ l₁₂ l₁₃ l₁₄ l₁₅
@@ -239,10 +244,10 @@ module _ {M : Type 1} (𝓤 : URA M) (H : Heap 𝓤) (A : Atoms 𝓤) (W : Given
     starts : Sq W Entered (runs C Λ Locals (body #work s) (atRet Locals Post))
     starts =
         move ! (33 ∷ []) $ fsplit ! $ move ! (1 ∷ []) $ fsplit ! $ move ! (1 ∷ []) $ drop ! $ move ! (34 ∷ []) $ split ! $ move ! (1 ∷ []) $ split ! $ move ! (1 ∷ []) $ drop ! $ move ! (3 ∷ 1 ∷ 2 ∷ 0 ∷ []) $
-        begins 𝓤 H A W mem run F s #work κ₁ κ₂ q₁ q₂ t₁ t₂ u n room₁ room₂ gu gs Post exits C Λ fm known-look-at known-work known-write-back l₀ l₁ l₂ l₃ l₄ l₅ l₆ l₇ l₈ l₉ l₁₀ l₁₁ l₁₂ l₁₃ l₁₄ l₁₅
+        begins 𝓤 H A W mem run F s #work κ₁ κ₂ q₁ q₂ t₁ t₂ u n room₁ room₂ gu gs Post exits C Λ fm known-look-at known-work known-stored l₀ l₁ l₂ l₃ l₄ l₅ l₆ l₇ l₈ l₉ l₁₀ l₁₁ l₁₂ l₁₃ l₁₄ l₁₅
 
   -- from the call on
-  walk : (C : Calls 𝓤 H) (Λ : Loops 𝓤 H) → FmC 𝓤 H (W .laws) C → Triple 𝓤 (C #workspace·look-at) (LookAt 𝓤 H A mem run) → Triple 𝓤 (C #work) (Does 𝓤 H A F) → Triple 𝓤 (C #workspace·write-back) (WriteBack 𝓤 H A mem run)
+  walk : (C : Calls 𝓤 H) (Λ : Loops 𝓤 H) → FmC 𝓤 H (W .laws) C → Triple 𝓤 (C #workspace·look-at) (LookAt 𝓤 H A mem run) → Triple 𝓤 (C #work) (Does 𝓤 H A F) → Triple 𝓤 (C #workspace·stored) (Stored 𝓤 H A mem run)
       → ent 𝓤 (onEntry 𝓤 H A f.signature (κ₁, (κ₂, tt)) (q₁, (q₂, tt)) x vals) (WpFn 𝓤 H C Λ (function #work s) (val t₁ ∷ val t₂ ∷ counts u ∷ vint w32 n ∷ []) Post)
   walk C Λ fm k₁ k₂ k₃ =
       qed W ((‵ (flft κ₁ q₁) ⊛ (‵ (flft κ₂ q₂) ⊛ ‵ ftrue)) ∷ ‵ (owns (MutSlice (named 0) κ₁ T.the-row ∷ MutSlice (named 1) κ₂ T.the-row ∷ S.the-row ∷ u32 ∷ []) x vals) ∷ []) ∵ enter ! C Λ (function #work s) (val t₁ ∷ val t₂ ∷ counts u ∷ vint w32 n ∷ []) _ $
@@ -252,7 +257,7 @@ module _ {M : Type 1} (𝓤 : URA M) (H : Heap 𝓤) (A : Atoms 𝓤) (W : Given
 
 module _ {M : Type 1} (𝓤 : URA M) (H : Heap 𝓤) (A : Atoms 𝓤) (W : Given 𝓤 H A) (mem : Memory → SProp 𝓤) (run : Routine → Fun 𝓤)
     (F : Look → Used → ℕ → Done) (O : List Stretch → List Stretch → Used → ℕ → Outcome) (s : Sought) (saying : (b f : List Stretch) (u : Used) (n : ℕ) → Says (F (lookOf b f (least s n)) u n) b f u (O b f u n)) (#work : Name) where
-  walks : (C : Calls 𝓤 H) (Λ : Loops 𝓤 H) → FmC 𝓤 H (W .laws) C → Triple 𝓤 (C #workspace·look-at) (LookAt 𝓤 H A mem run) → Triple 𝓤 (C #work) (Does 𝓤 H A F) → Triple 𝓤 (C #workspace·write-back) (WriteBack 𝓤 H A mem run)
+  walks : (C : Calls 𝓤 H) (Λ : Loops 𝓤 H) → FmC 𝓤 H (W .laws) C → Triple 𝓤 (C #workspace·look-at) (LookAt 𝓤 H A mem run) → Triple 𝓤 (C #work) (Does 𝓤 H A F) → Triple 𝓤 (C #workspace·stored) (Stored 𝓤 H A mem run)
       → Walks 𝓤 H A f.ended stayed (WpFn 𝓤 H C Λ (function #work s)) (Answers 𝓤 O)
   walks C Λ fm k₁ k₂ k₃ = walked 𝓤 H A f.ended stayed (Answers 𝓤 O) (WpFn 𝓤 H C Λ (function #work s)) (λ κs. (slice-vals, (slice-vals, (LL.vals S.the-type S′.the-laws, (uint-vals w32, tt)))))
       (λ κs. (mut-slice-tells (named 0) (κs .0) T.the-row, (mut-slice-tells (named 1) (κs .1 .0) T.the-row, (LL.tells S.the-type S′.the-laws, (uint-tells w32, tt)))))
@@ -262,7 +267,7 @@ module _ {M : Type 1} (𝓤 : URA M) (H : Heap 𝓤) (A : Atoms 𝓤) (W : Given
   goes : AllGo 𝓤 H A W 2 (f.signature .params) (f.ended .kept) stayed
   goes = (goes-gave-slice 𝓤 H A W 2 0 tt (plain (λ _. T.the-row)), (goes-gave-slice 𝓤 H A W 2 1 tt (plain (λ _. T.the-row)), (goes-none 𝓤 H A W 2 (λ _. S.the-row) yes (λ κs x f. refl), (goes-none 𝓤 H A W 2 (λ _. u32) yes (λ κs x f. refl), tt))))
 
-  pub operates : {k : Fn} → function #work s ≡ k → (𝓣 : Tables 𝓤 H) → Triple 𝓤 (𝓣 .C #workspace·look-at) (LookAt 𝓤 H A mem run) → Triple 𝓤 (𝓣 .C #work) (Does 𝓤 H A F) → Triple 𝓤 (𝓣 .C #workspace·write-back) (WriteBack 𝓤 H A mem run)
+  pub operates : {k : Fn} → function #work s ≡ k → (𝓣 : Tables 𝓤 H) → Triple 𝓤 (𝓣 .C #workspace·look-at) (LookAt 𝓤 H A mem run) → Triple 𝓤 (𝓣 .C #work) (Does 𝓤 H A F) → Triple 𝓤 (𝓣 .C #workspace·stored) (Stored 𝓤 H A mem run)
       → Meets 𝓤 H A f.signature (WpFn 𝓤 H (𝓣 .C) (𝓣 .Λ) k) (closing 𝓤 H A f.ended (Answers 𝓤 O))
   operates e 𝓣 k₁ k₂ k₃ =
       subst (λ (k : Fn). Meets 𝓤 H A f.signature (WpFn 𝓤 H (𝓣 .C) (𝓣 .Λ) k) (closing 𝓤 H A f.ended (Answers 𝓤 O))) e

@@ -1,5 +1,4 @@
 // The lent tables: searched, read, and written. These functions go over the lent slices themselves.
-use crate::Done;
 use crate::Look;
 use crate::Stretch;
 use crate::Table;
@@ -117,12 +116,4 @@ pub fn look_at(blocks: &[Stretch], free: &[Stretch], size: u32) -> Look
     let f = loaded(free);
     let place = first_fit(free, size);
     seen_as(b, f, blocks.len(), free.len(), place)
-}
-
-// Writes each place of both tables.
-pub fn write_back(blocks: &mut [Stretch], free: &mut [Stretch], done: Done)
-    ensures { λ _. ⌜ (now (blocks .exit) ≡ laid (done .blocks) (now (blocks .entry))) × (now (free .exit) ≡ laid (done .free) (now (free .entry))) ⌝ }
-{
-    stored(blocks, done.blocks);
-    stored(free, done.free);
 }

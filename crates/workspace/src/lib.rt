@@ -9,7 +9,7 @@ mod steps; // steps.rt: what each operation does to the places
 pub mod owned; // owned.rt: the same operations on two tables by value
 
 use lent::look_at;
-use lent::write_back;
+use lent::stored;
 use steps::made;
 use steps::released;
 use steps::requested;
@@ -91,7 +91,8 @@ pub fn fresh(blocks: &mut [Stretch], free: &mut [Stretch]) -> Answer
     let start = 0;
     let old = look_at(blocks, free, 0);
     let new = made(old, used, start);
-    write_back(blocks, free, new);
+    stored(blocks, new.blocks);
+    stored(free, new.free);
     new.answer
 }
 
@@ -103,7 +104,8 @@ pub fn request(blocks: &mut [Stretch], free: &mut [Stretch], used: Used, size: u
 {
     let seen = look_at(blocks, free, size);
     let taken = requested(seen, used, size);
-    write_back(blocks, free, taken);
+    stored(blocks, taken.blocks);
+    stored(free, taken.free);
     taken.answer
 }
 
@@ -115,6 +117,7 @@ pub fn release(blocks: &mut [Stretch], free: &mut [Stretch], used: Used, start: 
 {
     let seen = look_at(blocks, free, 0);
     let given = released(seen, used, start);
-    write_back(blocks, free, given);
+    stored(blocks, given.blocks);
+    stored(free, given.free);
     given.answer
 }

@@ -10,8 +10,9 @@ use Rattle.workspace.specs.Operations.{freshOf, unused}
 use Rattle.workspace.specs.Seen.{laid, lookOf}
 use Rattle.workspace.specs.Steps.{freshSeen}
 use Rattle.workspace.proofs.Bridge.{Says, fresh-says}
+use Rattle.workspace.proofs.Calls.{Stored}
 use Rattle.workspace.proofs.Operating.{any, En, Does, begins}
-use Rattle.workspace.proofs.Both.{ptr, slice, answer, counts, Counts, Lent, val, LookAt, WriteBack, looks, writes-back, knows-look-at, knows-write-back}
+use Rattle.workspace.proofs.Both.{ptr, slice, answer, counts, Counts, Lent, val, LookAt, knows-look-at, knows-stored}
 use Rattle.workspace.proofs.Stretch as T
 use Rattle.workspace.proofs.Used as S
 use Rattle.workspace.proofs.Used.Laws as S′
@@ -22,7 +23,7 @@ use Rattle.workspace.proofs.Answer.Laws as R′
 use Rattle.workspace.proofs.Done as N
 use Rattle.workspace.proofs.Done.Laws as N′
 use Rattle.workspace.proofs.lent.look_at.Symbol.{name as #workspace·look-at}
-use Rattle.workspace.proofs.lent.write_back.Symbol.{name as #workspace·write-back}
+use Rattle.workspace.proofs.lent.stored.Symbol.{name as #workspace·stored}
 use Rattle.workspace.proofs.steps.made.Symbol as made-def
 use Rattle.workspace.proofs.steps.made.Symbol.{name as #workspace·made}
 use Rattle.workspace.proofs.steps.made.Met as made-thm
@@ -67,7 +68,7 @@ module _ {M : Type 1} (𝓤 : URA M) (H : Heap 𝓤) (A : Atoms 𝓤) (W : Given
       frame ! $ nothing ! $ move ! (2 ∷ 0 ∷ []) $ fjoin ! $ move ! (1 ∷ 0 ∷ []) $ fjoin ! $
       frame ! $ owned ! R.the-row (Is R.the-row) (LL.makes R.the-type R′.the-plain 𝓤 H A) (r .answer) _ ga $ done !
 
-  module _ (C : Calls 𝓤 H) (Λ : Loops 𝓤 H) (fm : FmC 𝓤 H (W .laws) C) (known-look-at : Triple 𝓤 (C #workspace·look-at) (LookAt 𝓤 H A mem run)) (known-made : Triple 𝓤 (C #workspace·made) (Does 𝓤 H A freshSeen)) (known-write-back : Triple 𝓤 (C #workspace·write-back) (WriteBack 𝓤 H A mem run))
+  module _ (C : Calls 𝓤 H) (Λ : Loops 𝓤 H) (fm : FmC 𝓤 H (W .laws) C) (known-look-at : Triple 𝓤 (C #workspace·look-at) (LookAt 𝓤 H A mem run)) (known-made : Triple 𝓤 (C #workspace·made) (Does 𝓤 H A freshSeen)) (known-stored : Triple 𝓤 (C #workspace·stored) (Stored 𝓤 H A mem run))
       (l₀ l₁ l₂ l₃ l₄ l₅ l₆ l₇ l₈ l₉ l₁₀ l₁₁ l₁₂ l₁₃ l₁₄ l₁₅ : ℕ) where
     abbrev locals : Env 𝓤 H
     locals = En 𝓤 H l₀ l₁ l₂ l₃ l₄ l₅ l₆ l₇ l₈ l₉ l₁₀ l₁₁ l₁₂ l₁₃ l₁₄ l₁₅
@@ -87,9 +88,9 @@ module _ {M : Type 1} (𝓤 : URA M) (H : Heap 𝓤) (A : Atoms 𝓤) (W : Given
         -- [what blocks owns; its token; what free owns; its token; _15; …]
         assigns ! (agg ! (and-then ! (lit ! tt) (and-then ! (lit ! tt) (no-more !)))) (from ! (stop !)) (init ! 28 refl (LL.lawful S.the-type S′.the-laws 𝓤 H A W .typed unused _ none-used .0)) $
         assigns ! (of-opd ! (lit ! tt)) (from ! (stop !)) (init ! 26 refl (tt, record { fits = lit< tt })) $
-        begins 𝓤 H A W mem run freshSeen any #workspace·made κ₁ κ₂ q₁ q₂ t₁ t₂ unused 0 room₁ room₂ none-used (lit< tt) Post exits C Λ fm known-look-at known-made known-write-back l₀ l₁ l₂ l₃ l₄ l₅ l₆ l₇ l₈ l₉ l₁₀ l₁₁ l₁₂ l₁₃ l₁₄ l₁₅
+        begins 𝓤 H A W mem run freshSeen any #workspace·made κ₁ κ₂ q₁ q₂ t₁ t₂ unused 0 room₁ room₂ none-used (lit< tt) Post exits C Λ fm known-look-at known-made known-stored l₀ l₁ l₂ l₃ l₄ l₅ l₆ l₇ l₈ l₉ l₁₀ l₁₁ l₁₂ l₁₃ l₁₄ l₁₅
 
-  walk : (C : Calls 𝓤 H) (Λ : Loops 𝓤 H) → FmC 𝓤 H (W .laws) C → Triple 𝓤 (C #workspace·look-at) (LookAt 𝓤 H A mem run) → Triple 𝓤 (C #workspace·made) (Does 𝓤 H A freshSeen) → Triple 𝓤 (C #workspace·write-back) (WriteBack 𝓤 H A mem run)
+  walk : (C : Calls 𝓤 H) (Λ : Loops 𝓤 H) → FmC 𝓤 H (W .laws) C → Triple 𝓤 (C #workspace·look-at) (LookAt 𝓤 H A mem run) → Triple 𝓤 (C #workspace·made) (Does 𝓤 H A freshSeen) → Triple 𝓤 (C #workspace·stored) (Stored 𝓤 H A mem run)
       → ent 𝓤 (onEntry 𝓤 H A f.signature (κ₁, (κ₂, tt)) (q₁, (q₂, tt)) x vals) (WpFn 𝓤 H C Λ code.function (val t₁ ∷ val t₂ ∷ []) Post)
   walk C Λ fm k₁ k₂ k₃ =
       qed W ((‵ (flft κ₁ q₁) ⊛ (‵ (flft κ₂ q₂) ⊛ ‵ ftrue)) ∷ ‵ (owns (MutSlice (named 0) κ₁ T.the-row ∷ MutSlice (named 1) κ₂ T.the-row ∷ []) x vals) ∷ []) ∵ enter ! C Λ code.function (val t₁ ∷ val t₂ ∷ []) _ $
@@ -98,7 +99,7 @@ module _ {M : Type 1} (𝓤 : URA M) (H : Heap 𝓤) (A : Atoms 𝓤) (W : Given
       starts C Λ fm k₁ k₂ k₃ l₀ l₁ l₂ l₃ l₄ l₅ l₆ l₇ l₈ l₉ l₁₀ l₁₁ l₁₂ l₁₃ l₁₄ l₁₅))))))))))))))))
 
 module _ {M : Type 1} (𝓤 : URA M) (H : Heap 𝓤) (A : Atoms 𝓤) (W : Given 𝓤 H A) (mem : Memory → SProp 𝓤) (run : Routine → Fun 𝓤) where
-  fresh-walks : (C : Calls 𝓤 H) (Λ : Loops 𝓤 H) → FmC 𝓤 H (W .laws) C → Triple 𝓤 (C #workspace·look-at) (LookAt 𝓤 H A mem run) → Triple 𝓤 (C #workspace·made) (Does 𝓤 H A freshSeen) → Triple 𝓤 (C #workspace·write-back) (WriteBack 𝓤 H A mem run)
+  fresh-walks : (C : Calls 𝓤 H) (Λ : Loops 𝓤 H) → FmC 𝓤 H (W .laws) C → Triple 𝓤 (C #workspace·look-at) (LookAt 𝓤 H A mem run) → Triple 𝓤 (C #workspace·made) (Does 𝓤 H A freshSeen) → Triple 𝓤 (C #workspace·stored) (Stored 𝓤 H A mem run)
       → Walks 𝓤 H A f.ended stayed (WpFn 𝓤 H C Λ code.function) (f.clauses 𝓤 H A mem run)
   fresh-walks C Λ fm k₁ k₂ k₃ = walked 𝓤 H A f.ended stayed (f.clauses 𝓤 H A mem run) (WpFn 𝓤 H C Λ code.function) (λ κs. (slice-vals, (slice-vals, tt)))
       (λ κs. (mut-slice-tells (named 0) (κs .0) T.the-row, (mut-slice-tells (named 1) (κs .1 .0) T.the-row, tt)))
@@ -108,7 +109,7 @@ module _ {M : Type 1} (𝓤 : URA M) (H : Heap 𝓤) (A : Atoms 𝓤) (W : Given
   goes : AllGo 𝓤 H A W 2 (f.signature .params) (f.ended .kept) stayed
   goes = (goes-gave-slice 𝓤 H A W 2 0 tt (plain (λ _. T.the-row)), (goes-gave-slice 𝓤 H A W 2 1 tt (plain (λ _. T.the-row)), tt))
 
-fresh-meets : {M : Type 1} (𝓤 : URA M) (H : Heap 𝓤) (A : Atoms 𝓤) → Given 𝓤 H A → (mem : Memory → SProp 𝓤) (run : Routine → Fun 𝓤) (𝓣 : Tables 𝓤 H) → Triple 𝓤 (𝓣 .C #workspace·look-at) (LookAt 𝓤 H A mem run) → Triple 𝓤 (𝓣 .C #workspace·made) (Does 𝓤 H A freshSeen) → Triple 𝓤 (𝓣 .C #workspace·write-back) (WriteBack 𝓤 H A mem run)
+fresh-meets : {M : Type 1} (𝓤 : URA M) (H : Heap 𝓤) (A : Atoms 𝓤) → Given 𝓤 H A → (mem : Memory → SProp 𝓤) (run : Routine → Fun 𝓤) (𝓣 : Tables 𝓤 H) → Triple 𝓤 (𝓣 .C #workspace·look-at) (LookAt 𝓤 H A mem run) → Triple 𝓤 (𝓣 .C #workspace·made) (Does 𝓤 H A freshSeen) → Triple 𝓤 (𝓣 .C #workspace·stored) (Stored 𝓤 H A mem run)
     → Meets 𝓤 H A f.signature (WpFn 𝓤 H (𝓣 .C) (𝓣 .Λ) code.function) (f.spec 𝓤 H A mem run)
 fresh-meets 𝓤 H A W mem run 𝓣 k₁ k₂ k₃ = walk-meets 𝓤 H A f.ended stayed W (goes 𝓤 H A W mem run) (f.clauses 𝓤 H A mem run) (WpFn 𝓤 H (𝓣 .C) (𝓣 .Λ) code.function) (WpFn-mono 𝓤 H (W .laws) 𝓣 code.function) (fresh-walks 𝓤 H A W mem run (𝓣 .C) (𝓣 .Λ) (fmOf 𝓤 H (W .laws) 𝓣) k₁ k₂ k₃)
 
@@ -120,4 +121,4 @@ fresh-spec 𝓤 H 𝓜 𝓖 𝓡 =
     (fresh-meets 𝓤 H (𝓖 .A) (givenOf 𝓤 H 𝓜 𝓖) (𝓜 .mem) (𝓡 .run) (tablesOf 𝓤 H 𝓜 (tables 𝓤 H 𝓜 𝓡 code.env))
     (knows-look-at 𝓤 H 𝓜 𝓖 𝓡 code.env code.calls-workspace·lent·look-at)
     (cited 𝓤 H (Does 𝓤 H (𝓖 .A) freshSeen) 𝓜 𝓡 code.env #workspace·made made-def.routine code.calls-workspace·steps·made (made-thm.met 𝓤 H 𝓜 𝓖 𝓡))
-    (knows-write-back 𝓤 H 𝓜 𝓖 𝓡 code.env code.calls-workspace·lent·write-back))
+    (knows-stored 𝓤 H 𝓜 𝓖 𝓡 code.env code.calls-workspace·lent·stored))
