@@ -68,15 +68,9 @@ pub fn loaded(table: &[Stretch]) -> Table
 pub fn place_after(t: Table, i: usize, x: Stretch) -> Stretch
     ensures { λ r. ⌜ r ≡ placeAfter t i x ⌝ }
 {
-    if i < 32 {
-        let places = t.places;
-        return nth(places, i);
-    }
-    if t.clear {
-        Stretch {
-            start: 0,
-            length: 0,
-        }
+    let places = t.places;
+    if (i < 32) | t.clear {
+        nth(places, i)
     } else {
         x
     }

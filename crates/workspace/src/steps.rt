@@ -105,8 +105,8 @@ pub fn made(seen: Look, used: Used, start: u32) -> Done
 }
 
 // The refusal of a request, for which a free stretch is found at `place`; 0 if there is none.
-pub fn request_refusal(kept: bool, used: Used, place: usize, size: u32) -> u8
-    ensures { λ r. ⌜ r ≡ requestRefusal kept used place size ⌝ }
+pub fn request_refusal(kept: bool, m: usize, n: usize, place: usize, size: u32) -> u8
+    ensures { λ r. ⌜ r ≡ requestRefusal kept (record { blocks = m; free = n }) place size ⌝ }
 {
     if !kept {
         return 2;
@@ -115,10 +115,10 @@ pub fn request_refusal(kept: bool, used: Used, place: usize, size: u32) -> u8
     if !sized {
         return 13;
     }
-    if 31 <= used.blocks {
+    if 31 <= m {
         return 14;
     }
-    if used.free <= place {
+    if n <= place {
         return 15;
     }
     0
@@ -165,7 +165,7 @@ pub fn requested(seen: Look, used: Used, size: u32) -> Done
     ensures { λ r. ⌜ r ≡ requestSeen seen used size ⌝ }
 {
     let kept = keeps(seen, used);
-    let refusal = request_refusal(kept, used, seen.place, size);
+    let refusal = request_refusal(kept, used.blocks, used.free, seen.place, size);
     if refusal == 0 {
         granted(seen, used, size)
     } else {

@@ -1,10 +1,9 @@
 -- `workspace::fresh` meets its contract: a walk of its MIR, by hand. Both tables are looked at, a covered function works out what is to be done, and the tables are written.
 --     begins       the body, once the parameters are in their locals
 -- Assumes nothing.
-use Rattle.workspace.proofs.Prelude.{_≡_, refl, _∙_, ℕ, _<_, List, [], _∷_, length, URA, fullShare, named, erased, imm, mut, tyUnit, Val, SProp, ent, emp, via, fst∗, snd∗, exE, Lft, Share, ftrue, fat, froom, fdies, flft, Memory, Routine, Heap, Env, WpFn, Calls, Loops, Tables, Atoms, sem, Fun, fact, givenOf, tables, tablesOf, Given, Item, _⊛_, ⋆, runs, atRet, Sq, _$_, _∵_, !, qed, by, move, drop, split, join, fsplit, fjoin, suffices, frame, done, agg, whole, sub, look-in, look, init, stop, hop, fld, from, load, addr, of-opd, and-then, no-more, lit, lit<, assigns, land, returns, enter, alloc1, alloc0, params1, pass1, pass0, free0, FmC, fmOf, WpFn-mono, owns, Is, RefT, MutSlice, Room, finally, slice-vals, mut-slice-tells, plain, nothing, owned, Vals, onEntry, Meets, tripleOf, Contract, Triple, ensured, lasts, entered, cited, says, Stays, gave-slice, walkOf, AllGo, goes-gave-slice, Walks, ends-at, walked, walk-meets, ‵, tyInt, w32, w64, vint}
+use Rattle.workspace.proofs.Prelude.{_≡_, refl, _∙_, ℕ, _<_, List, [], _∷_, length, URA, fullShare, named, erased, imm, mut, tyUnit, Val, SProp, ent, emp, via, fst∗, Lft, Share, ftrue, fat, froom, fdies, flft, Memory, Routine, Heap, Env, WpFn, Calls, Loops, Tables, Atoms, Fun, givenOf, tables, tablesOf, Given, Item, _⊛_, ⋆, runs, atRet, Sq, _$_, _∵_, !, qed, move, drop, split, join, fsplit, fjoin, suffices, frame, done, agg, init, stop, from, of-opd, and-then, no-more, lit, lit<, assigns, enter, alloc1, alloc0, params1, pass1, pass0, FmC, fmOf, WpFn-mono, owns, Is, RefT, MutSlice, Room, finally, slice-vals, mut-slice-tells, plain, nothing, owned, Vals, onEntry, Meets, tripleOf, Triple, entered, cited, says, Stays, gave-slice, walkOf, AllGo, goes-gave-slice, Walks, ends-at, walked, walk-meets, ‵, tyInt, w32, w64, vint}
 use denote.Struct.Laws as LL
 use Rattle.workspace.specs.declared.Stretch.{Stretch}
-use Rattle.workspace.specs.declared.Look.{Look}
 use Rattle.workspace.specs.declared.Done.{Done}
 use Rattle.workspace.specs.Operations.{freshOf, unused}
 use Rattle.workspace.specs.Seen.{laid, lookOf}
@@ -12,15 +11,13 @@ use Rattle.workspace.specs.Steps.{freshSeen}
 use Rattle.workspace.proofs.Bridge.{Says, fresh-says}
 use Rattle.workspace.proofs.Calls.{Stored}
 use Rattle.workspace.proofs.Operating.{any, En, Does, begins}
-use Rattle.workspace.proofs.Both.{ptr, slice, answer, counts, Counts, Lent, val, LookAt, knows-look-at, knows-stored}
+use Rattle.workspace.proofs.Both.{ptr, slice, answer, Counts, Lent, val, LookAt, knows-look-at, knows-stored}
 use Rattle.workspace.proofs.Stretch as T
 use Rattle.workspace.proofs.Used as S
 use Rattle.workspace.proofs.Used.Laws as S′
-use Rattle.workspace.proofs.Look as L
 use Rattle.workspace.proofs.Look.Laws as L′
 use Rattle.workspace.proofs.Answer as R
 use Rattle.workspace.proofs.Answer.Laws as R′
-use Rattle.workspace.proofs.Done as N
 use Rattle.workspace.proofs.Done.Laws as N′
 use Rattle.workspace.proofs.lent.look_at.Symbol.{name as #workspace·look-at}
 use Rattle.workspace.proofs.lent.stored.Symbol.{name as #workspace·stored}
