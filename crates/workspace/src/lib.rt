@@ -88,9 +88,9 @@ pub fn fresh(blocks: &mut [Stretch], free: &mut [Stretch]) -> Answer
         × (now (free .exit) ≡ freeAfter (now (free .entry)) (freshOf (now (blocks .entry)) (now (free .entry)))) ⌝ }
 {
     let used = Used { blocks: 0, free: 0 };
-    let start = 0;
+    let first = 0;
     let old = look_at(blocks, free, 0);
-    let new = made(old, used, start);
+    let new = made(old, used, first);
     stored(blocks, new.blocks);
     stored(free, new.free);
     new.answer

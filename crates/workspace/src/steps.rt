@@ -83,9 +83,9 @@ pub fn refused(seen: Look, used: Used, refusal: u8) -> Done
     }
 }
 
-// A fresh area is one free stretch, from `start` on; a refusal answers `used`.
-pub fn made(seen: Look, used: Used, start: u32) -> Done
-    ensures { λ r. ⌜ r ≡ freshSeen seen used start ⌝ }
+// A fresh area is one free stretch, from the unit `first` on; a refusal answers `used`.
+pub fn made(seen: Look, used: Used, first: u32) -> Done
+    ensures { λ r. ⌜ r ≡ freshSeen seen used first ⌝ }
 {
     if seen.long {
         let none = Stretch {
@@ -94,7 +94,7 @@ pub fn made(seen: Look, used: Used, start: u32) -> Done
         };
         let blocks = [none; 32];
         let all = Stretch {
-            start,
+            start: first,
             length: 65536,
         };
         let free = with_at(blocks, 0, all);
