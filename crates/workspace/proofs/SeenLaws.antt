@@ -98,8 +98,6 @@ pub laid-list : (l table : List Stretch) → length l ≤ 32 → length l ≤ le
 unfolding laid
 laid-list l table h n = lay-over 32 (length table) l h n
 
--- ── one place, read and written: an equation for each call's result ──
-
-pub note-law : (t : Table) (i : ℕ) (x : Stretch) {places : List Stretch} {unused : Bool} → places ≡ set (t .places) i x → unused ≡ isNone x
-    → _≡_ {A = Table} (record { places = places; clear = t .clear && (ltb i 32 || unused) }) (noteOf t i x)
-note-law t i x {places = places} ep eu = λ j. record { places = ep j; clear = t .clear && (ltb i 32 || eu j) }
+-- ---- one place is read
+pub note-law : (t : Table) (i : ℕ) (x : Stretch) {places : List Stretch} → places ≡ set (t .places) i x → _≡_ {A = Table} (record { places = places; clear = t .clear && (ltb i 32 || isNone x) }) (noteOf t i x)
+note-law t i x ep = λ j. record { places = ep j; clear = t .clear && (ltb i 32 || isNone x) }

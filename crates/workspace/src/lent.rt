@@ -2,7 +2,6 @@
 use crate::Look;
 use crate::Stretch;
 use crate::Table;
-use crate::places::is_none;
 use crate::places::nth;
 use crate::places::with_at;
 ghost use mathlib.Core.Path.{_≡_};
@@ -46,8 +45,7 @@ pub fn noted(t: Table, i: usize, x: Stretch) -> Table
 {
     let old = t.places;
     let places = with_at(old, i, x);
-    let unused = is_none(x);
-    let clear = t.clear & ((i < 32) | unused);
+    let clear = t.clear & ((i < 32) | ((x.start == 0) & (x.length == 0)));
     Table { places, clear }
 }
 

@@ -8,12 +8,6 @@ ghost use Rattle.lists.specs.Lists.{every};
 ghost use Rattle.workspace.specs.Rules.{none, isNone};
 ghost use Rattle.workspace.specs.Places.{placeOf, passesOf, removeAt, insertAt};
 
-pub fn is_none(x: Stretch) -> bool
-    ensures { λ r. ⌜ r ≡ isNone x ⌝ }
-{
-    (x.start == 0) & (x.length == 0)
-}
-
 // What a search looks for.
 pub fn passes(test: Test, n: u32, x: Stretch) -> bool
     ensures { λ r. ⌜ r ≡ passesOf test n x ⌝ }
@@ -87,7 +81,8 @@ pub fn all_none(a: [Stretch; 32], n: usize) -> bool
 {
     let mut i = n;
     while i < 32 {
-        if is_none(nth(a, i)) {
+        let x = nth(a, i);
+        if (x.start == 0) & (x.length == 0) {
             i += 1;
         } else {
             return false;
