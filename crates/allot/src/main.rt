@@ -7,6 +7,8 @@
 //     e I S L    the same in the table of free stretches
 //     u M N      say that M and N places are used
 //
+// Any other line, also one of these with more numbers or fewer, changes nothing.
+//
 // A line of the output has the refusal, the value and the places used in each table; then, behind `|`, place, start and length
 // of each block, and behind another `|` those of each free stretch. Unused places are left out.
 mod lines; // lines.rt: a line is read
@@ -95,7 +97,7 @@ fn damaged(t: Tables, l: Line) -> Tables {
 
 // The tables after the line.
 fn applied(t: Tables, l: Line) -> Tables {
-    if l.letter == b'f' {
+    if (l.letter == b'f') & (l.many == 0) {
         return workspace::owned::fresh(t);
     }
     if (l.letter == b'a') & (l.many == 1) {
