@@ -45,9 +45,9 @@ module _ (a : Tables) (s : Look) (d : Done) (r : Tables) (hb : length (a .blocks
   left-is : (u : Used) (o : Outcome) → Says d (a .blocks) (a .free) u o → r ≡ record { blocks = blocksAfter (a .blocks) o; free = freeAfter (a .free) o; answer = answerOf u o }
   left-is u o w = er ∙ (λ i. record { blocks = (laid-32 (d .blocks) (a .blocks) hb kb ∙ w .writes) i; free = (laid-32 (d .free) (a .free) hf kf ∙ w .frees) i; answer = w .answers i })
 
-  pub fresh-left : s ≡ lookOf (a .blocks) (a .free) 0 → d ≡ freshSeen s → r ≡ ownedFresh a
+  pub fresh-left : s ≡ lookOf (a .blocks) (a .free) 0 → d ≡ freshSeen s unused 0 → r ≡ ownedFresh a
   unfolding ownedFresh
-  fresh-left es ed = left-is unused (freshOf (a .blocks) (a .free)) (subst (λ (z : Done). Says z (a .blocks) (a .free) unused (freshOf (a .blocks) (a .free))) (sym (ed ∙ ap freshSeen es)) (fresh-says (a .blocks) (a .free)))
+  fresh-left es ed = left-is unused (freshOf (a .blocks) (a .free)) (subst (λ (z : Done). Says z (a .blocks) (a .free) unused (freshOf (a .blocks) (a .free))) (sym (ed ∙ ap (λ (y : Look). freshSeen y unused 0) es)) (fresh-says (a .blocks) (a .free)))
 
   pub request-left : (n : ℕ) → s ≡ lookOf (a .blocks) (a .free) n → d ≡ requestSeen s (a .answer .used) n → r ≡ ownedAfter a (requestOf (a .blocks) (a .free) (a .answer .used) n)
   unfolding ownedAfter

@@ -196,11 +196,11 @@ take-out (suc n) (x ∷ xs) (suc i) h = take-out n xs i (le-of-suc-le-suc h)
 pub rest-cons : (l : List Stretch) (i : ℕ) → i < length l → drop i l ≡ getD l i none ∷ drop (i + 1) l
 rest-cons l i h = rw add-one (drop-cons l i none h)
 
-pub unused-on : (l : List Stretch) (i : ℕ) (x : Stretch) (b : Bool) → i < length l → x ≡ getD l i none → b ≡ isNone x → b ≡ true → every isNone (drop i l) ≡ every isNone (drop (i + 1) l)
-unused-on l i x b h ex eb e = ap (every isNone) (rest-cons l i h) ∙ ap (λ (c : Bool). c && every isNone (drop (i + 1) l)) (ap isNone (sym ex) ∙ sym eb ∙ e)
+pub unused-on : (l : List Stretch) (i : ℕ) (x : Stretch) → i < length l → x ≡ getD l i none → isNone x ≡ true → every isNone (drop i l) ≡ every isNone (drop (i + 1) l)
+unused-on l i x h ex e = ap (every isNone) (rest-cons l i h) ∙ ap (λ (c : Bool). c && every isNone (drop (i + 1) l)) (ap isNone (sym ex) ∙ e)
 
-pub unused-stop : (l : List Stretch) (i : ℕ) (x : Stretch) (b : Bool) → i < length l → x ≡ getD l i none → b ≡ isNone x → b ≡ false → every isNone (drop i l) ≡ false
-unused-stop l i x b h ex eb e = ap (every isNone) (rest-cons l i h) ∙ ap (λ (c : Bool). c && every isNone (drop (i + 1) l)) (ap isNone (sym ex) ∙ sym eb ∙ e)
+pub unused-stop : (l : List Stretch) (i : ℕ) (x : Stretch) → i < length l → x ≡ getD l i none → isNone x ≡ false → every isNone (drop i l) ≡ false
+unused-stop l i x h ex e = ap (every isNone) (rest-cons l i h) ∙ ap (λ (c : Bool). c && every isNone (drop (i + 1) l)) (ap isNone (sym ex) ∙ e)
 
 pub unused-end : (l : List Stretch) (i : ℕ) → length l ≤ i → every isNone (drop i l) ≡ true
 unused-end l i h = ap (every isNone) (drop-of-length-le l h)

@@ -57,10 +57,11 @@ byte-most false n h = zero-le
 -- ── a request ──
 
 -- where the refusal is 0, all tests have passed
-pub granted-may : (s : Look) (u : Used) (n : ℕ) {kept : Bool} → kept ≡ keepsSeen s u → requestRefusal kept u (s .place) n ≡ 0 → (u .blocks ≤ 31) × (0 < u .free)
+pub granted-may : (s : Look) (u : Used) (n : ℕ) {kept : Bool} {k : ℕ} → kept ≡ keepsSeen s u → k ≡ requestRefusal kept u (s .place) n → k ≡ 0 → (u .blocks ≤ 31) × (0 < u .free)
 unfolding requestRefusal
-granted-may s u n {kept = false} ek e = no (omega (arith, e))
-granted-may s u n {kept = true} ek e =
+granted-may s u n {kept = false} ek er o = no (omega (arith, er, o))
+granted-may s u n {kept = true} ek er o =
+    let e : requestRefusal true u (s .place) n ≡ 0 = sym er ∙ o in
     by-bool (leb 1 n && leb n 65535)
     (λ z. by-bool (ltb (u .blocks) 31)
     (λ b. by-bool (ltb (s .place) (u .free))

@@ -1,9 +1,7 @@
 // The lent tables: searched, read, and written. These functions go over the lent slices themselves.
-use crate::Done;
 use crate::Look;
 use crate::Stretch;
 use crate::Table;
-use crate::places::is_none;
 use crate::places::nth;
 use crate::places::with_at;
 ghost use mathlib.Core.Path.{_≡_};
@@ -47,8 +45,7 @@ pub fn noted(t: Table, i: usize, x: Stretch) -> Table
 {
     let old = t.places;
     let places = with_at(old, i, x);
-    let unused = is_none(x);
-    let clear = t.clear & ((i < 32) | unused);
+    let clear = t.clear & ((i < 32) | ((x.start == 0) & (x.length == 0)));
     Table { places, clear }
 }
 
@@ -69,15 +66,9 @@ pub fn loaded(table: &[Stretch]) -> Table
 pub fn place_after(t: Table, i: usize, x: Stretch) -> Stretch
     ensures { λ r. ⌜ r ≡ placeAfter t i x ⌝ }
 {
-    if i < 32 {
-        let places = t.places;
-        return nth(places, i);
-    }
-    if t.clear {
-        Stretch {
-            start: 0,
-            length: 0,
-        }
+    let places = t.places;
+    if (i < 32) | t.clear {
+        nth(places, i)
     } else {
         x
     }
@@ -117,12 +108,4 @@ pub fn look_at(blocks: &[Stretch], free: &[Stretch], size: u32) -> Look
     let f = loaded(free);
     let place = first_fit(free, size);
     seen_as(b, f, blocks.len(), free.len(), place)
-}
-
-// Writes each place of both tables.
-pub fn write_back(blocks: &mut [Stretch], free: &mut [Stretch], done: Done)
-    ensures { λ _. ⌜ (now (blocks .exit) ≡ laid (done .blocks) (now (blocks .entry))) × (now (free .exit) ≡ laid (done .free) (now (free .entry))) ⌝ }
-{
-    stored(blocks, done.blocks);
-    stored(free, done.free);
 }

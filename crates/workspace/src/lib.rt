@@ -9,7 +9,7 @@ mod steps; // steps.rt: what each operation does to the places
 pub mod owned; // owned.rt: the same operations on two tables by value
 
 use lent::look_at;
-use lent::write_back;
+use lent::stored;
 use steps::made;
 use steps::released;
 use steps::requested;
@@ -87,9 +87,12 @@ pub fn fresh(blocks: &mut [Stretch], free: &mut [Stretch]) -> Answer
         × (now (blocks .exit) ≡ blocksAfter (now (blocks .entry)) (freshOf (now (blocks .entry)) (now (free .entry))))
         × (now (free .exit) ≡ freeAfter (now (free .entry)) (freshOf (now (blocks .entry)) (now (free .entry)))) ⌝ }
 {
+    let used = Used { blocks: 0, free: 0 };
+    let first = 0;
     let old = look_at(blocks, free, 0);
-    let new = made(old);
-    write_back(blocks, free, new);
+    let new = made(old, used, first);
+    stored(blocks, new.blocks);
+    stored(free, new.free);
     new.answer
 }
 
@@ -101,7 +104,8 @@ pub fn request(blocks: &mut [Stretch], free: &mut [Stretch], used: Used, size: u
 {
     let seen = look_at(blocks, free, size);
     let taken = requested(seen, used, size);
-    write_back(blocks, free, taken);
+    stored(blocks, taken.blocks);
+    stored(free, taken.free);
     taken.answer
 }
 
@@ -113,6 +117,7 @@ pub fn release(blocks: &mut [Stretch], free: &mut [Stretch], used: Used, start: 
 {
     let seen = look_at(blocks, free, 0);
     let given = released(seen, used, start);
-    write_back(blocks, free, given);
+    stored(blocks, given.blocks);
+    stored(free, given.free);
     given.answer
 }

@@ -8,12 +8,6 @@ ghost use Rattle.lists.specs.Lists.{every};
 ghost use Rattle.workspace.specs.Rules.{none, isNone};
 ghost use Rattle.workspace.specs.Places.{placeOf, passesOf, removeAt, insertAt};
 
-pub fn is_none(x: Stretch) -> bool
-    ensures { λ r. ⌜ r ≡ isNone x ⌝ }
-{
-    (x.start == 0) & (x.length == 0)
-}
-
 // What a search looks for.
 pub fn passes(test: Test, n: u32, x: Stretch) -> bool
     ensures { λ r. ⌜ r ≡ passesOf test n x ⌝ }
@@ -73,9 +67,7 @@ pub fn place_of(a: [Stretch; 32], n: usize, test: Test, s: u32) -> usize
 {
     let mut i = 0;
     while i < n {
-        let x = nth(a, i);
-        let found = passes(test, s, x);
-        if found {
+        if passes(test, s, nth(a, i)) {
             return i;
         }
         i += 1;
@@ -90,8 +82,7 @@ pub fn all_none(a: [Stretch; 32], n: usize) -> bool
     let mut i = n;
     while i < 32 {
         let x = nth(a, i);
-        let unused = is_none(x);
-        if unused {
+        if (x.start == 0) & (x.length == 0) {
             i += 1;
         } else {
             return false;

@@ -25,8 +25,7 @@ pub fn reached(t: Reach, x: Stretch, y: Stretch) -> Reach
     requires { ⌜ t .j < 2 ^ 40 ⌝ }
     ensures { λ r. ⌜ r ≡ reachOf t x y ⌝ }
 {
-    let block = begins_at(x, t.at);
-    if block {
+    if begins_at(x, t.at) {
         return Reach {
             at: t.at + x.length as u64,
             i: t.i + 1,
@@ -35,8 +34,7 @@ pub fn reached(t: Reach, x: Stretch, y: Stretch) -> Reach
             stuck: false,
         };
     }
-    let free = begins_at(y, t.at);
-    if !t.after & free {
+    if !t.after & begins_at(y, t.at) {
         Reach {
             at: t.at + y.length as u64,
             i: t.i,
@@ -70,13 +68,11 @@ pub fn tiles(b: [Stretch; 32], m: usize, f: [Stretch; 32], n: usize) -> bool
     };
     let mut k: usize = 0;
     while k < 64 {
-        let i = t.i;
-        let j = t.j;
-        let x = used_at(b, m, i);
-        let y = used_at(f, n, j);
+        let x = used_at(b, m, t.i);
+        let y = used_at(f, n, t.j);
         let u = reached(t, x, y);
         if u.stuck {
-            return (t.at == 65536) & (i == m) & (j == n);
+            return (t.at == 65536) & (t.i == m) & (t.j == n);
         }
         t = u;
         k += 1;
@@ -88,8 +84,7 @@ pub fn tiles(b: [Stretch; 32], m: usize, f: [Stretch; 32], n: usize) -> bool
 pub fn keeps(seen: Look, used: Used) -> bool
     ensures { λ r. ⌜ r ≡ keepsSeen seen used ⌝ }
 {
-    let counted = seen.long & seen.clear & (used.blocks <= 31) & (used.free <= 32);
-    if counted {
+    if seen.long & seen.clear & (used.blocks <= 31) & (used.free <= 32) {
         let bs = seen.blocks;
         let fs = seen.free;
         let x = all_none(bs, used.blocks);

@@ -83,9 +83,9 @@ pub fn refused(seen: Look, used: Used, refusal: u8) -> Done
     }
 }
 
-// A fresh area is one free stretch.
-pub fn made(seen: Look) -> Done
-    ensures { λ r. ⌜ r ≡ freshSeen seen ⌝ }
+// A fresh area is one free stretch, from the unit `first` on; a refusal answers `used`.
+pub fn made(seen: Look, used: Used, first: u32) -> Done
+    ensures { λ r. ⌜ r ≡ freshSeen seen used first ⌝ }
 {
     if seen.long {
         let none = Stretch {
@@ -94,20 +94,19 @@ pub fn made(seen: Look) -> Done
         };
         let blocks = [none; 32];
         let all = Stretch {
-            start: 0,
+            start: first,
             length: 65536,
         };
         let free = with_at(blocks, 0, all);
         done_as(blocks, free, 0, 0, 1)
     } else {
-        let used = Used { blocks: 0, free: 0 };
         refused(seen, used, 2)
     }
 }
 
 // The refusal of a request, for which a free stretch is found at `place`; 0 if there is none.
-pub fn request_refusal(kept: bool, used: Used, place: usize, size: u32) -> u8
-    ensures { λ r. ⌜ r ≡ requestRefusal kept used place size ⌝ }
+pub fn request_refusal(kept: bool, m: usize, n: usize, place: usize, size: u32) -> u8
+    ensures { λ r. ⌜ r ≡ requestRefusal kept (record { blocks = m; free = n }) place size ⌝ }
 {
     if !kept {
         return 2;
@@ -116,10 +115,10 @@ pub fn request_refusal(kept: bool, used: Used, place: usize, size: u32) -> u8
     if !sized {
         return 13;
     }
-    if 31 <= used.blocks {
+    if 31 <= m {
         return 14;
     }
-    if used.free <= place {
+    if n <= place {
         return 15;
     }
     0
@@ -150,15 +149,14 @@ pub fn granted(seen: Look, used: Used, size: u32) -> Done
 {
     let bs = seen.blocks;
     let fs = seen.free;
-    let p = seen.place;
-    let s = nth(fs, p);
+    let s = nth(fs, seen.place);
     let k = place_of(bs, used.blocks, Test::StartsBehind, s.start);
     let block = Stretch {
         start: s.start,
         length: size,
     };
     let blocks = opened(bs, k, block);
-    let free = cut_at(fs, p, size);
+    let free = cut_at(fs, seen.place, size);
     let left = used.free - (s.length <= size) as usize;
     done_as(blocks, free, s.start, used.blocks + 1, left)
 }
@@ -167,7 +165,7 @@ pub fn requested(seen: Look, used: Used, size: u32) -> Done
     ensures { λ r. ⌜ r ≡ requestSeen seen used size ⌝ }
 {
     let kept = keeps(seen, used);
-    let refusal = request_refusal(kept, used, seen.place, size);
+    let refusal = request_refusal(kept, used.blocks, used.free, seen.place, size);
     if refusal == 0 {
         granted(seen, used, size)
     } else {
@@ -249,8 +247,7 @@ pub fn freed(seen: Look, used: Used, p: usize) -> Done
 pub fn released(seen: Look, used: Used, start: u32) -> Done
     ensures { λ r. ⌜ r ≡ releaseSeen seen used start ⌝ }
 {
-    let kept = keeps(seen, used);
-    if kept {
+    if keeps(seen, used) {
         let bs = seen.blocks;
         let p = place_of(bs, used.blocks, Test::StartsAt, start);
         if p < used.blocks {

@@ -1,28 +1,26 @@
 -- `workspace::fresh` meets its contract: a walk of its MIR, by hand. Both tables are looked at, a covered function works out what is to be done, and the tables are written.
 --     begins       the body, once the parameters are in their locals
 -- Assumes nothing.
-use Rattle.workspace.proofs.Prelude.{_≡_, refl, _∙_, ℕ, _<_, List, [], _∷_, length, URA, fullShare, named, erased, imm, mut, tyUnit, Val, SProp, ent, emp, via, fst∗, snd∗, exE, Lft, Share, ftrue, fat, froom, fdies, flft, Memory, Routine, Heap, Env, WpFn, Calls, Loops, Tables, Atoms, sem, Fun, fact, givenOf, tables, tablesOf, Given, Item, _⊛_, ⋆, runs, atRet, Sq, _$_, _∵_, !, qed, by, move, drop, split, join, fsplit, fjoin, suffices, frame, done, agg, whole, sub, look-in, look, init, stop, hop, fld, from, load, addr, of-opd, and-then, no-more, lit, lit<, assigns, land, returns, enter, alloc1, alloc0, params1, pass1, pass0, free0, FmC, fmOf, WpFn-mono, owns, Is, RefT, MutSlice, Room, finally, slice-vals, mut-slice-tells, plain, nothing, owned, Vals, onEntry, Meets, tripleOf, Contract, Triple, ensured, lasts, entered, cited, says, Stays, gave-slice, walkOf, AllGo, goes-gave-slice, Walks, ends-at, walked, walk-meets, ‵}
+use Rattle.workspace.proofs.Prelude.{_≡_, refl, _∙_, ℕ, _<_, List, [], _∷_, length, URA, fullShare, named, erased, imm, mut, tyUnit, Val, SProp, ent, emp, via, fst∗, Lft, Share, ftrue, fat, froom, fdies, flft, Memory, Routine, Heap, Env, WpFn, Calls, Loops, Tables, Atoms, Fun, givenOf, tables, tablesOf, Given, Item, _⊛_, ⋆, runs, atRet, Sq, _$_, _∵_, !, qed, move, drop, split, join, fsplit, fjoin, suffices, frame, done, agg, init, stop, from, of-opd, and-then, no-more, lit, lit<, assigns, enter, alloc1, alloc0, params1, pass1, pass0, FmC, fmOf, WpFn-mono, owns, Is, RefT, MutSlice, Room, finally, slice-vals, mut-slice-tells, plain, nothing, owned, Vals, onEntry, Meets, tripleOf, Triple, entered, cited, says, Stays, gave-slice, walkOf, AllGo, goes-gave-slice, Walks, ends-at, walked, walk-meets, ‵, tyInt, w32, w64, vint}
 use denote.Struct.Laws as LL
 use Rattle.workspace.specs.declared.Stretch.{Stretch}
-use Rattle.workspace.specs.declared.Look.{Look}
 use Rattle.workspace.specs.declared.Done.{Done}
 use Rattle.workspace.specs.Operations.{freshOf, unused}
 use Rattle.workspace.specs.Seen.{laid, lookOf}
 use Rattle.workspace.specs.Steps.{freshSeen}
 use Rattle.workspace.proofs.Bridge.{Says, fresh-says}
-use Rattle.workspace.proofs.Walks.{lets-go}
-use Rattle.workspace.proofs.Calls.{Told, tells-struct, calls-told}
-use Rattle.workspace.proofs.Both.{ptr, slice, answer, looked, Looked, low, Low, Lent, val, LookAt, WriteBack, looks, writes-back, knows-look-at, knows-write-back}
+use Rattle.workspace.proofs.Calls.{Stored}
+use Rattle.workspace.proofs.Operating.{any, En, Does, begins}
+use Rattle.workspace.proofs.Both.{ptr, slice, answer, Counts, Lent, val, LookAt, knows-look-at, knows-stored}
 use Rattle.workspace.proofs.Stretch as T
-use Rattle.workspace.proofs.Look as L
+use Rattle.workspace.proofs.Used as S
+use Rattle.workspace.proofs.Used.Laws as S′
 use Rattle.workspace.proofs.Look.Laws as L′
 use Rattle.workspace.proofs.Answer as R
 use Rattle.workspace.proofs.Answer.Laws as R′
-use Rattle.workspace.proofs.Done as N
 use Rattle.workspace.proofs.Done.Laws as N′
 use Rattle.workspace.proofs.lent.look_at.Symbol.{name as #workspace·look-at}
-use Rattle.workspace.proofs.lent.write_back.Symbol.{name as #workspace·write-back}
-use Rattle.workspace.proofs.steps.made as made
+use Rattle.workspace.proofs.lent.stored.Symbol.{name as #workspace·stored}
 use Rattle.workspace.proofs.steps.made.Symbol as made-def
 use Rattle.workspace.proofs.steps.made.Symbol.{name as #workspace·made}
 use Rattle.workspace.proofs.steps.made.Met as made-thm
@@ -35,23 +33,9 @@ use Rattle.workspace.proofs.fresh.Code.Mir as text
 abbrev stayed : Stays (f.ended .signature .params) (f.ended .kept)
 stayed = (gave-slice (0 ∷ []) tt (plain (λ _. T.the-row)), (gave-slice (1 ∷ []) tt (plain (λ _. T.the-row)), tt))
 
--- ---- the contract of `made`, which does the work
-module _ {M : Type 1} (𝓤 : URA M) (H : Heap 𝓤) (A : Atoms 𝓤) (mem : Memory → SProp 𝓤) (run : Routine → Fun 𝓤) where
-  abbrev Made : Contract 𝓤
-  Made = tripleOf 𝓤 H A made.signature (made.spec 𝓤 H A mem run)
-
-module _ {M : Type 1} (𝓤 : URA M) (H : Heap 𝓤) (A : Atoms 𝓤) (W : Given 𝓤 H A) (mem : Memory → SProp 𝓤) (run : Routine → Fun 𝓤) (t : Look) where
-  abbrev to-made : Made 𝓤 H A mem run .Ghost
-  to-made = ((tt, tt, tt, (t, tt), (looked t ∷ [], tt)), tt)
-
-  asks-made : Looked t → ent 𝓤 (emp 𝓤) (Made 𝓤 H A mem run .pre to-made)
-  asks-made gt =
-      qed W [] ∵ nothing ! $
-      owned ! L.the-row (Is L.the-row) (LL.makes L.the-type L′.the-plain 𝓤 H A) t _ gt $ fjoin ! $ nothing ! $ join ! $ frame ! $ done !
-
-  tells-made : (v : Val) → ent 𝓤 (Made 𝓤 H A mem run .post to-made v) (H .⇛ (fact 𝓤 (Told N.the-type N′.the-laws (freshSeen t) v)))
-  tells-made v = tells-struct N.the-type N′.the-laws 𝓤 H A W (freshSeen t) v (λ r. ensured 𝓤 H A made.ended (made.clauses 𝓤 H A mem run) tt (t, tt) tt r)
-      (λ r. exE 𝓤 _ (λ ws. snd∗ 𝓤 (sem 𝓤 H A (lasts made.ended tt (t, tt) ws)) (fact 𝓤 (r ≡ freshSeen t))))
+-- no place is used: the machine has that
+none-used : Counts unused
+none-used = ((vint w64 0 ∷ [], (vint w64 0 ∷ [], tt)), (refl, ((refl, lit< tt), ((refl, lit< tt), tt))))
 
 module _ {M : Type 1} (𝓤 : URA M) (H : Heap 𝓤) (A : Atoms 𝓤) (W : Given 𝓤 H A) (mem : Memory → SProp 𝓤) (run : Routine → Fun 𝓤) (κ₁ κ₂ : Lft) (q₁ q₂ : Share) (t₁ t₂ : Lent)
     (room₁ : Room T.the-row (length (t₁ .now))) (room₂ : Room T.the-row (length (t₂ .now))) where
@@ -66,7 +50,7 @@ module _ {M : Type 1} (𝓤 : URA M) (H : Heap 𝓤) (A : Atoms 𝓤) (W : Given
 
   -- what is done
   abbrev r : Done
-  r = freshSeen (lookOf (t₁ .now) (t₂ .now) 0)
+  r = freshSeen (lookOf (t₁ .now) (t₂ .now) 0) unused 0
 
   abbrev w : Says r (t₁ .now) (t₂ .now) unused (freshOf (t₁ .now) (t₂ .now))
   w = fresh-says (t₁ .now) (t₂ .now)
@@ -81,55 +65,38 @@ module _ {M : Type 1} (𝓤 : URA M) (H : Heap 𝓤) (A : Atoms 𝓤) (W : Given
       frame ! $ nothing ! $ move ! (2 ∷ 0 ∷ []) $ fjoin ! $ move ! (1 ∷ 0 ∷ []) $ fjoin ! $
       frame ! $ owned ! R.the-row (Is R.the-row) (LL.makes R.the-type R′.the-plain 𝓤 H A) (r .answer) _ ga $ done !
 
-  module _ (C : Calls 𝓤 H) (Λ : Loops 𝓤 H) (fm : FmC 𝓤 H (W .laws) C) (known-look-at : Triple 𝓤 (C #workspace·look-at) (LookAt 𝓤 H A mem run)) (known-made : Triple 𝓤 (C #workspace·made) (Made 𝓤 H A mem run)) (known-write-back : Triple 𝓤 (C #workspace·write-back) (WriteBack 𝓤 H A mem run))
-      (l₀ l₁ l₂ l₃ l₄ l₅ l₆ l₇ l₈ l₉ l₁₀ l₁₁ l₁₂ l₁₃ : ℕ) where
-    -- the locals: the result, blocks, free, what is seen, what is done, and each table's reference and slice that is lent, to be read and to be written
-    abbrev En : Env 𝓤 H
-    En = (R′.mir, l₀) ∷ (slice (named 0) mut, l₁) ∷ (slice (named 1) mut, l₂) ∷ (L′.mir, l₃) ∷ (N′.mir, l₄) ∷ (ptr imm, l₅) ∷ (slice erased imm, l₆) ∷ (ptr imm, l₇) ∷ (slice erased imm, l₈) ∷ (tyUnit, l₉)
-        ∷ (ptr mut, l₁₀) ∷ (slice erased mut, l₁₁) ∷ (ptr mut, l₁₂) ∷ (slice erased mut, l₁₃) ∷ []
+  module _ (C : Calls 𝓤 H) (Λ : Loops 𝓤 H) (fm : FmC 𝓤 H (W .laws) C) (known-look-at : Triple 𝓤 (C #workspace·look-at) (LookAt 𝓤 H A mem run)) (known-made : Triple 𝓤 (C #workspace·made) (Does 𝓤 H A freshSeen)) (known-stored : Triple 𝓤 (C #workspace·stored) (Stored 𝓤 H A mem run))
+      (l₀ l₁ l₂ l₃ l₄ l₅ l₆ l₇ l₈ l₉ l₁₀ l₁₁ l₁₂ l₁₃ l₁₄ l₁₅ : ℕ) where
+    abbrev locals : Env 𝓤 H
+    locals = En 𝓤 H l₀ l₁ l₂ l₃ l₄ l₅ l₆ l₇ l₈ l₉ l₁₀ l₁₁ l₁₂ l₁₃ l₁₄ l₁₅
 
+    -- what is held once the parameters are passed
     abbrev Entered : List (Item 𝓤)
-    Entered = ‵ (froom (slice erased mut) l₁₃ 0) ∷ ‵ (fdies (slice erased mut) l₁₃) ∷ ‵ (froom (ptr mut) l₁₂ 0) ∷ ‵ (fdies (ptr mut) l₁₂) ∷ ‵ (froom (slice erased mut) l₁₁ 0) ∷ ‵ (fdies (slice erased mut) l₁₁) ∷ ‵ (froom (ptr mut) l₁₀ 0) ∷ ‵ (fdies (ptr mut) l₁₀) ∷ ‵ (froom tyUnit l₉ 0) ∷ ‵ (fdies tyUnit l₉)
-        ∷ ‵ (froom (slice erased imm) l₈ 0) ∷ ‵ (fdies (slice erased imm) l₈) ∷ ‵ (froom (ptr imm) l₇ 0) ∷ ‵ (fdies (ptr imm) l₇) ∷ ‵ (froom (slice erased imm) l₆ 0) ∷ ‵ (fdies (slice erased imm) l₆) ∷ ‵ (froom (ptr imm) l₅ 0) ∷ ‵ (fdies (ptr imm) l₅)
-        ∷ ‵ (froom N′.mir l₄ 0) ∷ ‵ (fdies N′.mir l₄) ∷ ‵ (froom L′.mir l₃ 0) ∷ ‵ (fdies L′.mir l₃)
+    Entered = ‵ (froom (slice erased mut) l₁₅ 0) ∷ ‵ (fdies (slice erased mut) l₁₅) ∷ ‵ (froom (ptr mut) l₁₄ 0) ∷ ‵ (fdies (ptr mut) l₁₄) ∷ ‵ (froom (slice erased mut) l₁₃ 0) ∷ ‵ (fdies (slice erased mut) l₁₃) ∷ ‵ (froom (ptr mut) l₁₂ 0) ∷ ‵ (fdies (ptr mut) l₁₂) ∷ ‵ (froom tyUnit l₁₁ 0) ∷ ‵ (fdies tyUnit l₁₁)
+        ∷ ‵ (froom (slice erased imm) l₁₀ 0) ∷ ‵ (fdies (slice erased imm) l₁₀) ∷ ‵ (froom (ptr imm) l₉ 0) ∷ ‵ (fdies (ptr imm) l₉) ∷ ‵ (froom (slice erased imm) l₈ 0) ∷ ‵ (fdies (slice erased imm) l₈) ∷ ‵ (froom (ptr imm) l₇ 0) ∷ ‵ (fdies (ptr imm) l₇)
+        ∷ ‵ (froom N′.mir l₆ 0) ∷ ‵ (fdies N′.mir l₆) ∷ ‵ (froom L′.mir l₅ 0) ∷ ‵ (fdies L′.mir l₅) ∷ ‵ (froom (tyInt w32) l₄ 0) ∷ ‵ (fdies (tyInt w32) l₄) ∷ ‵ (froom S′.mir l₃ 0) ∷ ‵ (fdies S′.mir l₃)
         ∷ ‵ (fat fullShare (slice (named 1) mut) l₂ 0 (val t₂)) ∷ ‵ (fdies (slice (named 1) mut) l₂) ∷ ‵ (fat fullShare (slice (named 0) mut) l₁ 0 (val t₁)) ∷ ‵ (fdies (slice (named 0) mut) l₁) ∷ ‵ (froom R′.mir l₀ 0) ∷ ‵ (fdies R′.mir l₀)
         ∷ (‵ (flft κ₁ q₁) ⊛ (‵ (flft κ₂ q₂) ⊛ ‵ ftrue)) ∷ ‵ (owns (MutSlice (named 0) κ₁ T.the-row ∷ MutSlice (named 1) κ₂ T.the-row ∷ []) x vals) ∷ []
 
-    begins : Sq W Entered (runs C Λ En text.t-1 (atRet En Post))
-    begins =
-        move ! (29 ∷ []) $ fsplit ! $ move ! (1 ∷ []) $ fsplit ! $ move ! (1 ∷ []) $ drop ! $ move ! (30 ∷ []) $ split ! $ move ! (1 ∷ []) $ split ! $ move ! (1 ∷ []) $ drop ! $ move ! (3 ∷ 1 ∷ 2 ∷ 0 ∷ []) $
-        -- [what blocks owns; its token; what free owns; its token; _13; …]: local i at 2 · (13 − i) + 4
-        assigns ! (addr ! (from ! (fld ! refl (hop ! (look-in ! 28 (sub ! 0 refl (whole !))) (stop !))))) (from ! (stop !)) (init ! 20 refl (tt, tt)) $
-        assigns ! (agg ! (and-then ! (load ! (from ! (stop !)) (look ! 20 refl)) (and-then ! (load ! (from ! (fld ! refl (stop !))) (look-in ! 28 (sub ! 1 refl (whole !)))) (no-more !)))) (from ! (stop !)) (init ! 18 refl (tt, (tt, (record { fits = room₁ .0 }, tt)))) $
-        assigns ! (addr ! (from ! (fld ! refl (hop ! (look-in ! 26 (sub ! 0 refl (whole !))) (stop !))))) (from ! (stop !)) (init ! 16 refl (tt, tt)) $
-        assigns ! (agg ! (and-then ! (load ! (from ! (stop !)) (look ! 16 refl)) (and-then ! (load ! (from ! (fld ! refl (stop !))) (look-in ! 26 (sub ! 1 refl (whole !)))) (no-more !)))) (from ! (stop !)) (init ! 14 refl (tt, (tt, (record { fits = room₂ .0 }, tt)))) $
-        -- in the call: [what it asks; blocks' lender's part; free's; _13; …]
-        looks ! mem run κ₁ κ₂ q₁ q₂ t₁ t₂ room₁ room₂ 0 (lit< tt) fm known-look-at (λ ν μ δ ε. and-then ! (load ! (from ! (stop !)) (look ! 17 refl)) (and-then ! (load ! (from ! (stop !)) (look ! 13 refl)) (and-then ! (lit ! tt) (no-more !)))) (λ gl.
-        land ! (from ! (stop !)) (init ! 24 refl (LL.lawful L.the-type L′.the-laws 𝓤 H A W .typed (lookOf (t₁ .now) (t₂ .now) 0) _ gl .0)) $
-        calls-told ! fm (Made 𝓤 H A mem run) known-made (to-made 𝓤 H A W mem run (lookOf (t₁ .now) (t₂ .now) 0)) (asks-made 𝓤 H A W mem run (lookOf (t₁ .now) (t₂ .now) 0) gl) (low r) (Low r) (tells-made 𝓤 H A W mem run (lookOf (t₁ .now) (t₂ .now) 0))
-        (and-then ! (load ! (from ! (stop !)) (look ! 25 refl)) (no-more !)) (λ gr.
-        land ! (from ! (stop !)) (init ! 22 refl (LL.lawful N.the-type N′.the-laws 𝓤 H A W .typed r _ gr .0)) $
-        assigns ! (addr ! (from ! (fld ! refl (hop ! (look-in ! 28 (sub ! 0 refl (whole !))) (stop !))))) (from ! (stop !)) (init ! 10 refl (tt, tt)) $
-        assigns ! (agg ! (and-then ! (load ! (from ! (stop !)) (look ! 10 refl)) (and-then ! (load ! (from ! (fld ! refl (stop !))) (look-in ! 28 (sub ! 1 refl (whole !)))) (no-more !)))) (from ! (stop !)) (init ! 8 refl (tt, (tt, (record { fits = room₁ .0 }, tt)))) $
-        assigns ! (addr ! (from ! (fld ! refl (hop ! (look-in ! 26 (sub ! 0 refl (whole !))) (stop !))))) (from ! (stop !)) (init ! 6 refl (tt, tt)) $
-        assigns ! (agg ! (and-then ! (load ! (from ! (stop !)) (look ! 6 refl)) (and-then ! (load ! (from ! (fld ! refl (stop !))) (look-in ! 26 (sub ! 1 refl (whole !)))) (no-more !)))) (from ! (stop !)) (init ! 4 refl (tt, (tt, (record { fits = room₂ .0 }, tt)))) $
-        -- in the call: [what it asks; _13; …]
-        writes-back ! mem run κ₁ κ₂ q₁ q₂ t₁ t₂ r gr fm known-write-back (and-then ! (load ! (from ! (stop !)) (look ! 5 refl)) (and-then ! (load ! (from ! (stop !)) (look ! 1 refl)) (and-then ! (load ! (from ! (stop !)) (look ! 19 refl)) (no-more !)))) (λ us vs e n₁ n₂.
-        land ! (from ! (stop !)) (init ! 12 refl (tt, tt)) $
-        assigns ! (of-opd ! (load ! (from ! (fld ! refl (stop !))) (look-in ! 22 (sub ! 2 refl (whole !))))) (from ! (stop !)) (init ! 30 refl (LL.lawful R.the-type R′.the-laws 𝓤 H A W .typed (r .answer) _ (LL.owed N.the-type N′.the-laws r _ gr .1 .1 .0) .0)) $
-        returns ! (look ! 30 refl) $ lets-go ! 30 refl refl $ lets-go ! 28 refl refl $ lets-go ! 26 refl refl $ lets-go ! 24 refl refl $ lets-go ! 22 refl refl $ lets-go ! 20 refl refl $ lets-go ! 18 refl refl $ lets-go ! 16 refl refl $ lets-go ! 14 refl refl $ lets-go ! 12 refl refl $ lets-go ! 10 refl refl $ lets-go ! 8 refl refl $ lets-go ! 6 refl refl $ lets-go ! 4 refl refl $ free0 ! $
-        by ! (exits us vs e n₁ n₂ (LL.owed N.the-type N′.the-laws r _ gr .1 .1 .0)))))
+    -- the places used and the first unit go to their locals, and the rest is the body that all operations share
+    starts : Sq W Entered (runs C Λ locals text.t-1 (atRet locals Post))
+    starts =
+        move ! (33 ∷ []) $ fsplit ! $ move ! (1 ∷ []) $ fsplit ! $ move ! (1 ∷ []) $ drop ! $ move ! (34 ∷ []) $ split ! $ move ! (1 ∷ []) $ split ! $ move ! (1 ∷ []) $ drop ! $ move ! (3 ∷ 1 ∷ 2 ∷ 0 ∷ []) $
+        -- [what blocks owns; its token; what free owns; its token; _15; …]
+        assigns ! (agg ! (and-then ! (lit ! tt) (and-then ! (lit ! tt) (no-more !)))) (from ! (stop !)) (init ! 28 refl (LL.lawful S.the-type S′.the-laws 𝓤 H A W .typed unused _ none-used .0)) $
+        assigns ! (of-opd ! (lit ! tt)) (from ! (stop !)) (init ! 26 refl (tt, record { fits = lit< tt })) $
+        begins 𝓤 H A W mem run freshSeen any #workspace·made κ₁ κ₂ q₁ q₂ t₁ t₂ unused 0 room₁ room₂ none-used (lit< tt) Post exits C Λ fm known-look-at known-made known-stored l₀ l₁ l₂ l₃ l₄ l₅ l₆ l₇ l₈ l₉ l₁₀ l₁₁ l₁₂ l₁₃ l₁₄ l₁₅
 
-  walk : (C : Calls 𝓤 H) (Λ : Loops 𝓤 H) → FmC 𝓤 H (W .laws) C → Triple 𝓤 (C #workspace·look-at) (LookAt 𝓤 H A mem run) → Triple 𝓤 (C #workspace·made) (Made 𝓤 H A mem run) → Triple 𝓤 (C #workspace·write-back) (WriteBack 𝓤 H A mem run)
+  walk : (C : Calls 𝓤 H) (Λ : Loops 𝓤 H) → FmC 𝓤 H (W .laws) C → Triple 𝓤 (C #workspace·look-at) (LookAt 𝓤 H A mem run) → Triple 𝓤 (C #workspace·made) (Does 𝓤 H A freshSeen) → Triple 𝓤 (C #workspace·stored) (Stored 𝓤 H A mem run)
       → ent 𝓤 (onEntry 𝓤 H A f.signature (κ₁, (κ₂, tt)) (q₁, (q₂, tt)) x vals) (WpFn 𝓤 H C Λ code.function (val t₁ ∷ val t₂ ∷ []) Post)
   walk C Λ fm k₁ k₂ k₃ =
       qed W ((‵ (flft κ₁ q₁) ⊛ (‵ (flft κ₂ q₂) ⊛ ‵ ftrue)) ∷ ‵ (owns (MutSlice (named 0) κ₁ T.the-row ∷ MutSlice (named 1) κ₂ T.the-row ∷ []) x vals) ∷ []) ∵ enter ! C Λ code.function (val t₁ ∷ val t₂ ∷ []) _ $
-      alloc1 ! (λ l₀. alloc1 ! (λ l₁. alloc1 ! (λ l₂. alloc1 ! (λ l₃. alloc1 ! (λ l₄. alloc1 ! (λ l₅. alloc1 ! (λ l₆. alloc1 ! (λ l₇. alloc1 ! (λ l₈. alloc1 ! (λ l₉. alloc1 ! (λ l₁₀. alloc1 ! (λ l₁₁. alloc1 ! (λ l₁₂. alloc1 ! (λ l₁₃. alloc0 ! $ params1 ! $
-      pass1 ! (init ! 24 refl (tt, (tt, (record { fits = room₁ .0 }, tt)))) $ pass1 ! (init ! 22 refl (tt, (tt, (record { fits = room₂ .0 }, tt)))) $ pass0 ! $
-      begins C Λ fm k₁ k₂ k₃ l₀ l₁ l₂ l₃ l₄ l₅ l₆ l₇ l₈ l₉ l₁₀ l₁₁ l₁₂ l₁₃))))))))))))))
+      alloc1 ! (λ l₀. alloc1 ! (λ l₁. alloc1 ! (λ l₂. alloc1 ! (λ l₃. alloc1 ! (λ l₄. alloc1 ! (λ l₅. alloc1 ! (λ l₆. alloc1 ! (λ l₇. alloc1 ! (λ l₈. alloc1 ! (λ l₉. alloc1 ! (λ l₁₀. alloc1 ! (λ l₁₁. alloc1 ! (λ l₁₂. alloc1 ! (λ l₁₃. alloc1 ! (λ l₁₄. alloc1 ! (λ l₁₅. alloc0 ! $ params1 ! $
+      pass1 ! (init ! 28 refl (tt, (tt, (record { fits = room₁ .0 }, tt)))) $ pass1 ! (init ! 26 refl (tt, (tt, (record { fits = room₂ .0 }, tt)))) $ pass0 ! $
+      starts C Λ fm k₁ k₂ k₃ l₀ l₁ l₂ l₃ l₄ l₅ l₆ l₇ l₈ l₉ l₁₀ l₁₁ l₁₂ l₁₃ l₁₄ l₁₅))))))))))))))))
 
 module _ {M : Type 1} (𝓤 : URA M) (H : Heap 𝓤) (A : Atoms 𝓤) (W : Given 𝓤 H A) (mem : Memory → SProp 𝓤) (run : Routine → Fun 𝓤) where
-  fresh-walks : (C : Calls 𝓤 H) (Λ : Loops 𝓤 H) → FmC 𝓤 H (W .laws) C → Triple 𝓤 (C #workspace·look-at) (LookAt 𝓤 H A mem run) → Triple 𝓤 (C #workspace·made) (Made 𝓤 H A mem run) → Triple 𝓤 (C #workspace·write-back) (WriteBack 𝓤 H A mem run)
+  fresh-walks : (C : Calls 𝓤 H) (Λ : Loops 𝓤 H) → FmC 𝓤 H (W .laws) C → Triple 𝓤 (C #workspace·look-at) (LookAt 𝓤 H A mem run) → Triple 𝓤 (C #workspace·made) (Does 𝓤 H A freshSeen) → Triple 𝓤 (C #workspace·stored) (Stored 𝓤 H A mem run)
       → Walks 𝓤 H A f.ended stayed (WpFn 𝓤 H C Λ code.function) (f.clauses 𝓤 H A mem run)
   fresh-walks C Λ fm k₁ k₂ k₃ = walked 𝓤 H A f.ended stayed (f.clauses 𝓤 H A mem run) (WpFn 𝓤 H C Λ code.function) (λ κs. (slice-vals, (slice-vals, tt)))
       (λ κs. (mut-slice-tells (named 0) (κs .0) T.the-row, (mut-slice-tells (named 1) (κs .1 .0) T.the-row, tt)))
@@ -139,7 +106,7 @@ module _ {M : Type 1} (𝓤 : URA M) (H : Heap 𝓤) (A : Atoms 𝓤) (W : Given
   goes : AllGo 𝓤 H A W 2 (f.signature .params) (f.ended .kept) stayed
   goes = (goes-gave-slice 𝓤 H A W 2 0 tt (plain (λ _. T.the-row)), (goes-gave-slice 𝓤 H A W 2 1 tt (plain (λ _. T.the-row)), tt))
 
-fresh-meets : {M : Type 1} (𝓤 : URA M) (H : Heap 𝓤) (A : Atoms 𝓤) → Given 𝓤 H A → (mem : Memory → SProp 𝓤) (run : Routine → Fun 𝓤) (𝓣 : Tables 𝓤 H) → Triple 𝓤 (𝓣 .C #workspace·look-at) (LookAt 𝓤 H A mem run) → Triple 𝓤 (𝓣 .C #workspace·made) (Made 𝓤 H A mem run) → Triple 𝓤 (𝓣 .C #workspace·write-back) (WriteBack 𝓤 H A mem run)
+fresh-meets : {M : Type 1} (𝓤 : URA M) (H : Heap 𝓤) (A : Atoms 𝓤) → Given 𝓤 H A → (mem : Memory → SProp 𝓤) (run : Routine → Fun 𝓤) (𝓣 : Tables 𝓤 H) → Triple 𝓤 (𝓣 .C #workspace·look-at) (LookAt 𝓤 H A mem run) → Triple 𝓤 (𝓣 .C #workspace·made) (Does 𝓤 H A freshSeen) → Triple 𝓤 (𝓣 .C #workspace·stored) (Stored 𝓤 H A mem run)
     → Meets 𝓤 H A f.signature (WpFn 𝓤 H (𝓣 .C) (𝓣 .Λ) code.function) (f.spec 𝓤 H A mem run)
 fresh-meets 𝓤 H A W mem run 𝓣 k₁ k₂ k₃ = walk-meets 𝓤 H A f.ended stayed W (goes 𝓤 H A W mem run) (f.clauses 𝓤 H A mem run) (WpFn 𝓤 H (𝓣 .C) (𝓣 .Λ) code.function) (WpFn-mono 𝓤 H (W .laws) 𝓣 code.function) (fresh-walks 𝓤 H A W mem run (𝓣 .C) (𝓣 .Λ) (fmOf 𝓤 H (W .laws) 𝓣) k₁ k₂ k₃)
 
@@ -150,5 +117,5 @@ fresh-spec 𝓤 H 𝓜 𝓖 𝓡 =
     (tables 𝓤 H 𝓜 𝓡 code.env .C) (tables 𝓤 H 𝓜 𝓡 code.env .Λ) #workspace·fresh code.function (code.unfolded 𝓤 H 𝓜 𝓡)
     (fresh-meets 𝓤 H (𝓖 .A) (givenOf 𝓤 H 𝓜 𝓖) (𝓜 .mem) (𝓡 .run) (tablesOf 𝓤 H 𝓜 (tables 𝓤 H 𝓜 𝓡 code.env))
     (knows-look-at 𝓤 H 𝓜 𝓖 𝓡 code.env code.calls-workspace·lent·look-at)
-    (cited 𝓤 H (Made 𝓤 H (𝓖 .A) (𝓜 .mem) (𝓡 .run)) 𝓜 𝓡 code.env #workspace·made made-def.routine code.calls-workspace·steps·made (made-thm.met 𝓤 H 𝓜 𝓖 𝓡))
-    (knows-write-back 𝓤 H 𝓜 𝓖 𝓡 code.env code.calls-workspace·lent·write-back))
+    (cited 𝓤 H (Does 𝓤 H (𝓖 .A) freshSeen) 𝓜 𝓡 code.env #workspace·made made-def.routine code.calls-workspace·steps·made (made-thm.met 𝓤 H 𝓜 𝓖 𝓡))
+    (knows-stored 𝓤 H 𝓜 𝓖 𝓡 code.env code.calls-workspace·lent·stored))

@@ -4,7 +4,7 @@ use Rattle.workspace.proofs.Prelude.{_≡_, refl, tripleOf, entered, ci
 use Rattle.workspace.specs.Operations.{releaseOf}
 use Rattle.workspace.specs.Steps.{releaseSeen}
 use Rattle.workspace.proofs.Bridge.{release-says}
-use Rattle.workspace.proofs.Both.{knows-look-at, knows-write-back}
+use Rattle.workspace.proofs.Both.{knows-look-at, knows-stored}
 use Rattle.workspace.proofs.Operating.{any, function, Does, operates}
 use Rattle.workspace.proofs.steps.released.Symbol as released-def
 use Rattle.workspace.proofs.steps.released.Symbol.{name as #workspace·released}
@@ -26,4 +26,4 @@ release-spec 𝓤 H 𝓜 𝓖 𝓡 =
     (operates 𝓤 H (𝓖 .A) (givenOf 𝓤 H 𝓜 𝓖) (𝓜 .mem) (𝓡 .run) releaseSeen releaseOf any release-says #workspace·released code-walked (tablesOf 𝓤 H 𝓜 (tables 𝓤 H 𝓜 𝓡 code.env))
     (knows-look-at 𝓤 H 𝓜 𝓖 𝓡 code.env code.calls-workspace·lent·look-at)
     (cited 𝓤 H (Does 𝓤 H (𝓖 .A) releaseSeen) 𝓜 𝓡 code.env #workspace·released released-def.routine code.calls-workspace·steps·released (released-thm.met 𝓤 H 𝓜 𝓖 𝓡))
-    (knows-write-back 𝓤 H 𝓜 𝓖 𝓡 code.env code.calls-workspace·lent·write-back))
+    (knows-stored 𝓤 H 𝓜 𝓖 𝓡 code.env code.calls-workspace·lent·stored))

@@ -6,10 +6,10 @@ use Rattle.allot.proofs.print.put_table.Statement.{statement}
 use Rattle.allot.proofs.print.put_table.Tie as tie
 
 abbrev Inv-loop : tie.InvT-loop
-Inv-loop a out₀ at place₀ i₀ out place i = (i ≤ 32) × (length out ≡ length out₀)
+Inv-loop out₀ at a place₀ i₀ out place i = (i ≤ 32) × (length out ≡ length out₀)
 
 abbrev μ-loop : tie.MeasureT-loop
-μ-loop a out₀ at place₀ i₀ out place i = 32 - i
+μ-loop out₀ at a place₀ i₀ out place i = 32 - i
 
 pub put-table-spec : {M : Type 1} → statement M
 put-table-spec =
@@ -20,7 +20,8 @@ put-table-spec =
     (λ c. search needs)
     (λ c κs. search needs)
     (λ c. search needs)
-    (λ c κs. search needs)
+    (λ c. search needs)
+    (λ c. search needs)
     (λ c κs. search needs)
     (λ c. search needs)
     (λ c. search needs)

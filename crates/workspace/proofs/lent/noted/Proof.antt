@@ -5,10 +5,9 @@ use Rattle.workspace.proofs.lent.noted.Tie as tie
 
 returns : tie.Need-returns
 returns c =
-    let unused = c .before in
-    let places = unused .before in
+    let places = c .before .before .before in
     let a = places .before .before .args in
-    note-law (a .t) (a .i) (a .x) (places .with-at .ensures) (unused .is-none .ensures)
+    note-law (a .t) (a .i) (a .x) (places .with-at .ensures)
 
 pub noted-spec : {M : Type 1} → statement M
-noted-spec = tie.close (tie.spec (λ c κs. search needs) (λ c κs. search needs) returns)
+noted-spec = tie.close (tie.spec (λ c κs. search needs) returns)

@@ -19,23 +19,25 @@ loop-holds : tie.Need-loop-holds Inv-loop μ-loop
 loop-holds c = (search (needs, mapped-long), refl)
 
 loop-less : tie.Need-loop-less Inv-loop μ-loop
-loop-less c = let h : c .before .before .before .before .loop .i < 32 = search needs in omega (arith, h)
+loop-less c = let h : c .before .before .before .before .before .loop .i < 32 = search needs in omega (arith, h)
 
 loop-again : tie.Need-loop-again Inv-loop μ-loop
 loop-again c =
-    let l = c .before .before .before .before .loop in
-    let a = c .before .before .before .before .before .args .a in
+    let x = c .before .before .before in
+    let l = x .before .before .loop in
+    let a = x .before .before .before .args .a in
     let h : l .i < 32 = search needs in
     let n : length a ≡ 32 = l .inv .0 in
-    (l .inv .0, l .inv .1 ∙ unused-on a (l .i) (c .before .before .nth .result) (c .before .is-none .result) (omega (arith, h, n)) (c .before .before .nth .ensures) (c .before .is-none .ensures) (c .if1 .taken))
+    (l .inv .0, l .inv .1 ∙ unused-on a (l .i) (x .nth .result) (omega (arith, h, n)) (x .nth .ensures) (c .if1 .taken))
 
 returns : tie.Need-returns Inv-loop μ-loop
 returns c =
-    let l = c .before .before .before .before .loop in
-    let a = c .before .before .before .before .before .args .a in
+    let x = c .before .before .before in
+    let l = x .before .before .loop in
+    let a = x .before .before .before .args .a in
     let h : l .i < 32 = search needs in
     let n : length a ≡ 32 = l .inv .0 in
-    sym (l .inv .1 ∙ unused-stop a (l .i) (c .before .before .nth .result) (c .before .is-none .result) (omega (arith, h, n)) (c .before .before .nth .ensures) (c .before .is-none .ensures) (c .if1 .left))
+    sym (l .inv .1 ∙ unused-stop a (l .i) (x .nth .result) (omega (arith, h, n)) (x .nth .ensures) (c .if1 .left))
 
 returns-2 : tie.Need-returns-2 Inv-loop μ-loop
 returns-2 c =
@@ -52,7 +54,6 @@ all-none-spec =
     Inv-loop
     μ-loop
     loop-holds
-    (λ c κs. search needs)
     (λ c κs. search needs)
     (λ c. search needs)
     loop-less

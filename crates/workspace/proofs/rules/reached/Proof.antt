@@ -12,15 +12,15 @@ returns c =
 returns-2 : tie.Need-returns-2
 returns-2 c =
     let free = c .before .before .before in
-    let q = free .before .before in
-    let other = q .before in
+    let q = free .before in
+    let other = q .before .before in
     let a = other .before .before .args in
     free-reached (a .t) (a .x) (a .y) (other .before .begins-at .ensures) (other .if1 .left) (q .begins-at2 .ensures) (free .if2 .taken)
 
 returns-3 : tie.Need-returns-3
 returns-3 c =
-    let q = c .before .before in
-    let other = q .before in
+    let q = c .before in
+    let other = q .before .before in
     let a = other .before .before .args in
     none-reached (a .t) (a .x) (a .y) (other .before .begins-at .ensures) (other .if1 .left) (q .begins-at2 .ensures) (c .if2 .left)
 

@@ -39,12 +39,13 @@ reached-requires c κs =
 
 returns : tie.Need-returns Inv-loop μ-loop
 returns c =
-    let r = c .before .before in
+    let stuck = c .before .before .before in
+    let r = stuck .before in
     let l = r .before .before .before .before .loop in
     let a = r .before .before .before .before .before .args in
     let h : l .k < 64 = search needs in
     stop-law (l .k) (l .t) (r .reached .result) (take (a .m) (a .b)) (take (a .n) (a .f)) (r .before .before .used-at .result) (r .before .used-at2 .result) (tiled 64 false 0 (take (a .m) (a .b)) (take (a .n) (a .f)))
-    h (r .before .before .used-at .ensures) (r .before .used-at2 .ensures) (r .reached .ensures) (l .inv .8) (a .m) (a .n) (c .before .if1 .taken) (l .inv .6) (l .inv .7) (l .inv .4) (l .inv .5)
+    h (r .before .before .used-at .ensures) (r .before .used-at2 .ensures) (r .reached .ensures) (l .inv .8) (a .m) (a .n) (stuck .if1 .taken) (l .inv .6) (l .inv .7) (l .inv .4) (l .inv .5)
 
 loop-less : tie.Need-loop-less Inv-loop μ-loop
 loop-less c =

@@ -26,28 +26,28 @@ returns-2 c = let n = c .before .before .args .size in rw (kept (c .before), not
 returns-3 : tie.Need-returns-3
 unfolding requestRefusal
 returns-3 c =
-    let passed = c .before .before in
-    let used = passed .before .before .args .used in
-    let h : 31 ≤ used .blocks = search needs in
-    rw (kept (passed .before), sized passed, le-ltb (used .blocks) 31 h) refl
+    let passed = c .before in
+    let a = passed .before .before .args in
+    let h : 31 ≤ a .m = search needs in
+    rw (kept (passed .before), sized passed, le-ltb (a .m) 31 h) refl
 
 returns-4 : tie.Need-returns-4
 unfolding requestRefusal
 returns-4 c =
-    let passed = c .before .before .before .before in
+    let passed = c .before .before in
     let a = passed .before .before .args in
-    let h : a .used .blocks < 31 = search needs in
-    let k : a .used .free ≤ a .place = search needs in
-    rw (kept (passed .before), sized passed, lt-ltb (a .used .blocks) 31 h, le-ltb (a .place) (a .used .free) k) refl
+    let h : a .m < 31 = search needs in
+    let k : a .n ≤ a .place = search needs in
+    rw (kept (passed .before), sized passed, lt-ltb (a .m) 31 h, le-ltb (a .place) (a .n) k) refl
 
 returns-5 : tie.Need-returns-5
 unfolding requestRefusal
 returns-5 c =
-    let passed = c .before .before .before .before in
+    let passed = c .before .before in
     let a = passed .before .before .args in
-    let h : a .used .blocks < 31 = search needs in
-    let k : a .place < a .used .free = search needs in
-    rw (kept (passed .before), sized passed, lt-ltb (a .used .blocks) 31 h, lt-ltb (a .place) (a .used .free) k) refl
+    let h : a .m < 31 = search needs in
+    let k : a .place < a .n = search needs in
+    rw (kept (passed .before), sized passed, lt-ltb (a .m) 31 h, lt-ltb (a .place) (a .n) k) refl
 
 pub request-refusal-spec : {M : Type 1} → statement M
 request-refusal-spec = tie.close (tie.spec returns returns-2 returns-3 returns-4 returns-5)

@@ -1,4 +1,4 @@
-use mathlib.Core.Path.{_≡_, sym, _∙_}
+use mathlib.Core.Path.{_≡_}
 use borrow.Author.Needs.{needs}
 use Rattle.workspace.proofs.StepLaws.{granted-may, request-granted, request-refused}
 use Rattle.workspace.proofs.steps.requested.Statement.{statement}
@@ -10,7 +10,7 @@ granted-requires c κs =
     let kept = refusal .before in
     let a = kept .before .args in
     let z : refusal .request-refusal .result ≡ 0 = search needs in
-    granted-may (a .seen) (a .used) (a .size) (kept .keeps .ensures) (sym (refusal .request-refusal .ensures) ∙ z)
+    granted-may (a .seen) (a .used) (a .size) (kept .keeps .ensures) (refusal .request-refusal .ensures) z
 
 returns : tie.Need-returns
 returns c =
