@@ -4,7 +4,7 @@ use Prim.Native.Nat.{ℕ, zero, suc, _+_, _-_, _≤_, _<_}
 use mathlib.Core.Path.{_≡_, refl, sym, ap, _∙_}
 use mathlib.Core.Bool.{Bool, true, false}
 use mir.Val.{boolByte}
-use mathlib.Core.List.{List, [], _∷_, _++_, map, append-assoc, append-nil, tail-eq-of-cons-eq, nil≢cons}
+use mathlib.Core.List.{List, [], _∷_, _++_, append-assoc, append-nil, tail-eq-of-cons-eq, nil≢cons}
 use native.Mathlib.Omega.{arith}
 use native.Mathlib.Numerals.{add-one}
 use lib.Dec.{eqb, ltb}
@@ -17,8 +17,8 @@ use Rattle.lists.specs.Lists.{if_then_else_, bit, filter, count, first}
 use Rattle.lists.specs.Marks.{noMarks, markOf, marked, withMark}
 use Rattle.lists.proofs.MarkLaws.{filter-same, mark-in, marked-length}
 use Rattle.rules.specs.State.{State, move, running, waitsOn, queue, holds, heldBy, wakeAll}
-use Rattle.rules.specs.Step.{refused, took, NO-TASK, item, DONE, takeCall, STILL-SERVING, queuedFrom, queuedOn, finish, failed}
-use Rattle.rules.specs.Whole.{pack}
+use Rattle.rules.specs.Step.{refused, took, NO-TASK, item, DONE, takeCall, STILL-SERVING, queuedFrom, queuedOn, finish, failed, roomAfter}
+use Rattle.rules.specs.Whole.{view}
 use Rattle.rules.specs.declared.Supervisor.{Supervisor}
 use Rattle.rules.specs.declared.Task.{Task}
 use Rattle.rules.specs.declared.Place.the-variants.{Completed}
@@ -31,10 +31,11 @@ use Rattle.rules.proofs.StepSound.{of-queuedFrom, wakeAll-sound, wakeAll-length
 use Rattle.rules.proofs.WholeLaws.{at-most, no-zero}
 use Rattle.table.specs.Moved.{movedOf}
 use Rattle.supervisor.specs.Lowest.{openCall, callOf}
-use Rattle.supervisor.specs.Taken.{AllThere, EachOnce}
+use Rattle.supervisor.specs.Taken.{Stands, takenOf, endedBy, completing, AllThere, EachOnce, WokenAs}
+use Rattle.supervisor.specs.declared.answers.Taken.{Taken}
 use Rattle.rules.proofs.Fate.{queued-once}
 use Rattle.supervisor.proofs.MoveLaws.{moved-state}
-use Rattle.supervisor.proofs.AnswerLaws.{no-runner, of-runner}
+use Rattle.supervisor.proofs.AnswerLaws.{no-runner, of-runner, many-answers}
 use Rattle.supervisor.proofs.LowestLaws.{at-open, all-open}
 
 -- ---- a line that is laid out, read back and added to
@@ -171,8 +172,8 @@ module _ (v : State) (t : ℕ) where
   pub finish-holds : (n : ℕ) → n ≡ length (heldBy v t) → 0 < n → finish v t ≡ refused STILL-SERVING
   finish-holds n e k = rw (lt-ltb 0 (length (heldBy v t)) (omega arith))
 
-  pub finish-goes : (n : ℕ) → n ≡ length (heldBy v t) → n ≤ 0 → finish v t ≡ took (move (wakeAll v (queuedOn v t)) t Completed Off) (item t DONE 0 0) (map (failed v) (queuedOn v t))
-  finish-goes n e k = rw (le-ltb 0 (length (heldBy v t)) (omega arith))
+  pub finish-goes : (n : ℕ) (l : List ℕ) → n ≡ length (heldBy v t) → n ≤ 0 → l ≡ queuedOn v t → finish v t ≡ completing v t l
+  finish-goes n l e k q = rw (le-ltb 0 (length (heldBy v t)) (omega arith), q)
 
   nobody-queued : v .callers ≡ [] → (k e : ℕ) → queuedFrom v t k e ≡ []
   nobody-queued z zero e = refl
@@ -182,8 +183,7 @@ module _ (v : State) (t : ℕ) where
   pub finish-alone : v .held ≡ [] → v .callers ≡ [] → finish v t ≡ took (move v t Completed Off) (item t DONE 0 0) []
   unfolding queuedOn
   finish-alone h z =
-      finish-goes 0 (sym (ap (λ (l : List ℕ). length (filter (holds v t) l)) h)) (omega arith)
-      ∙ ap (λ (l : List ℕ). took (move (wakeAll v l) t Completed Off) (item t DONE 0 0) (map (failed v) l)) (nobody-queued z 8 1)
+      finish-goes 0 [] (sym (ap (λ (l : List ℕ). length (filter (holds v t) l)) h)) (omega arith) (sym (nobody-queued z 8 1))
 
   pub finish-idle : t ≡ running v → t ≡ 0 → takeCall v Finish ≡ refused NO-TASK
   finish-idle run z = no-runner v t (λ t. finish v t) run z
@@ -192,7 +192,10 @@ module _ (v : State) (t : ℕ) where
   finish-runs run z = of-runner v t (λ t. finish v t) run z
 
 -- all of a list woken, and then t completes
-pub woken-completed : (v : State) (n m : Supervisor) (l xs : List ℕ) (t : ℕ) → Sound v → AllThere v xs → l ≡ xs → t ≤ length (v .tasks) → n ≡ pack (wakeAll v l) → m ≡ movedOf n t Completed Off
-    → m ≡ pack (move (wakeAll v xs) t Completed Off)
-woken-completed v n m l xs t h k e b en em =
-    em ∙ moved-state n (wakeAll v xs) t Completed Off (en ∙ ap (λ (x : List ℕ). pack (wakeAll v x)) e) (wakeAll-sound xs v h k) (omega (arith, b, wakeAll-length xs v))
+pub completes : (s : Supervisor) (t : ℕ) (l : List ℕ) (n : Supervisor) (k : ℕ) (room last : List ℕ) {r : Taken} → Stands s → AllThere (view s) l → t ≤ length (view s .tasks) → WokenAs (view s) true l n k room last
+    → r ≡ record { state = movedOf n t Completed Off; refusal = 0; answer = item t DONE 0 0; ended = k }
+    → (r ≡ takenOf s (completing (view s) t l)) × (last ≡ roomAfter room (endedBy (completing (view s) t l)))
+completes s t l n k room last h a b w e =
+    let v = view s in
+    let m = moved-state n (wakeAll v l) t Completed Off (w .state) (wakeAll-sound l v (h .sound) a) (omega (arith, b, wakeAll-length l v)) in
+    (many-answers s (movedOf n t Completed Off) (move (wakeAll v l) t Completed Off) (item t DONE 0 0) (failed v) l l k e m (w .number) refl, w .written)

@@ -83,7 +83,7 @@ pub fn wake_all(s: Supervisor, l: [u8; 31], failed: bool, room: &mut [u8]) -> Wo
     requires { ⌜ Stands s × (length (line l) * 4 ≤ length (now room)) × EachOnce (view s) (line l) ⌝ }
     ensures { λ r. ⌜ WokenAs (view s) failed (line l) (r .state) (r .count) (now (room .entry)) (now (room .exit)) ⌝ }
 {
-    if l[0] == 0 {
+    if lines::first_of(l) == 0 {
         return Woken { state: s, count: 0 };
     }
     let n = put_items(s, l, failed, room);

@@ -19,7 +19,7 @@ ghost use Rattle.rules.specs.Questions.{countWhole, callableWhole};
 ghost use Rattle.rules.specs.Step.{takeCall, roomAfter};
 ghost use Rattle.rules.specs.State as state;
 ghost use Rattle.rules.specs.Whole.{steppedOf, view, pack, soundWhole, stepWhole};
-ghost use Rattle.supervisor.specs.Taken.{Stands, takenOf, endedBy};
+ghost use Rattle.supervisor.specs.Taken.{Stands, takenOf, endedBy, refusalOf};
 use answers::Taken;
 use calls::Call;
 use numbers::BAD_STATE;
@@ -59,6 +59,19 @@ fn take_call(s: Supervisor, c: Call, room: &mut [u8]) -> Taken
     }
 }
 
+// Why the step is refused before the call is looked at, where the room has n bytes; 0 where it is not.
+fn refusal_of(s: Supervisor, n: usize) -> u8
+    ensures { λ r. ⌜ r ≡ refusalOf s n ⌝ }
+{
+    if n < 124 {
+        return SHORT_ROOM;
+    }
+    if is_sound(s) {
+        return 0;
+    }
+    BAD_STATE
+}
+
 // The step is refused before the call is looked at.
 fn declined(s: Supervisor, n: u8) -> Stepped
     ensures { λ r. ⌜ r ≡ record { state = s; answer = record { refusal = n; result = 0; task = 0; entry = 0; partner = 0; ended = 0; next = 0 } } ⌝ }
@@ -82,11 +95,9 @@ pub fn step(s: Supervisor, c: Call, room: &mut [u8]) -> Stepped
     ensures { λ r. ⌜ r ≡ steppedOf (stepWhole s c (length (now (room .entry)))) ⌝ }
     ensures room { λ r. ⌜ now (room .exit) ≡ roomAfter (now (room .entry)) (stepWhole s c (length (now (room .entry))) .ended) ⌝ }
 {
-    if room.len() < 124 {
-        return declined(s, SHORT_ROOM);
-    }
-    if !is_sound(s) {
-        return declined(s, BAD_STATE);
+    let n = refusal_of(s, room.len());
+    if n > 0 {
+        return declined(s, n);
     }
     let k = take_call(s, c, room);
     let after = k.state;
