@@ -44,16 +44,20 @@ fn call_busy(s: Supervisor, t: u8, g: u8, e: u8, m: CallMode) -> Taken
         entry: e,
     });
     match m {
-        CallMode::Simple => moved_on(s, t, p, Timer::Off, WAITS, 0),
+        CallMode::Simple => {
+            return moved_on(s, t, p, Timer::Off, WAITS, 0);
+        }
         CallMode::Timed(d) => {
             let n = ticks(d);
             if n == 0 {
                 return answered(s, t, CALL_EXPIRED, e, g, 0);
             }
             let w = Timer::Due(std::num::wrapping_add_u32(s.clock, n));
-            moved_on(s, t, p, w, WAITS, 0)
+            return moved_on(s, t, p, w, WAITS, 0);
         }
-        CallMode::Conditional => answered(s, t, NOT_NOW, e, g, 0),
+        CallMode::Conditional => {
+            return answered(s, t, NOT_NOW, e, g, 0);
+        }
     }
 }
 

@@ -29,8 +29,7 @@ fn completed(s: Supervisor, t: u8, l: [u8; 31], room: &mut [u8]) -> Taken
     ensures room { λ r. ⌜ now (room .exit) ≡ roomAfter (now (room .entry)) (endedBy (completing (view s) t (line l))) ⌝ }
 {
     let w = wake_all(s, l, true, room);
-    let n = w.state;
-    moved_on(n, t, Place::Completed, Timer::Off, DONE, w.count)
+    moved_on(w.state, t, Place::Completed, Timer::Off, DONE, w.count)
 }
 
 // The running task completes, and all callers queued on it become ready.

@@ -44,18 +44,34 @@ fn take_call(s: Supervisor, c: Call, room: &mut [u8]) -> Taken
     ensures room { λ r. ⌜ now (room .exit) ≡ roomAfter (now (room .entry)) (endedBy (takeCall (view s) c)) ⌝ }
 {
     match c {
-        Call::Create { priority, entries } => create::create(s, priority, entries),
-        Call::Delay(d) => delay::delay(s, d),
+        Call::Create { priority, entries } => {
+            return create::create(s, priority, entries);
+        }
+        Call::Delay(d) => {
+            return delay::delay(s, d);
+        }
         Call::Call {
             target,
             entry,
             mode,
-        } => call::call(s, target, entry, mode, room),
-        Call::Select { open, mode } => select::select(s, open, mode),
-        Call::End => end::end(s, room),
-        Call::Finish => finish::finish(s, room),
-        Call::Tick => tick::tick(s, room),
-        Call::Advance(n) => advance::advance(s, n, room),
+        } => {
+            return call::call(s, target, entry, mode, room);
+        }
+        Call::Select { open, mode } => {
+            return select::select(s, open, mode);
+        }
+        Call::End => {
+            return end::end(s, room);
+        }
+        Call::Finish => {
+            return finish::finish(s, room);
+        }
+        Call::Tick => {
+            return tick::tick(s, room);
+        }
+        Call::Advance(n) => {
+            return advance::advance(s, n, room);
+        }
     }
 }
 

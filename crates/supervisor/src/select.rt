@@ -40,7 +40,7 @@ fn select_none(s: Supervisor, t: u8, o: u8, m: SelectMode) -> Taken
             if o == 0 {
                 return answered(s, t, PROGRAM_ERROR, 0, 0, 0);
             }
-            moved_on(s, t, p, Timer::Off, WAITS, 0)
+            return moved_on(s, t, p, Timer::Off, WAITS, 0);
         }
         SelectMode::Delay(d) => {
             let k = ticks(d);
@@ -48,9 +48,11 @@ fn select_none(s: Supervisor, t: u8, o: u8, m: SelectMode) -> Taken
                 return answered(s, t, DELAY_TAKEN, 0, 0, 0);
             }
             let w = Timer::Due(std::num::wrapping_add_u32(s.clock, k));
-            moved_on(s, t, p, w, WAITS, 0)
+            return moved_on(s, t, p, w, WAITS, 0);
         }
-        SelectMode::Else => answered(s, t, ELSE_TAKEN, 0, 0, 0),
+        SelectMode::Else => {
+            return answered(s, t, ELSE_TAKEN, 0, 0, 0);
+        }
     }
 }
 

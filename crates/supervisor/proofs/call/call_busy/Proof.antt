@@ -13,15 +13,15 @@ use Rattle.supervisor.proofs.call.call_busy.Tie as tie
 
 returns : tie.Need-returns
 returns c =
+    let b = c .before .before .before in
+    rw (c .before .enum-told .given .1) (move-answers (b .args .s) (b .args .t) _ Off _ [] (b .pre .0) (b .pre .1) (c .moved-on .ensures))
+
+returns-2 : tie.Need-returns-2
+returns-2 c =
     let a = c .before .before .before .before .before .before .args in
     let k = c .before .before .before .before .m .given in
     let z : toZ w32 (ofZ w32 (k .0 .0)) ≡ k .0 .0 = search needs in
     rw (k .1) (by-outcome (a .s) (timed-now (view (a .s)) (a .t) (a .g) (a .e) (k .0 .0) (c .before .before .ticks .result) (c .before .before .ticks .ensures ∙ ap ticks z) (c .before .if1 .taken)) (stay-answers (a .s) _ [] (c .before .before .before .before .before .before .pre .0) (c .answered .ensures)))
-
-returns-2 : tie.Need-returns-2
-returns-2 c =
-    let b = c .before .before .before in
-    rw (c .before .enum-told .given .1) (move-answers (b .args .s) (b .args .t) _ Off _ [] (b .pre .0) (b .pre .1) (c .moved-on .ensures))
 
 returns-3 : tie.Need-returns-3
 returns-3 c =
@@ -42,6 +42,5 @@ returns-4 c =
 pub call-busy-spec : {M : Type 1} → statement M
 call-busy-spec =
     tie.close
-    (tie.spec (λ c. search needs) (λ c κs. search needs) (λ c. search needs) (λ c κs. search needs) (λ c κs. search needs)
-    returns (λ c κs. search needs) (λ c κs. search needs) (λ c. search needs) (λ c κs. search needs) returns-2 returns-3
-    returns-4)
+    (tie.spec (λ c. search needs) (λ c κs. search needs) returns (λ c. search needs) (λ c κs. search needs) (λ c κs. search needs)
+    returns-2 (λ c κs. search needs) (λ c κs. search needs) returns-3 (λ c. search needs) (λ c κs. search needs) returns-4)

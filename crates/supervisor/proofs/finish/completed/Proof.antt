@@ -9,7 +9,7 @@ wake-all-requires c κs = let p = c .before .before .pre in (p .0, p .1, p .2)
 
 returns : tie.Need-returns
 returns c =
-    let w = c .before .before .before .before in
+    let w = c .before .before .before in
     let k = w .before .before .before in
     let a = k .args in
     completes (a .s) (a .t) (line (a .l)) (w .wake-all .result .state) (w .wake-all .result .count) _ _ (k .pre .0) (k .pre .2 .0) (k .pre .3) (w .wake-all .ensures) (c .moved-on .ensures)
