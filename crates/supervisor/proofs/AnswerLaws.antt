@@ -47,9 +47,9 @@ pub answers : (s m : Supervisor) (st : State) (a : Item) (l : List Item) {r : Ta
 answers s m st a l e q = e ∙ ap (λ (x : Supervisor). record { state = x; refusal = 0; answer = a; ended = length l }) q
 
 -- an answer after one move, and one that leaves the state as it is
-pub move-answers : (s : Supervisor) (t : ℕ) (p : Place) (w : Timer) (a : Item) (l : List Item) {r : Taken} → Stands s → t ≤ length (view s .tasks)
-    → r ≡ record { state = movedOf s t p w; refusal = 0; answer = a; ended = length l } → r ≡ takenOf s (took (move (view s) t p w) a l)
-move-answers s t p w a l h k e = answers s (movedOf s t p w) (move (view s) t p w) a l e (moved-packed s t p w h k)
+pub move-answers : (s m : Supervisor) (t : ℕ) (p : Place) (w : Timer) (a : Item) (l : List Item) {r : Taken} → Stands s → t ≤ length (view s .tasks)
+    → r ≡ record { state = m; refusal = 0; answer = a; ended = length l } → m ≡ movedOf s t p w → r ≡ takenOf s (took (move (view s) t p w) a l)
+move-answers s m t p w a l h k e q = answers s m (move (view s) t p w) a l e (q ∙ moved-packed s t p w h k)
 
 -- answers that come with them
 module _ (g c e : ℕ) where

@@ -192,10 +192,10 @@ module _ (v : State) (t : ℕ) where
   finish-runs run z = of-runner v t (λ t. finish v t) run z
 
 -- all of a list woken, and then t completes
-pub completes : (s : Supervisor) (t : ℕ) (l : List ℕ) (n : Supervisor) (k : ℕ) (room last : List ℕ) {r : Taken} → Stands s → AllThere (view s) l → t ≤ length (view s .tasks) → WokenAs (view s) true l n k room last
-    → r ≡ record { state = movedOf n t Completed Off; refusal = 0; answer = item t DONE 0 0; ended = k }
+pub completes : (s : Supervisor) (t : ℕ) (l : List ℕ) (n m : Supervisor) (k : ℕ) (room last : List ℕ) {r : Taken} → Stands s → AllThere (view s) l → t ≤ length (view s .tasks) → WokenAs (view s) true l n k room last
+    → m ≡ movedOf n t Completed Off → r ≡ record { state = m; refusal = 0; answer = item t DONE 0 0; ended = k }
     → (r ≡ takenOf s (completing (view s) t l)) × (last ≡ roomAfter room (endedBy (completing (view s) t l)))
-completes s t l n k room last h a b w e =
+completes s t l n m k room last h a b w em e =
     let v = view s in
-    let m = moved-state n (wakeAll v l) t Completed Off (w .state) (wakeAll-sound l v (h .sound) a) (omega (arith, b, wakeAll-length l v)) in
-    (many-answers s (movedOf n t Completed Off) (move (wakeAll v l) t Completed Off) (item t DONE 0 0) (failed v) l l k e m (w .number) refl, w .written)
+    let q = em ∙ moved-state n (wakeAll v l) t Completed Off (w .state) (wakeAll-sound l v (h .sound) a) (omega (arith, b, wakeAll-length l v)) in
+    (many-answers s m (move (wakeAll v l) t Completed Off) (item t DONE 0 0) (failed v) l l k e q (w .number) refl, w .written)

@@ -4,16 +4,16 @@ use Prim.Native.Nat.{ℕ, _<_, _≤_}
 use mathlib.Core.Path.{_≡_}
 use mathlib.Core.Bool.{Bool}
 use mathlib.Core.List.{List, [], map}
-use lib.Dec.{ltb}
 use lib.ListN.{length}
 use Rattle.lists.specs.Lists.{if_then_else_, count}
-use Rattle.rules.specs.State.{State, placeOf, entryOf, partnerOf, move, wakeAll}
-use Rattle.rules.specs.Step.{Outcome, refused, took, number, none, item, expiry, failed, roomAfter, SHORT-ROOM, BAD-STATE, TASKING-ERROR, DONE}
-use Rattle.rules.specs.Whole.{view, pack, soundWhole}
+use Rattle.rules.specs.State.{State, placeOf, entryOf, partnerOf, move, wakeAll, offer}
+use Rattle.rules.specs.Step.{Outcome, refused, took, number, none, item, expiry, failed, roomAfter, WAITS, TASKING-ERROR, DONE}
+use Rattle.rules.specs.Whole.{view, pack}
 use Rattle.rules.specs.declared.Item.{Item}
 use Rattle.rules.specs.declared.Place.{Place}
-use Rattle.rules.specs.declared.Place.the-variants.{Completed}
+use Rattle.rules.specs.declared.Place.the-variants.{Accepting, Completed}
 use Rattle.rules.specs.declared.Supervisor.{Supervisor}
+use Rattle.rules.specs.declared.Timer.{Timer}
 use Rattle.rules.specs.declared.Timer.the-variants.{Off}
 use Rattle.rules.proofs.Invariant.{Sound}
 use Rattle.supervisor.specs.declared.answers.Taken.{Taken}
@@ -33,9 +33,9 @@ abbrev pub endedBy : Outcome → List Item
 endedBy (refused r) = []
 endedBy (took st a l) = l
 
--- why a step is refused before the call is looked at, where the room has n bytes; 0 where it is not
-abbrev pub refusalOf : Supervisor → ℕ → ℕ
-refusalOf s n = if ltb n 124 then number SHORT-ROOM else if soundWhole s then 0 else number BAD-STATE
+-- task t waits to accept a caller of the open set o, with the time w
+abbrev pub awaiting : State → ℕ → ℕ → Timer → Outcome
+awaiting s t o w = took (move s t (Accepting (offer o)) w) (item t WAITS 0 0) []
 
 -- task t completes, and all of a list wake because it does
 abbrev pub completing : State → ℕ → List ℕ → Outcome

@@ -1,12 +1,8 @@
 // What a call gave.
 ghost use mathlib.Core.Path.{_≡_};
 ghost use Rattle.rules.specs.Step.{item, none};
-ghost use Rattle.table.specs.Moved.{movedOf};
 use rules::Item;
-use rules::Place;
 use rules::Supervisor;
-use rules::Timer;
-use table::moves::moved;
 
 // What a call gave: the state, a refusal (0 if none), the answer, and the number of ended waits.
 pub struct Taken {
@@ -48,12 +44,4 @@ pub fn answered(s: Supervisor, t: u8, result: u8, entry: u8, partner: u8, ended:
         },
         ended,
     }
-}
-
-// The call is taken: task t goes to place p with the time w.
-pub fn moved_on(s: Supervisor, t: u8, p: Place, w: Timer, result: u8, ended: u8) -> Taken
-    ensures { λ r. ⌜ r ≡ record { state = movedOf s t p w; refusal = 0; answer = item t result 0 0; ended = ended } ⌝ }
-{
-    let n = moved(s, t, p, w);
-    answered(n, t, result, 0, 0, ended)
 }

@@ -3,12 +3,11 @@ ghost use Prim.Native.Nat.{_≤_};
 ghost use lib.ListN.{length};
 ghost use mathlib.Core.Path.{_≡_};
 ghost use Rattle.calls.specs.declared.Call.the-variants.{Call};
-ghost use Rattle.rules.specs.Step.{takeCall, roomAfter, callBusy};
+ghost use Rattle.rules.specs.Step.{takeCall, roomAfter, enqueue, callBusy};
 ghost use Rattle.rules.specs.Whole.{view};
 ghost use Rattle.supervisor.specs.Taken.{Stands, takenOf, endedBy};
 use super::answers::Taken;
 use super::answers::answered;
-use super::answers::moved_on;
 use super::answers::refused_by;
 use super::ended::put;
 use super::numbers::ACCEPTED;
@@ -34,30 +33,39 @@ use table::place::is_between;
 use table::place::is_completed;
 use table::tasks::task_of;
 
+// Task t, which is running, queues on entry e of task g.
+fn enqueued(s: Supervisor, t: u8, g: u8, e: u8, w: Timer) -> Taken
+    requires { ⌜ Stands s × (t ≤ length (view s .tasks)) ⌝ }
+    ensures { λ r. ⌜ r ≡ takenOf s (enqueue (view s) t g e w) ⌝ }
+{
+    let m = moved(
+        s,
+        t,
+        Place::Queued(Waiting {
+            target: g,
+            entry: e,
+        }),
+        w,
+    );
+    answered(m, t, WAITS, 0, 0, 0)
+}
+
 // The target is not there to accept: the caller waits, or not, as the mode says.
 fn call_busy(s: Supervisor, t: u8, g: u8, e: u8, m: CallMode) -> Taken
     requires { ⌜ Stands s × (t ≤ length (view s .tasks)) ⌝ }
     ensures { λ r. ⌜ r ≡ takenOf s (callBusy (view s) t g e m) ⌝ }
 {
-    let p = Place::Queued(Waiting {
-        target: g,
-        entry: e,
-    });
     match m {
-        CallMode::Simple => {
-            return moved_on(s, t, p, Timer::Off, WAITS, 0);
-        }
+        CallMode::Simple => enqueued(s, t, g, e, Timer::Off),
         CallMode::Timed(d) => {
             let n = ticks(d);
             if n == 0 {
                 return answered(s, t, CALL_EXPIRED, e, g, 0);
             }
             let w = Timer::Due(std::num::wrapping_add_u32(s.clock, n));
-            return moved_on(s, t, p, w, WAITS, 0);
+            enqueued(s, t, g, e, w)
         }
-        CallMode::Conditional => {
-            return answered(s, t, NOT_NOW, e, g, 0);
-        }
+        CallMode::Conditional => answered(s, t, NOT_NOW, e, g, 0),
     }
 }
 

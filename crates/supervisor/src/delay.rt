@@ -5,7 +5,7 @@ ghost use Rattle.rules.specs.Step.{takeCall};
 ghost use Rattle.rules.specs.Whole.{view};
 ghost use Rattle.supervisor.specs.Taken.{Stands, takenOf};
 use super::answers::Taken;
-use super::answers::moved_on;
+use super::answers::answered;
 use super::answers::refused_by;
 use super::numbers::ELAPSED;
 use super::numbers::NO_TASK;
@@ -15,6 +15,7 @@ use rules::Place;
 use rules::Supervisor;
 use rules::Timer;
 use table::dispatch::running;
+use table::moves::moved;
 
 // Above 0, the running task waits until the d-th tick. Otherwise it moves to the tail of its level at once.
 pub fn delay(s: Supervisor, d: i32) -> Taken
@@ -27,8 +28,10 @@ pub fn delay(s: Supervisor, d: i32) -> Taken
     }
     let n = ticks(d);
     if n == 0 {
-        return moved_on(s, t, Place::Ready, Timer::Off, ELAPSED, 0);
+        let left = moved(s, t, Place::Ready, Timer::Off);
+        return answered(left, t, ELAPSED, 0, 0, 0);
     }
     let w = Timer::Due(std::num::wrapping_add_u32(s.clock, n));
-    moved_on(s, t, Place::Delayed, w, WAITS, 0)
+    let left = moved(s, t, Place::Delayed, w);
+    answered(left, t, WAITS, 0, 0, 0)
 }

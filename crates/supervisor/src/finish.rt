@@ -8,7 +8,7 @@ ghost use Rattle.rules.specs.Step.{takeCall, roomAfter};
 ghost use Rattle.rules.specs.Whole.{view};
 ghost use Rattle.supervisor.specs.Taken.{Stands, takenOf, endedBy, EachOnce, completing};
 use super::answers::Taken;
-use super::answers::moved_on;
+use super::answers::answered;
 use super::answers::refused_by;
 use super::callers::queued_on;
 use super::ended::wake_all;
@@ -19,6 +19,7 @@ use rules::Place;
 use rules::Supervisor;
 use rules::Timer;
 use table::dispatch::running;
+use table::moves::moved;
 use table::queues::Test;
 use table::queues::picked;
 
@@ -29,7 +30,8 @@ fn completed(s: Supervisor, t: u8, l: [u8; 31], room: &mut [u8]) -> Taken
     ensures room { λ r. ⌜ now (room .exit) ≡ roomAfter (now (room .entry)) (endedBy (completing (view s) t (line l))) ⌝ }
 {
     let w = wake_all(s, l, true, room);
-    moved_on(w.state, t, Place::Completed, Timer::Off, DONE, w.count)
+    let m = moved(w.state, t, Place::Completed, Timer::Off);
+    answered(m, t, DONE, 0, 0, w.count)
 }
 
 // The running task completes, and all callers queued on it become ready.
@@ -46,7 +48,8 @@ pub fn finish(s: Supervisor, room: &mut [u8]) -> Taken
     let callers = s.callers;
     // nobody is held or queued, on any task: nobody need be looked for
     if (lines::first_of(held) == 0) & (lines::first_of(callers) == 0) {
-        return moved_on(s, t, Place::Completed, Timer::Off, DONE, 0);
+        let m = moved(s, t, Place::Completed, Timer::Off);
+        return answered(m, t, DONE, 0, 0, 0);
     }
     let h = picked(s, held, Test::HeldBy { holder: t });
     let k = lines::len(h);

@@ -13,13 +13,14 @@ mod select;
 mod tick;
 
 ghost use Prim.Native.Nat.{_≤_};
+ghost use lib.Dec.{ltb};
 ghost use lib.ListN.{length};
 ghost use mathlib.Core.Path.{_≡_};
 ghost use Rattle.rules.specs.Questions.{countWhole, callableWhole};
 ghost use Rattle.rules.specs.Step.{takeCall, roomAfter};
 ghost use Rattle.rules.specs.State as state;
 ghost use Rattle.rules.specs.Whole.{steppedOf, view, pack, soundWhole, stepWhole};
-ghost use Rattle.supervisor.specs.Taken.{Stands, takenOf, endedBy, refusalOf};
+ghost use Rattle.supervisor.specs.Taken.{Stands, takenOf, endedBy};
 use answers::Taken;
 use calls::Call;
 use numbers::BAD_STATE;
@@ -44,48 +45,26 @@ fn take_call(s: Supervisor, c: Call, room: &mut [u8]) -> Taken
     ensures room { λ r. ⌜ now (room .exit) ≡ roomAfter (now (room .entry)) (endedBy (takeCall (view s) c)) ⌝ }
 {
     match c {
-        Call::Create { priority, entries } => {
-            return create::create(s, priority, entries);
-        }
-        Call::Delay(d) => {
-            return delay::delay(s, d);
-        }
+        Call::Create { priority, entries } => create::create(s, priority, entries),
+        Call::Delay(d) => delay::delay(s, d),
         Call::Call {
             target,
             entry,
             mode,
-        } => {
-            return call::call(s, target, entry, mode, room);
-        }
-        Call::Select { open, mode } => {
-            return select::select(s, open, mode);
-        }
-        Call::End => {
-            return end::end(s, room);
-        }
-        Call::Finish => {
-            return finish::finish(s, room);
-        }
-        Call::Tick => {
-            return tick::tick(s, room);
-        }
-        Call::Advance(n) => {
-            return advance::advance(s, n, room);
-        }
+        } => call::call(s, target, entry, mode, room),
+        Call::Select { open, mode } => select::select(s, open, mode),
+        Call::End => end::end(s, room),
+        Call::Finish => finish::finish(s, room),
+        Call::Tick => tick::tick(s, room),
+        Call::Advance(n) => advance::advance(s, n, room),
     }
 }
 
-// Why the step is refused before the call is looked at, where the room has n bytes; 0 where it is not.
-fn refusal_of(s: Supervisor, n: usize) -> u8
-    ensures { λ r. ⌜ r ≡ refusalOf s n ⌝ }
+// Whether n bytes are too few for the items of a step.
+fn is_short(n: usize) -> bool
+    ensures { λ r. ⌜ r ≡ ltb n 124 ⌝ }
 {
-    if n < 124 {
-        return SHORT_ROOM;
-    }
-    if is_sound(s) {
-        return 0;
-    }
-    BAD_STATE
+    n < 124
 }
 
 // The step is refused before the call is looked at.
@@ -111,9 +90,11 @@ pub fn step(s: Supervisor, c: Call, room: &mut [u8]) -> Stepped
     ensures { λ r. ⌜ r ≡ steppedOf (stepWhole s c (length (now (room .entry)))) ⌝ }
     ensures room { λ r. ⌜ now (room .exit) ≡ roomAfter (now (room .entry)) (stepWhole s c (length (now (room .entry))) .ended) ⌝ }
 {
-    let n = refusal_of(s, room.len());
-    if n > 0 {
-        return declined(s, n);
+    if is_short(room.len()) {
+        return declined(s, SHORT_ROOM);
+    }
+    if !is_sound(s) {
+        return declined(s, BAD_STATE);
     }
     let k = take_call(s, c, room);
     let after = k.state;

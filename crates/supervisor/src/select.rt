@@ -5,10 +5,9 @@ ghost use mathlib.Core.Path.{_≡_};
 ghost use Rattle.calls.specs.declared.Call.the-variants.{Select};
 ghost use Rattle.rules.specs.Step.{takeCall, selectNone};
 ghost use Rattle.rules.specs.Whole.{view};
-ghost use Rattle.supervisor.specs.Taken.{Stands, takenOf};
+ghost use Rattle.supervisor.specs.Taken.{Stands, takenOf, awaiting};
 use super::answers::Taken;
 use super::answers::answered;
-use super::answers::moved_on;
 use super::answers::refused_by;
 use super::callers::lowest;
 use super::numbers::ACCEPTED;
@@ -26,21 +25,30 @@ use rules::Supervisor;
 use rules::Timer;
 use table::dispatch::running;
 use table::moves::met;
+use table::moves::moved;
 use table::place::is_too_wide;
 use table::tasks::task_of;
+
+// Task t, which is running, waits to accept a caller of the open set o.
+fn accepting(s: Supervisor, t: u8, o: u8, w: Timer) -> Taken
+    requires { ⌜ Stands s × (t ≤ length (view s .tasks)) ⌝ }
+    ensures { λ r. ⌜ r ≡ takenOf s (awaiting (view s) t o w) ⌝ }
+{
+    let n = moved(s, t, Place::Accepting(Offer { opens: o }), w);
+    answered(n, t, WAITS, 0, 0, 0)
+}
 
 // No open entry has a caller: the task waits, or not, as the mode says.
 fn select_none(s: Supervisor, t: u8, o: u8, m: SelectMode) -> Taken
     requires { ⌜ Stands s × (t ≤ length (view s .tasks)) ⌝ }
     ensures { λ r. ⌜ r ≡ takenOf s (selectNone (view s) t o m) ⌝ }
 {
-    let p = Place::Accepting(Offer { opens: o });
     match m {
         SelectMode::Plain => {
             if o == 0 {
                 return answered(s, t, PROGRAM_ERROR, 0, 0, 0);
             }
-            return moved_on(s, t, p, Timer::Off, WAITS, 0);
+            return accepting(s, t, o, Timer::Off);
         }
         SelectMode::Delay(d) => {
             let k = ticks(d);
@@ -48,7 +56,7 @@ fn select_none(s: Supervisor, t: u8, o: u8, m: SelectMode) -> Taken
                 return answered(s, t, DELAY_TAKEN, 0, 0, 0);
             }
             let w = Timer::Due(std::num::wrapping_add_u32(s.clock, k));
-            return moved_on(s, t, p, w, WAITS, 0);
+            return accepting(s, t, o, w);
         }
         SelectMode::Else => {
             return answered(s, t, ELSE_TAKEN, 0, 0, 0);

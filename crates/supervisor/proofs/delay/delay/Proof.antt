@@ -2,10 +2,8 @@ use borrow.Author.Needs.{needs}
 use mathlib.Core.Path.{_≡_, _∙_, ap}
 use mathlib.Core.List.{[]}
 use mir.Facts.{toZ-ofZ}
-use Rattle.rules.specs.Step.{delayFor, ticks, item, ELAPSED, WAITS}
+use Rattle.rules.specs.Step.{delayFor, ticks, item, ELAPSED}
 use Rattle.rules.specs.Whole.{view}
-use Rattle.rules.specs.declared.Place.the-variants.{Ready, Delayed}
-use Rattle.rules.specs.declared.Timer.the-variants.{Off, Due}
 use Rattle.rules.proofs.Members.{Runs}
 use Rattle.supervisor.proofs.AnswerLaws.{no-runner, runner, by-outcome, move-answers}
 use Rattle.supervisor.proofs.DelayLaws.{delay-now, delay-later}
@@ -25,27 +23,24 @@ returns c =
 
 returns-2 : tie.Need-returns-2
 returns-2 c =
-    let k = c .before .before in
+    let k = c .before .before .before in
     let e1 = k .before in
-    let b = e1 .before .before in
-    let a = b .args in
+    let a = c .before .before .before .before .before .before .args in
     let t = e1 .before .running .result in
-    by-outcome (a .s) (delay-now (view (a .s)) t (e1 .before .running .ensures) (e1 .if1 .left) (a .d) (k .ticks .result) (ticks-here k) (c .before .if2 .taken))
-    (move-answers (a .s) t Ready Off (item t ELAPSED 0 0) [] (b .pre) (runs-here e1 .high) (c .moved-on .ensures))
+    by-outcome (a .s) (delay-now (view (a .s)) t (e1 .before .running .ensures) (e1 .if1 .left) (a .d) (k .ticks .result) (ticks-here k) (c .before .before .if2 .taken))
+    (move-answers (a .s) (c .before .moved .result) t _ _ (item t ELAPSED 0 0) [] (c .before .before .before .before .before .before .pre) (runs-here e1 .high) (c .answered .ensures) (c .before .moved .ensures))
 
 returns-3 : tie.Need-returns-3
 returns-3 c =
-    let k = c .before .before .before in
+    let k = c .before .before .before .before in
     let e1 = k .before in
-    let b = e1 .before .before in
-    let a = b .args in
+    let a = c .before .before .before .before .before .before .before .args in
     let t = e1 .before .running .result in
-    let due = c .before .wrapping-add-u32 .result in
-    by-outcome (a .s) (delay-later (view (a .s)) t (e1 .before .running .ensures) (e1 .if1 .left) (a .d) (k .ticks .result) due (ticks-here k) (c .before .before .if2 .left) (c .before .wrapping-add-u32 .ensures))
-    (move-answers (a .s) t Delayed (Due due) (item t WAITS 0 0) [] (b .pre) (runs-here e1 .high) (c .moved-on2 .ensures))
+    by-outcome (a .s) (delay-later (view (a .s)) t (e1 .before .running .ensures) (e1 .if1 .left) (a .d) (k .ticks .result) _ (ticks-here k) (c .before .before .before .if2 .left) (c .before .before .wrapping-add-u32 .ensures))
+    (move-answers (a .s) _ _ _ _ _ [] (c .before .before .before .before .before .before .before .pre) (runs-here e1 .high) (c .answered2 .ensures) (c .before .moved2 .ensures))
 
 pub delay-spec : {M : Type 1} → statement M
 delay-spec =
     tie.close
     (tie.spec (λ c κs. search needs) (λ c κs. search needs) returns (λ c κs. search needs) (λ c κs. search needs)
-    returns-2 (λ c κs. search needs) (λ c κs. search needs) returns-3)
+    (λ c κs. search needs) returns-2 (λ c κs. search needs) (λ c κs. search needs) (λ c κs. search needs) returns-3)

@@ -9,10 +9,10 @@ wake-all-requires c κs = let p = c .before .before .pre in (p .0, p .1, p .2)
 
 returns : tie.Need-returns
 returns c =
-    let w = c .before .before .before in
+    let w = c .before .before .before .before in
     let k = w .before .before .before in
     let a = k .args in
-    completes (a .s) (a .t) (line (a .l)) (w .wake-all .result .state) (w .wake-all .result .count) _ _ (k .pre .0) (k .pre .2 .0) (k .pre .3) (w .wake-all .ensures) (c .moved-on .ensures)
+    completes (a .s) (a .t) (line (a .l)) (w .wake-all .result .state) (c .before .moved .result) (w .wake-all .result .count) _ _ (k .pre .0) (k .pre .2 .0) (k .pre .3) (w .wake-all .ensures) (c .before .moved .ensures) (c .answered .ensures)
 
 pub completed-spec : {M : Type 1} → statement M
-completed-spec = tie.close (tie.spec wake-all-requires (λ c κs. search needs) (λ c. search needs) returns)
+completed-spec = tie.close (tie.spec wake-all-requires (λ c κs. search needs) (λ c κs. search needs) (λ c. search needs) returns)

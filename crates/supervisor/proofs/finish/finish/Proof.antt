@@ -50,18 +50,18 @@ returns c =
 -- nobody is held, and nobody is queued
 returns-2 : tie.Need-returns-2
 returns-2 c =
-    let f = c .before .before in
+    let f = c .before .before .before in
     let e1 = f .before .before .before .before in
     let k = e1 .before .before .before in
     let s = k .args .s in
     let t = e1 .before .running .result in
     let m = f .before .first-of .result in
     let n = f .first-of2 .result in
-    let none = c .before .if2 .taken in
+    let none = c .before .before .if2 .taken in
     let held = rest-blank (s .held) 0 (omega (arith, long-held s (k .pre .0))) (first-at (s .held) ∙ sym (f .before .first-of .ensures) ∙ eqb-true m 0 (and-first (eqb m 0) (eqb n 0) none)) in
     let callers = rest-blank (s .callers) 0 (omega (arith, long-callers s (k .pre .0))) (first-at (s .callers) ∙ sym (f .first-of2 .ensures) ∙ eqb-true n 0 (and-second (eqb m 0) (eqb n 0) none)) in
     by-both s _ _ (finish-here e1 ∙ finish-alone (view s) t held callers)
-    (move-answers s t Completed Off (item t DONE 0 0) [] (k .pre .0) (runs-here e1 .high) (c .moved-on .ensures)) refl
+    (move-answers s (c .before .moved .result) t Completed Off (item t DONE 0 0) [] (k .pre .0) (runs-here e1 .high) (c .answered .ensures) (c .before .moved .ensures)) refl
 
 returns-3 : tie.Need-returns-3
 returns-3 c =
@@ -92,5 +92,5 @@ pub finish-spec : {M : Type 1} → statement M
 finish-spec =
     tie.close
     (tie.spec (λ c κs. search needs) (λ c κs. search needs) returns (λ c κs. search needs) (λ c κs. search needs)
-    (λ c κs. search needs) returns-2 (λ c κs. search needs) (λ c κs. search needs) (λ c κs. search needs) returns-3
+    (λ c κs. search needs) (λ c κs. search needs) returns-2 (λ c κs. search needs) (λ c κs. search needs) (λ c κs. search needs) returns-3
     (λ c κs. search needs) completed-requires (λ c. search needs) returns-4)

@@ -6,8 +6,7 @@ use mir.Syntax.{w32}
 use borrow.Author.Tests.{eq-eqb, ne-eqb}
 use Rattle.rules.specs.Step.{ticks}
 use Rattle.rules.specs.Whole.{view}
-use Rattle.rules.specs.declared.Timer.the-variants.{Off, Due}
-use Rattle.supervisor.proofs.AnswerLaws.{by-outcome, move-answers, stay-answers}
+use Rattle.supervisor.proofs.AnswerLaws.{by-outcome, stay-answers}
 use Rattle.supervisor.proofs.SelectLaws.{select-now, select-later}
 use Rattle.supervisor.proofs.select.select_none.Statement.{statement}
 use Rattle.supervisor.proofs.select.select_none.Tie as tie
@@ -20,8 +19,7 @@ returns c =
 returns-2 : tie.Need-returns-2
 returns-2 c =
     let z = ne-eqb _ _ (c .before .if1 .left) in
-    let b = c .before .before .before .before in
-    rw (c .before .before .enum-told .given .1, z) (move-answers (b .args .s) (b .args .t) _ Off _ [] (b .pre .0) (b .pre .1) (c .moved-on .ensures))
+    rw (c .before .before .enum-told .given .1, z) (c .accepting .ensures)
 
 -- the ticks of the duration
 ticks-here : (c : tie.After-ticks) → c .ticks .result ≡ ticks (c .before .before .m .given .0 .0)
@@ -40,12 +38,10 @@ returns-3 c =
 returns-4 : tie.Need-returns-4
 returns-4 c =
     let n = c .before .before .before in
-    let b = n .before .before .before .before in
-    let a = b .args in
+    let a = n .before .before .before .before .args in
     let k = n .before .before .m .given in
     let due = c .before .wrapping-add-u32 .result in
-    rw (k .1) (by-outcome (a .s) (select-later (view (a .s)) (a .t) (a .o) (k .0 .0) (n .ticks .result) (ticks-here n) due (c .before .before .if2 .left) (c .before .wrapping-add-u32 .ensures))
-    (move-answers (a .s) (a .t) _ (Due due) _ [] (b .pre .0) (b .pre .1) (c .moved-on2 .ensures)))
+    rw (k .1) (by-outcome (a .s) (select-later (view (a .s)) (a .t) (a .o) (k .0 .0) (n .ticks .result) (ticks-here n) due (c .before .before .if2 .left) (c .before .wrapping-add-u32 .ensures)) (c .accepting2 .ensures))
 
 returns-5 : tie.Need-returns-5
 returns-5 c = rw (c .before .enum-told2 .given .1) (stay-answers (c .before .before .before .args .s) _ [] (c .before .before .before .pre .0) (c .answered3 .ensures))
