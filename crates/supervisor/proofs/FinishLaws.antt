@@ -4,16 +4,16 @@ use Prim.Native.Nat.{ℕ, zero, suc, _+_, _-_, _≤_, _<_}
 use mathlib.Core.Path.{_≡_, refl, sym, ap, _∙_}
 use mathlib.Core.Bool.{Bool, true, false}
 use mir.Val.{boolByte}
-use mathlib.Core.List.{List, [], _∷_, _++_, append-assoc, append-nil, tail-eq-of-cons-eq, nil≢cons}
+use mathlib.Core.List.{List, [], _∷_, _++_, append-assoc, append-nil, tail-eq-of-cons-eq}
 use native.Mathlib.Omega.{arith}
 use native.Mathlib.Numerals.{add-one}
 use lib.Dec.{eqb, ltb}
 use lib.ListN.{length, drop, getD, drop-of-length-le, List·getD-eq-default}
 use lib.Seq.{drop-cons}
-use borrow.Author.Tests.{ltb-true, lt-ltb, le-ltb, ltb-false, eq-eqb, ne-eqb}
+use borrow.Author.Tests.{ltb-true, lt-ltb, le-ltb, ltb-false, eq-eqb, ne-eqb, eqb-true}
 use Rattle.lists.proofs.LineLaws.{line-line, line-append, line-pad}
 use Rattle.lists.specs.Line.{line, pad, padTo}
-use Rattle.lists.specs.Lists.{if_then_else_, bit, filter, count, first}
+use Rattle.lists.specs.Lists.{if_then_else_, bit, filter, count}
 use Rattle.lists.specs.Marks.{noMarks, markOf, marked, withMark}
 use Rattle.lists.proofs.MarkLaws.{filter-same, mark-in, marked-length}
 use Rattle.rules.specs.State.{State, move, running, waitsOn, queue, holds, heldBy, wakeAll}
@@ -26,7 +26,7 @@ use Rattle.rules.specs.declared.Timer.the-variants.{Off}
 use Rattle.calls.specs.declared.Call.the-variants.{Finish}
 use Rattle.rules.proofs.Invariant.{Sound}
 use Rattle.rules.proofs.Members.{queued-there, nth-beyond}
-use Rattle.lists.proofs.ListLaws.{by-bool}
+use Rattle.lists.proofs.ListLaws.{by-bool, by-test}
 use Rattle.rules.proofs.StepSound.{of-queuedFrom, wakeAll-sound, wakeAll-length}
 use Rattle.rules.proofs.WholeLaws.{at-most, no-zero}
 use Rattle.table.specs.Moved.{movedOf}
@@ -95,24 +95,21 @@ pub byMarks : List ℕ → List ℕ → ℕ → ℕ → List ℕ
 byMarks m l zero e = []
 byMarks m l (suc k) e = withMark m e l ++ byMarks m l k (suc e)
 
--- line q behind line r, also where q is empty
-behind-is : (r q n : List ℕ) → r ≡ pad (line r) → n ≡ (if eqb (first (line q)) 0 then r else pad (line r ++ line q)) → n ≡ pad (line r ++ line q)
-behind-is r q n er en = en ∙ go (line q) (line-line q)
-  where
-    go : (l : List ℕ) → line l ≡ l → (if eqb (first l) 0 then r else pad (line r ++ l)) ≡ pad (line r ++ l)
-    go [] h = er ∙ sym (pad-none (line r))
-    go (zero ∷ xs) h = absurd (nil≢cons h)
-    go (suc x ∷ xs) h = rw (ne-eqb (suc x) 0 (λ z. omega arith))
+module _ (m l : List ℕ) (e : ℕ) (r n : List ℕ) (er : r ≡ pad (line r)) (en : n ≡ (if eqb (count e m) 0 then r else pad (line r ++ withMark m e l))) (eq : line (withMark m e l) ≡ withMark m e l) (some : 0 < e) (low : e < 9) where
+  -- those with the mark e behind line r, also where there are none
+  here : n ≡ pad (line r ++ withMark m e l)
+  here =
+      en ∙ by-test (λ (x : List ℕ). x ≡ pad (line r ++ withMark m e l)) (eqb (count e m) 0)
+      (λ b. er ∙ sym (pad-none (line r)) ∙ ap (λ (x : List ℕ). pad (line r ++ x)) (sym (none-has m e l (eqb-true (count e m) 0 b) some)))
+      (λ b. refl)
 
-module _ (m l : List ℕ) (e : ℕ) (r n q : List ℕ) (er : r ≡ pad (line r)) (en : n ≡ (if eqb (first (line q)) 0 then r else pad (line r ++ line q))) (eq : line q ≡ withMark m e l) (low : e < 9) where
-  here : n ≡ pad (line r ++ line q)
-  here = behind-is r q n er en
-
-  none : line (line r ++ line q) ≡ line r ++ line q
-  none = line-append (line r) (line q) (line-line r) (line-line q)
+  none : line (line r ++ withMark m e l) ≡ line r ++ withMark m e l
+  none = line-append (line r) (withMark m e l) (line-line r) eq
 
   pub queued-laid : n ≡ pad (line n)
-  queued-laid = here ∙ sym (pad-none (line r ++ line q)) ∙ sym (pad-again (line r ++ line q) [] none) ∙ pad-none (line (pad (line r ++ line q))) ∙ ap (λ (x : List ℕ). pad (line x)) (sym here)
+  queued-laid =
+      here ∙ sym (pad-none (line r ++ withMark m e l)) ∙ sym (pad-again (line r ++ withMark m e l) [] none) ∙ pad-none (line (pad (line r ++ withMark m e l)))
+      ∙ ap (λ (x : List ℕ). pad (line x)) (sym here)
 
   pub queued-turn : pad (line r ++ byMarks m l (9 - e) e) ≡ pad (line n ++ byMarks m l (9 - (e + 1)) (e + 1))
   unfolding byMarks
@@ -120,9 +117,8 @@ module _ (m l : List ℕ) (e : ℕ) (r n q : List ℕ) (er : r ≡ pad (line r))
       let k : 9 - e ≡ suc (9 - (e + 1)) = omega arith in
       let rest : List ℕ = byMarks m l (9 - (e + 1)) (suc e) in
       ap (λ (j : ℕ). pad (line r ++ byMarks m l j e)) k
-      ∙ ap (λ (x : List ℕ). pad (line r ++ (x ++ rest))) (sym eq)
-      ∙ ap pad (sym (append-assoc (line r) (line q) rest))
-      ∙ sym (pad-again (line r ++ line q) rest none)
+      ∙ ap pad (sym (append-assoc (line r) (withMark m e l) rest))
+      ∙ sym (pad-again (line r ++ withMark m e l) rest none)
       ∙ ap (λ (x : List ℕ). pad (line x ++ rest)) (sym here)
       ∙ ap (λ (j : ℕ). pad (line n ++ byMarks m l (9 - (e + 1)) j)) (sym (add-one e))
 
