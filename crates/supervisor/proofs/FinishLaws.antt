@@ -189,7 +189,7 @@ module _ (v : State) (t : ℕ) where
 
 -- all of a list woken, and then t completes
 pub completes : (s : Supervisor) (t : ℕ) (l : List ℕ) (n m : Supervisor) (k : ℕ) (room last : List ℕ) {r : Taken} → Stands s → AllThere (view s) l → t ≤ length (view s .tasks) → WokenAs (view s) true l n k room last
-    → m ≡ movedOf n t Completed Off → r ≡ record { state = m; refusal = 0; answer = item t DONE 0 0; ended = k }
+    → m ≡ movedOf n t Completed Off → r ≡ record { state = m; refusal = 0; task = t; result = DONE; entry = 0; partner = 0; ended = k }
     → (r ≡ takenOf s (completing (view s) t l)) × (last ≡ roomAfter room (endedBy (completing (view s) t l)))
 completes s t l n m k room last h a b w em e =
     let v = view s in

@@ -44,7 +44,10 @@ pub passed-answers : (s : Supervisor) (v : State) (d l : List ℕ) (m : Supervis
     → r ≡ record {
       state = record { clock = reading; created = m .created; tasks = m .tasks; ready = m .ready; callers = m .callers; held = m .held; delays = m .delays };
       refusal = 0;
-      answer = item 0 DONE moments 0;
+      task = 0;
+      result = DONE;
+      entry = moments;
+      partner = 0;
       ended = k;
     }
     → (r ≡ takenOf s o) × (last ≡ roomAfter room (endedBy o))

@@ -44,7 +44,7 @@ by-whole x y e h k = (h ∙ sym (ap steppedOf e), k ∙ sym (ap (λ (w : Whole).
 
 -- the dispatched task is worked out on the struct of the next state
 pub next-is : (s : Supervisor) (o : Outcome) (k : Taken) (n : ℕ) → Kept o → k ≡ takenOf s o → n ≡ running (view (k .state))
-    → _≡_ {A = Stepped} (record { state = k .state; answer = record { refusal = k .refusal; result = k .answer .result; task = k .answer .task; entry = k .answer .entry; partner = k .answer .partner; ended = k .ended; next = n } }) (steppedOf (done s o))
+    → _≡_ {A = Stepped} (record { state = k .state; answer = record { refusal = k .refusal; result = k .result; task = k .task; entry = k .entry; partner = k .partner; ended = k .ended; next = n } }) (steppedOf (done s o))
 next-is s (refused r) k n h ek en = rw (en, ek)
 next-is s (took st a l) k n h ek en = rw (en, ek) (ap (λ (m : ℕ). record { state = pack st; answer = record { refusal = 0; result = a .result; task = a .task; entry = a .entry; partner = a .partner; ended = length l; next = m } }) (ap running (view-pack st h)))
 

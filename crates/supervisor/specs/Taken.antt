@@ -7,7 +7,7 @@ use mathlib.Core.List.{List, [], map}
 use lib.ListN.{length}
 use Rattle.lists.specs.Lists.{if_then_else_, count}
 use Rattle.rules.specs.State.{State, placeOf, entryOf, partnerOf, move, wakeAll, offer}
-use Rattle.rules.specs.Step.{Outcome, refused, took, number, none, item, expiry, failed, roomAfter, WAITS, TASKING-ERROR, DONE}
+use Rattle.rules.specs.Step.{Outcome, refused, took, number, item, expiry, failed, roomAfter, WAITS, TASKING-ERROR, DONE}
 use Rattle.rules.specs.Whole.{view, pack}
 use Rattle.rules.specs.declared.Item.{Item}
 use Rattle.rules.specs.declared.Place.{Place}
@@ -25,8 +25,8 @@ pub record Stands (s : Supervisor) : Type 0 where
 
 -- what a step function answers for an outcome of the rules: a refused call leaves the struct as it was
 abbrev pub takenOf : Supervisor → Outcome → Taken
-takenOf s (refused r) = record { state = s; refusal = number r; answer = none; ended = 0 }
-takenOf s (took st a l) = record { state = pack st; refusal = 0; answer = a; ended = length l }
+takenOf s (refused r) = record { state = s; refusal = number r; task = 0; result = 0; entry = 0; partner = 0; ended = 0 }
+takenOf s (took st a l) = record { state = pack st; refusal = 0; task = a .task; result = a .result; entry = a .entry; partner = a .partner; ended = length l }
 
 -- the ended waits of an outcome
 abbrev pub endedBy : Outcome → List Item

@@ -98,16 +98,15 @@ pub fn step(s: Supervisor, c: Call, room: &mut [u8]) -> Stepped
     }
     let k = take_call(s, c, room);
     let after = k.state;
-    let answer = k.answer;
     let next = running(after);
     Stepped {
         state: after,
         answer: Answer {
             refusal: k.refusal,
-            result: answer.result,
-            task: answer.task,
-            entry: answer.entry,
-            partner: answer.partner,
+            result: k.result,
+            task: k.task,
+            entry: k.entry,
+            partner: k.partner,
             ended: k.ended,
             next,
         },

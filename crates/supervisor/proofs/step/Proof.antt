@@ -51,7 +51,7 @@ take-call-requires c κs = (stands-here (c .before), ltb-false _ 124 (room-here 
 
 returns-3 : tie.Need-returns-3
 returns-3 c =
-    let k = c .before .before .before .before .before in
+    let k = c .before .before .before .before in
     let e2 = k .before .before in
     let e1 = e2 .before .before in
     let a = e1 .before .before .before .args in
