@@ -1,18 +1,15 @@
--- ADVANCE: those whose time comes within its ticks, and what is answered once they are woken.
+-- ADVANCE: those whose time comes within its ticks, and what is to be answered.
 -- Assumes nothing.
 use Prim.Native.Nat.{ℕ, _+_, _≤_}
 use mathlib.Core.Path.{_≡_, refl, sym, ap, _∙_}
 use mathlib.Core.Bool.{Bool, true, false, not}
 use mathlib.Core.List.{List, [], _∷_, map}
 use native.Mathlib.Omega.{arith}
-use lib.ListN.{length, length-map}
 use lib.Dec.{eqb}
 use mir.Val.{boolByte}
 use Rattle.rules.specs.State.{State, hasTime, after, wakeAll, setClock}
-use Rattle.rules.specs.Step.{took, item, DONE, takeCall, expired, roomAfter}
-use Rattle.rules.specs.Whole.{pack}
+use Rattle.rules.specs.Step.{took, item, DONE, takeCall, expired}
 use Rattle.rules.specs.Advance.{comesIn, dueWithin, changes, dueMoments}
-use Rattle.rules.specs.declared.Supervisor.{Supervisor}
 use Rattle.rules.specs.declared.Timer.{Timer}
 use Rattle.rules.specs.declared.Timer.the-variants.{Off, Due}
 use Rattle.calls.specs.declared.Call.the-variants.{Advance}
@@ -21,11 +18,9 @@ use Rattle.rules.proofs.Invariant.{Sound}
 use Rattle.rules.proofs.Members.{bit-le}
 use Rattle.rules.proofs.SoundTest.{sound-test}
 use Rattle.rules.proofs.Advances.{advances}
-use Rattle.supervisor.specs.Taken.{takenOf, endedBy, EachOnce, WokenAs}
-use Rattle.supervisor.specs.declared.answers.Taken.{Taken}
-use Rattle.supervisor.proofs.AnswerLaws.{list-answers}
+use Rattle.supervisor.specs.Taken.{EachOnce}
 use Rattle.supervisor.proofs.FinishLaws.{byte-bit}
-use Rattle.supervisor.proofs.TickLaws.{timed-each, clock-packed}
+use Rattle.supervisor.proofs.TickLaws.{timed-each}
 
 -- ── those whose time comes ──
 
@@ -53,26 +48,8 @@ module _ (f : ℕ → ℕ) (w n k : ℕ) (xs : List ℕ) (q : w ≡ n + changes 
 
 -- ── the call ──
 
-advance-is : (v : State) (n : ℕ) → Sound v
-    → takeCall v (Advance n) ≡ took (setClock (wakeAll v (dueWithin v n)) (after (v .clock) n)) (item 0 DONE (dueMoments v n) 0) (map (expired v) (dueWithin v n))
-advance-is v n h = let c = advances .at-once v n (h .clock) (sound-test v h) in λ i. took (c .state i) (item 0 DONE (c .count i) 0) (c .ends i)
-
--- what the code answers, from the list that it woke
-pub advance-answers : (s : Supervisor) (v : State) (n : ℕ) (l : List ℕ) (m : Supervisor) (k moments reading : ℕ) (room last : List ℕ) {r : Taken} → Sound v
-    → l ≡ dueWithin v n → WokenAs v false l m k room last → moments ≡ dueMoments v n → reading ≡ after (v .clock) n
-    → r ≡ record {
-      state = record { clock = reading; created = m .created; tasks = m .tasks; ready = m .ready; callers = m .callers; held = m .held; delays = m .delays };
-      refusal = 0;
-      answer = item 0 DONE moments 0;
-      ended = k;
-    }
-    → (r ≡ takenOf s (takeCall v (Advance n))) × (last ≡ roomAfter room (endedBy (takeCall v (Advance n))))
-advance-answers s v n l m k moments reading room last h q w c er e =
-    let d = dueWithin v n in
-    let st : m ≡ pack (wakeAll v d) = w .state ∙ ap (λ (x : List ℕ). pack (wakeAll v x)) q in
-    let t : Supervisor = record { clock = reading; created = m .created; tasks = m .tasks; ready = m .ready; callers = m .callers; held = m .held; delays = m .delays } in
-    list-answers s t (setClock (wakeAll v d) (after (v .clock) n)) (item 0 DONE (dueMoments v n) 0) (map (expired v) d) k room last (advance-is v n h)
-    (e ∙ ap (λ (x : ℕ). record { state = t; refusal = 0; answer = item 0 DONE x 0; ended = k }) c)
-    (clock-packed m (wakeAll v d) reading st ∙ ap (λ (x : ℕ). pack (setClock (wakeAll v d) x)) er)
-    (w .number ∙ ap length q ∙ sym (length-map d (expired v)))
-    (w .written ∙ ap (λ (x : List ℕ). roomAfter room (map (expired v) x)) q)
+pub advance-is : (v : State) (n moments reading : ℕ) → Sound v → moments ≡ dueMoments v n → reading ≡ after (v .clock) n
+    → takeCall v (Advance n) ≡ took (setClock (wakeAll v (dueWithin v n)) reading) (item 0 DONE moments 0) (map (expired v) (dueWithin v n))
+advance-is v n moments reading h em er =
+    let c = advances .at-once v n (h .clock) (sound-test v h) in
+    (λ i. took (c .state i) (item 0 DONE (c .count i) 0) (c .ends i)) ∙ λ i. took (setClock (wakeAll v (dueWithin v n)) (sym er i)) (item 0 DONE (sym em i) 0) (map (expired v) (dueWithin v n))

@@ -43,40 +43,40 @@ pub by-both : (s : Supervisor) {o q : Outcome} {r : Taken} (x y : List ℕ) → 
 by-both s x y e h k = (h ∙ sym (ap (takenOf s) e), k ∙ sym (ap (λ (o : Outcome). roomAfter y (endedBy o)) e))
 
 -- the state of an answer
-pub answers : (s m : Supervisor) (st : State) (a : Item) (l : List Item) {r : Taken} → r ≡ record { state = m; refusal = 0; answer = a; ended = length l } → m ≡ pack st → r ≡ takenOf s (took st a l)
-answers s m st a l e q = e ∙ ap (λ (x : Supervisor). record { state = x; refusal = 0; answer = a; ended = length l }) q
+pub answers : (s m : Supervisor) (st : State) (a : Item) (l : List Item) {r : Taken} → r ≡ record { state = m; refusal = 0; task = a .task; result = a .result; entry = a .entry; partner = a .partner; ended = length l } → m ≡ pack st → r ≡ takenOf s (took st a l)
+answers s m st a l e q = e ∙ ap (λ (x : Supervisor). record { state = x; refusal = 0; task = a .task; result = a .result; entry = a .entry; partner = a .partner; ended = length l }) q
 
 -- an answer after one move, and one that leaves the state as it is
 pub move-answers : (s m : Supervisor) (t : ℕ) (p : Place) (w : Timer) (a : Item) (l : List Item) {r : Taken} → Stands s → t ≤ length (view s .tasks)
-    → r ≡ record { state = m; refusal = 0; answer = a; ended = length l } → m ≡ movedOf s t p w → r ≡ takenOf s (took (move (view s) t p w) a l)
+    → r ≡ record { state = m; refusal = 0; task = a .task; result = a .result; entry = a .entry; partner = a .partner; ended = length l } → m ≡ movedOf s t p w → r ≡ takenOf s (took (move (view s) t p w) a l)
 move-answers s m t p w a l h k e q = answers s m (move (view s) t p w) a l e (q ∙ moved-packed s t p w h k)
 
 -- answers that come with them
 module _ (g c e : ℕ) where
   pub meet-answers : (s m : Supervisor) (a : Item) (l : List Item) {r : Taken} → Stands s → g ≤ length (view s .tasks) → c ≤ length (view s .tasks)
-      → r ≡ record { state = m; refusal = 0; answer = a; ended = length l } → m ≡ metOf s g c e → r ≡ takenOf s (took (meet (view s) g c e) a l)
+      → r ≡ record { state = m; refusal = 0; task = a .task; result = a .result; entry = a .entry; partner = a .partner; ended = length l } → m ≡ metOf s g c e → r ≡ takenOf s (took (meet (view s) g c e) a l)
   meet-answers s m a l h i k y q = answers s m (meet (view s) g c e) a l y (q ∙ met-packed g c e s h i k)
 
   pub part-answers : (s m : Supervisor) (a : Item) (l : List Item) {r : Taken} → Stands s → g ≤ length (view s .tasks) → c ≤ length (view s .tasks)
-      → r ≡ record { state = m; refusal = 0; answer = a; ended = length l } → m ≡ partedOf s g c → r ≡ takenOf s (took (part (view s) g c) a l)
+      → r ≡ record { state = m; refusal = 0; task = a .task; result = a .result; entry = a .entry; partner = a .partner; ended = length l } → m ≡ partedOf s g c → r ≡ takenOf s (took (part (view s) g c) a l)
   part-answers s m a l h i k y q = answers s m (part (view s) g c) a l y (q ∙ parted-packed g c e s h i k)
 
-pub stay-answers : (s : Supervisor) (a : Item) (l : List Item) {r : Taken} → Stands s → r ≡ record { state = s; refusal = 0; answer = a; ended = length l } → r ≡ takenOf s (took (view s) a l)
+pub stay-answers : (s : Supervisor) (a : Item) (l : List Item) {r : Taken} → Stands s → r ≡ record { state = s; refusal = 0; task = a .task; result = a .result; entry = a .entry; partner = a .partner; ended = length l } → r ≡ takenOf s (took (view s) a l)
 stay-answers s a l h e = answers s s (view s) a l e (h .packs)
 
 -- an answer with a list
-pub many-answers : (s m : Supervisor) (st : State) (a : Item) (f : ℕ → Item) (l xs : List ℕ) (n : ℕ) {r : Taken} → r ≡ record { state = m; refusal = 0; answer = a; ended = n } → m ≡ pack st → n ≡ length l → l ≡ xs
+pub many-answers : (s m : Supervisor) (st : State) (a : Item) (f : ℕ → Item) (l xs : List ℕ) (n : ℕ) {r : Taken} → r ≡ record { state = m; refusal = 0; task = a .task; result = a .result; entry = a .entry; partner = a .partner; ended = n } → m ≡ pack st → n ≡ length l → l ≡ xs
     → r ≡ takenOf s (took st a (map f xs))
 many-answers s m st a f l xs n e q k z =
-    e ∙ ap (λ (x : Supervisor). record { state = x; refusal = 0; answer = a; ended = n }) q
-    ∙ ap (λ (j : ℕ). record { state = pack st; refusal = 0; answer = a; ended = j }) (k ∙ ap length z ∙ sym (length-map xs f))
+    e ∙ ap (λ (x : Supervisor). record { state = x; refusal = 0; task = a .task; result = a .result; entry = a .entry; partner = a .partner; ended = n }) q
+    ∙ ap (λ (j : ℕ). record { state = pack st; refusal = 0; task = a .task; result = a .result; entry = a .entry; partner = a .partner; ended = j }) (k ∙ ap length z ∙ sym (length-map xs f))
 
 -- an answer with a list that was written
 pub list-answers : (s m : Supervisor) (st : State) (a : Item) (l : List Item) (k : ℕ) (room after : List ℕ) {o : Outcome} {r : Taken} → o ≡ took st a l
-    → r ≡ record { state = m; refusal = 0; answer = a; ended = k } → m ≡ pack st → k ≡ length l → after ≡ roomAfter room l → (r ≡ takenOf s o) × (after ≡ roomAfter room (endedBy o))
+    → r ≡ record { state = m; refusal = 0; task = a .task; result = a .result; entry = a .entry; partner = a .partner; ended = k } → m ≡ pack st → k ≡ length l → after ≡ roomAfter room l → (r ≡ takenOf s o) × (after ≡ roomAfter room (endedBy o))
 list-answers s m st a l k room after e h q n w =
     by-both s after room e
-    (h ∙ ap (λ (x : Supervisor). record { state = x; refusal = 0; answer = a; ended = k }) q ∙ ap (λ (j : ℕ). record { state = pack st; refusal = 0; answer = a; ended = j }) n) w
+    (h ∙ ap (λ (x : Supervisor). record { state = x; refusal = 0; task = a .task; result = a .result; entry = a .entry; partner = a .partner; ended = k }) q ∙ ap (λ (j : ℕ). record { state = pack st; refusal = 0; task = a .task; result = a .result; entry = a .entry; partner = a .partner; ended = j }) n) w
 
 -- a test of the called task, made on its record
 pub of-task : (v : State) (g : ℕ) (x : Task) (f : Task → Bool) (b c : Bool) → x ≡ taskOf v g → b ≡ f x → b ≡ c → f (taskOf v g) ≡ c

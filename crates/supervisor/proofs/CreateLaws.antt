@@ -33,10 +33,10 @@ module _ (v : State) (p n : ℕ) where
   pub create-new : (b : Bool) (t : ℕ) → b ≡ inRange p n → not b ≡ false → created v < 31 → t ≡ suc (created v) → takeCall v (Create p n) ≡ took (add v p n) (item t DONE 0 0) []
   create-new b t e z k f = let q : inRange p n ≡ true = sym e ∙ not-false b z in rw (q, lt-leb 31 (created v) k, f)
 
-pub add-packed : (s m : Supervisor) (p n t : ℕ) (r : List ℕ) {x : Task} → Stands s → s .created < 31 → t ≡ s .created + 1 → x ≡ fresh p n → r ≡ pad (line (s .ready) ++ (t ∷ []))
-    → m ≡ withTask (record { clock = s .clock; created = t; tasks = s .tasks; ready = r; callers = s .callers; held = s .held; delays = s .delays }) t x
-    → m ≡ pack (add (view s) p n)
-add-packed s m p n t r h k et ex er em =
+pub add-packed : (s k : Supervisor) (p n t : ℕ) (r : List ℕ) {x : Task} → Stands s → s .created < 31 → t ≡ s .created + 1 → x ≡ fresh p n → r ≡ pad (line (s .ready) ++ (t ∷ []))
+    → k ≡ withTask s t x
+    → _≡_ {A = Supervisor} (record { clock = k .clock; created = t; tasks = k .tasks; ready = r; callers = k .callers; held = k .held; delays = k .delays }) (pack (add (view s) p n))
+add-packed s k p n t r h few et ex er ek =
     let v = view s .tasks in
     let x : Task = fresh p n in
     let c : s .created ≡ length v = created-is s h in
@@ -49,7 +49,7 @@ add-packed s m p n t r h k et ex er em =
     let f : setNth (s .tasks) t x ≡ (v ++ (x ∷ [])) ++ replicate (31 - length (v ++ (x ∷ []))) blank =
     ap (λ (l : List Task). setNth l t x) e ∙ ap (λ (j : ℕ). setNth (v ++ replicate (31 - length v) blank) j x) u ∙ q
     ∙ sym (append-snoc v x (replicate (30 - length v) blank)) ∙ ap (λ (j : ℕ). (v ++ (x ∷ [])) ++ replicate j blank) (sym (ap (λ (j : ℕ). 31 - j) z ∙ w)) in
-    em ∙ ap (withTask (record { clock = s .clock; created = t; tasks = s .tasks; ready = r; callers = s .callers; held = s .held; delays = s .delays }) t) ex ∙ λ i. record {
+    ap (λ (z : Supervisor). record { clock = z .clock; created = t; tasks = z .tasks; ready = r; callers = z .callers; held = z .held; delays = z .delays }) (ek ∙ ap (withTask s t) ex) ∙ λ i. record {
       clock = s .clock;
       created = (u ∙ sym z) i;
       tasks = f i;

@@ -4,21 +4,21 @@ use Prim.Native.Nat.{ℕ, zero, suc, _+_, _-_, _≤_, _<_}
 use mathlib.Core.Path.{_≡_, refl, sym, ap, _∙_}
 use mathlib.Core.Bool.{Bool, true, false}
 use mir.Val.{boolByte}
-use mathlib.Core.List.{List, [], _∷_, _++_, map, append-assoc, append-nil, tail-eq-of-cons-eq, nil≢cons}
+use mathlib.Core.List.{List, [], _∷_, _++_, append-assoc, append-nil, tail-eq-of-cons-eq}
 use native.Mathlib.Omega.{arith}
 use native.Mathlib.Numerals.{add-one}
 use lib.Dec.{eqb, ltb}
 use lib.ListN.{length, drop, getD, drop-of-length-le, List·getD-eq-default}
 use lib.Seq.{drop-cons}
-use borrow.Author.Tests.{ltb-true, lt-ltb, le-ltb, ltb-false, eq-eqb, ne-eqb}
+use borrow.Author.Tests.{ltb-true, lt-ltb, le-ltb, ltb-false, eq-eqb, ne-eqb, eqb-true}
 use Rattle.lists.proofs.LineLaws.{line-line, line-append, line-pad}
 use Rattle.lists.specs.Line.{line, pad, padTo}
-use Rattle.lists.specs.Lists.{if_then_else_, bit, filter, count, first}
+use Rattle.lists.specs.Lists.{if_then_else_, bit, filter, count}
 use Rattle.lists.specs.Marks.{noMarks, markOf, marked, withMark}
 use Rattle.lists.proofs.MarkLaws.{filter-same, mark-in, marked-length}
 use Rattle.rules.specs.State.{State, move, running, waitsOn, queue, holds, heldBy, wakeAll}
-use Rattle.rules.specs.Step.{refused, took, NO-TASK, item, DONE, takeCall, STILL-SERVING, queuedFrom, queuedOn, finish, failed}
-use Rattle.rules.specs.Whole.{pack}
+use Rattle.rules.specs.Step.{refused, took, NO-TASK, item, DONE, takeCall, STILL-SERVING, queuedFrom, queuedOn, finish, failed, roomAfter}
+use Rattle.rules.specs.Whole.{view}
 use Rattle.rules.specs.declared.Supervisor.{Supervisor}
 use Rattle.rules.specs.declared.Task.{Task}
 use Rattle.rules.specs.declared.Place.the-variants.{Completed}
@@ -26,15 +26,16 @@ use Rattle.rules.specs.declared.Timer.the-variants.{Off}
 use Rattle.calls.specs.declared.Call.the-variants.{Finish}
 use Rattle.rules.proofs.Invariant.{Sound}
 use Rattle.rules.proofs.Members.{queued-there, nth-beyond}
-use Rattle.lists.proofs.ListLaws.{by-bool}
+use Rattle.lists.proofs.ListLaws.{by-bool, by-test}
 use Rattle.rules.proofs.StepSound.{of-queuedFrom, wakeAll-sound, wakeAll-length}
 use Rattle.rules.proofs.WholeLaws.{at-most, no-zero}
 use Rattle.table.specs.Moved.{movedOf}
 use Rattle.supervisor.specs.Lowest.{openCall, callOf}
-use Rattle.supervisor.specs.Taken.{AllThere, EachOnce}
+use Rattle.supervisor.specs.Taken.{Stands, takenOf, endedBy, completing, AllThere, EachOnce, WokenAs}
+use Rattle.supervisor.specs.declared.answers.Taken.{Taken}
 use Rattle.rules.proofs.Fate.{queued-once}
 use Rattle.supervisor.proofs.MoveLaws.{moved-state}
-use Rattle.supervisor.proofs.AnswerLaws.{no-runner, of-runner}
+use Rattle.supervisor.proofs.AnswerLaws.{no-runner, of-runner, many-answers}
 use Rattle.supervisor.proofs.LowestLaws.{at-open, all-open}
 
 -- ---- a line that is laid out, read back and added to
@@ -94,24 +95,21 @@ pub byMarks : List ℕ → List ℕ → ℕ → ℕ → List ℕ
 byMarks m l zero e = []
 byMarks m l (suc k) e = withMark m e l ++ byMarks m l k (suc e)
 
--- line q behind line r, also where q is empty
-behind-is : (r q n : List ℕ) → r ≡ pad (line r) → n ≡ (if eqb (first (line q)) 0 then r else pad (line r ++ line q)) → n ≡ pad (line r ++ line q)
-behind-is r q n er en = en ∙ go (line q) (line-line q)
-  where
-    go : (l : List ℕ) → line l ≡ l → (if eqb (first l) 0 then r else pad (line r ++ l)) ≡ pad (line r ++ l)
-    go [] h = er ∙ sym (pad-none (line r))
-    go (zero ∷ xs) h = absurd (nil≢cons h)
-    go (suc x ∷ xs) h = rw (ne-eqb (suc x) 0 (λ z. omega arith))
+module _ (m l : List ℕ) (e : ℕ) (r n : List ℕ) (er : r ≡ pad (line r)) (en : n ≡ (if eqb (count e m) 0 then r else pad (line r ++ withMark m e l))) (eq : line (withMark m e l) ≡ withMark m e l) (some : 0 < e) (low : e < 9) where
+  -- those with the mark e behind line r, also where there are none
+  here : n ≡ pad (line r ++ withMark m e l)
+  here =
+      en ∙ by-test (λ (x : List ℕ). x ≡ pad (line r ++ withMark m e l)) (eqb (count e m) 0)
+      (λ b. er ∙ sym (pad-none (line r)) ∙ ap (λ (x : List ℕ). pad (line r ++ x)) (sym (none-has m e l (eqb-true (count e m) 0 b) some)))
+      (λ b. refl)
 
-module _ (m l : List ℕ) (e : ℕ) (r n q : List ℕ) (er : r ≡ pad (line r)) (en : n ≡ (if eqb (first (line q)) 0 then r else pad (line r ++ line q))) (eq : line q ≡ withMark m e l) (low : e < 9) where
-  here : n ≡ pad (line r ++ line q)
-  here = behind-is r q n er en
-
-  none : line (line r ++ line q) ≡ line r ++ line q
-  none = line-append (line r) (line q) (line-line r) (line-line q)
+  none : line (line r ++ withMark m e l) ≡ line r ++ withMark m e l
+  none = line-append (line r) (withMark m e l) (line-line r) eq
 
   pub queued-laid : n ≡ pad (line n)
-  queued-laid = here ∙ sym (pad-none (line r ++ line q)) ∙ sym (pad-again (line r ++ line q) [] none) ∙ pad-none (line (pad (line r ++ line q))) ∙ ap (λ (x : List ℕ). pad (line x)) (sym here)
+  queued-laid =
+      here ∙ sym (pad-none (line r ++ withMark m e l)) ∙ sym (pad-again (line r ++ withMark m e l) [] none) ∙ pad-none (line (pad (line r ++ withMark m e l)))
+      ∙ ap (λ (x : List ℕ). pad (line x)) (sym here)
 
   pub queued-turn : pad (line r ++ byMarks m l (9 - e) e) ≡ pad (line n ++ byMarks m l (9 - (e + 1)) (e + 1))
   unfolding byMarks
@@ -119,9 +117,8 @@ module _ (m l : List ℕ) (e : ℕ) (r n q : List ℕ) (er : r ≡ pad (line r))
       let k : 9 - e ≡ suc (9 - (e + 1)) = omega arith in
       let rest : List ℕ = byMarks m l (9 - (e + 1)) (suc e) in
       ap (λ (j : ℕ). pad (line r ++ byMarks m l j e)) k
-      ∙ ap (λ (x : List ℕ). pad (line r ++ (x ++ rest))) (sym eq)
-      ∙ ap pad (sym (append-assoc (line r) (line q) rest))
-      ∙ sym (pad-again (line r ++ line q) rest none)
+      ∙ ap pad (sym (append-assoc (line r) (withMark m e l) rest))
+      ∙ sym (pad-again (line r ++ withMark m e l) rest none)
       ∙ ap (λ (x : List ℕ). pad (line x ++ rest)) (sym here)
       ∙ ap (λ (j : ℕ). pad (line n ++ byMarks m l (9 - (e + 1)) j)) (sym (add-one e))
 
@@ -171,8 +168,8 @@ module _ (v : State) (t : ℕ) where
   pub finish-holds : (n : ℕ) → n ≡ length (heldBy v t) → 0 < n → finish v t ≡ refused STILL-SERVING
   finish-holds n e k = rw (lt-ltb 0 (length (heldBy v t)) (omega arith))
 
-  pub finish-goes : (n : ℕ) → n ≡ length (heldBy v t) → n ≤ 0 → finish v t ≡ took (move (wakeAll v (queuedOn v t)) t Completed Off) (item t DONE 0 0) (map (failed v) (queuedOn v t))
-  finish-goes n e k = rw (le-ltb 0 (length (heldBy v t)) (omega arith))
+  pub finish-goes : (n : ℕ) (l : List ℕ) → n ≡ length (heldBy v t) → n ≤ 0 → l ≡ queuedOn v t → finish v t ≡ completing v t l
+  finish-goes n l e k q = rw (le-ltb 0 (length (heldBy v t)) (omega arith), q)
 
   nobody-queued : v .callers ≡ [] → (k e : ℕ) → queuedFrom v t k e ≡ []
   nobody-queued z zero e = refl
@@ -182,8 +179,7 @@ module _ (v : State) (t : ℕ) where
   pub finish-alone : v .held ≡ [] → v .callers ≡ [] → finish v t ≡ took (move v t Completed Off) (item t DONE 0 0) []
   unfolding queuedOn
   finish-alone h z =
-      finish-goes 0 (sym (ap (λ (l : List ℕ). length (filter (holds v t) l)) h)) (omega arith)
-      ∙ ap (λ (l : List ℕ). took (move (wakeAll v l) t Completed Off) (item t DONE 0 0) (map (failed v) l)) (nobody-queued z 8 1)
+      finish-goes 0 [] (sym (ap (λ (l : List ℕ). length (filter (holds v t) l)) h)) (omega arith) (sym (nobody-queued z 8 1))
 
   pub finish-idle : t ≡ running v → t ≡ 0 → takeCall v Finish ≡ refused NO-TASK
   finish-idle run z = no-runner v t (λ t. finish v t) run z
@@ -192,7 +188,10 @@ module _ (v : State) (t : ℕ) where
   finish-runs run z = of-runner v t (λ t. finish v t) run z
 
 -- all of a list woken, and then t completes
-pub woken-completed : (v : State) (n m : Supervisor) (l xs : List ℕ) (t : ℕ) → Sound v → AllThere v xs → l ≡ xs → t ≤ length (v .tasks) → n ≡ pack (wakeAll v l) → m ≡ movedOf n t Completed Off
-    → m ≡ pack (move (wakeAll v xs) t Completed Off)
-woken-completed v n m l xs t h k e b en em =
-    em ∙ moved-state n (wakeAll v xs) t Completed Off (en ∙ ap (λ (x : List ℕ). pack (wakeAll v x)) e) (wakeAll-sound xs v h k) (omega (arith, b, wakeAll-length xs v))
+pub completes : (s : Supervisor) (t : ℕ) (l : List ℕ) (n m : Supervisor) (k : ℕ) (room last : List ℕ) {r : Taken} → Stands s → AllThere (view s) l → t ≤ length (view s .tasks) → WokenAs (view s) true l n k room last
+    → m ≡ movedOf n t Completed Off → r ≡ record { state = m; refusal = 0; task = t; result = DONE; entry = 0; partner = 0; ended = k }
+    → (r ≡ takenOf s (completing (view s) t l)) × (last ≡ roomAfter room (endedBy (completing (view s) t l)))
+completes s t l n m k room last h a b w em e =
+    let v = view s in
+    let q = em ∙ moved-state n (wakeAll v l) t Completed Off (w .state) (wakeAll-sound l v (h .sound) a) (omega (arith, b, wakeAll-length l v)) in
+    (many-answers s m (move (wakeAll v l) t Completed Off) (item t DONE 0 0) (failed v) l l k e q (w .number) refl, w .written)

@@ -8,7 +8,6 @@ use native.Mathlib.Omega.{arith}
 use lib.Dec.{ltb, leb}
 use lib.ListN.{length}
 use lib.Seq.{length-take-le}
-use borrow.Author.Tests.{lt-ltb, le-ltb}
 use Rattle.rules.specs.State.{created, taskOf, running, isCompleted}
 use Rattle.rules.specs.Step.{Outcome, refused, took, takeCall, roomAfter, SHORT-ROOM, BAD-STATE}
 use Rattle.rules.specs.Whole.{Typed, view, pack, Whole, soundWhole, decline, done, stepWhole, steppedOf}
@@ -28,24 +27,24 @@ pub stands-of : (s : Supervisor) → Typed s → soundWhole s ≡ true → Stand
 stands-of s t h = record { packs = whole-packed s t h; sound = sound-view s t h }
 
 module _ (s : Supervisor) (c : C.Call) (n : ℕ) where
-  pub step-short : n < 124 → stepWhole s c n ≡ decline s SHORT-ROOM 0
+  pub step-short : ltb n 124 ≡ true → stepWhole s c n ≡ decline s SHORT-ROOM 0
   unfolding stepWhole
-  step-short h = rw (lt-ltb n 124 h)
+  step-short h = rw h
 
-  pub step-unsound : 124 ≤ n → soundWhole s ≡ false → stepWhole s c n ≡ decline s BAD-STATE 0
+  pub step-unsound : ltb n 124 ≡ false → soundWhole s ≡ false → stepWhole s c n ≡ decline s BAD-STATE 0
   unfolding stepWhole
-  step-unsound h q = rw (le-ltb n 124 h, q)
+  step-unsound h q = rw (h, q)
 
-  pub step-sound : 124 ≤ n → soundWhole s ≡ true → stepWhole s c n ≡ done s (takeCall (view s) c)
+  pub step-sound : ltb n 124 ≡ false → soundWhole s ≡ true → stepWhole s c n ≡ done s (takeCall (view s) c)
   unfolding stepWhole
-  step-sound h q = rw (le-ltb n 124 h, q)
+  step-sound h q = rw (h, q)
 
 pub by-whole : {w q : Whole} {r : Stepped} (x y : List ℕ) → w ≡ q → r ≡ steppedOf q → x ≡ roomAfter y (q .ended) → (r ≡ steppedOf w) × (x ≡ roomAfter y (w .ended))
 by-whole x y e h k = (h ∙ sym (ap steppedOf e), k ∙ sym (ap (λ (w : Whole). roomAfter y (w .ended)) e))
 
 -- the dispatched task is worked out on the struct of the next state
 pub next-is : (s : Supervisor) (o : Outcome) (k : Taken) (n : ℕ) → Kept o → k ≡ takenOf s o → n ≡ running (view (k .state))
-    → _≡_ {A = Stepped} (record { state = k .state; answer = record { refusal = k .refusal; result = k .answer .result; task = k .answer .task; entry = k .answer .entry; partner = k .answer .partner; ended = k .ended; next = n } }) (steppedOf (done s o))
+    → _≡_ {A = Stepped} (record { state = k .state; answer = record { refusal = k .refusal; result = k .result; task = k .task; entry = k .entry; partner = k .partner; ended = k .ended; next = n } }) (steppedOf (done s o))
 next-is s (refused r) k n h ek en = rw (en, ek)
 next-is s (took st a l) k n h ek en = rw (en, ek) (ap (λ (m : ℕ). record { state = pack st; answer = record { refusal = 0; result = a .result; task = a .task; entry = a .entry; partner = a .partner; ended = length l; next = m } }) (ap running (view-pack st h)))
 

@@ -7,13 +7,14 @@ use mathlib.Core.List.{List, [], map}
 use lib.ListN.{length}
 use Rattle.lists.specs.Lists.{if_then_else_, count}
 use Rattle.rules.specs.State.{State, placeOf, entryOf, partnerOf, move, wakeAll, offer}
-use Rattle.rules.specs.Step.{Outcome, refused, took, number, none, item, expiry, roomAfter, WAITS, TASKING-ERROR, tickTo, endsAt}
+use Rattle.rules.specs.Step.{Outcome, refused, took, number, item, expiry, failed, roomAfter, WAITS, TASKING-ERROR, DONE}
 use Rattle.rules.specs.Whole.{view, pack}
 use Rattle.rules.specs.declared.Item.{Item}
 use Rattle.rules.specs.declared.Place.{Place}
-use Rattle.rules.specs.declared.Place.the-variants.{Accepting}
+use Rattle.rules.specs.declared.Place.the-variants.{Accepting, Completed}
 use Rattle.rules.specs.declared.Supervisor.{Supervisor}
 use Rattle.rules.specs.declared.Timer.{Timer}
+use Rattle.rules.specs.declared.Timer.the-variants.{Off}
 use Rattle.rules.proofs.Invariant.{Sound}
 use Rattle.supervisor.specs.declared.answers.Taken.{Taken}
 
@@ -24,8 +25,8 @@ pub record Stands (s : Supervisor) : Type 0 where
 
 -- what a step function answers for an outcome of the rules: a refused call leaves the struct as it was
 abbrev pub takenOf : Supervisor → Outcome → Taken
-takenOf s (refused r) = record { state = s; refusal = number r; answer = none; ended = 0 }
-takenOf s (took st a l) = record { state = pack st; refusal = 0; answer = a; ended = length l }
+takenOf s (refused r) = record { state = s; refusal = number r; task = 0; result = 0; entry = 0; partner = 0; ended = 0 }
+takenOf s (took st a l) = record { state = pack st; refusal = 0; task = a .task; result = a .result; entry = a .entry; partner = a .partner; ended = length l }
 
 -- the ended waits of an outcome
 abbrev pub endedBy : Outcome → List Item
@@ -35,6 +36,10 @@ endedBy (took st a l) = l
 -- task t waits to accept a caller of the open set o, with the time w
 abbrev pub awaiting : State → ℕ → ℕ → Timer → Outcome
 awaiting s t o w = took (move s t (Accepting (offer o)) w) (item t WAITS 0 0) []
+
+-- task t completes, and all of a list wake because it does
+abbrev pub completing : State → ℕ → List ℕ → Outcome
+completing s t l = took (move (wakeAll s l) t Completed Off) (item t DONE 0 0) (map (failed s) l)
 
 -- why the wait of a task in place p ends: by FINISH of the called task, or by time
 abbrev pub reasonOf : Bool → Place → ℕ
@@ -61,9 +66,3 @@ pub record WokenAs (v : State) (failed : Bool) (l : List ℕ) (s : Supervisor) (
   pub state : s ≡ pack (wakeAll v l)
   pub number : n ≡ length l
   pub written : after ≡ roomAfter room (map (itemOf v failed) l)
-
--- the clock went to a reading: those due then became ready, and their items were written one behind the other
-pub record PassedTo (v : State) (reading : ℕ) (s : Supervisor) (n : ℕ) (room after : List ℕ) : Type 0 where
-  pub state : s ≡ pack (tickTo v reading)
-  pub number : n ≡ length (endsAt v reading)
-  pub written : after ≡ roomAfter room (endsAt v reading)

@@ -3,13 +3,14 @@ ghost use lib.Dec.{eqb};
 ghost use mathlib.Core.List.{_++_};
 ghost use mathlib.Core.Path.{_≡_};
 ghost use Rattle.lists.specs.Line.{line, pad};
-ghost use Rattle.lists.specs.Lists.{if_then_else_, count, first};
+ghost use Rattle.lists.specs.Lists.{if_then_else_, count};
 ghost use Rattle.lists.specs.Marks.{noMarks, marked, withMark};
 ghost use Rattle.rules.specs.Step.{queuedOn};
 ghost use Rattle.rules.specs.Whole.{view};
 ghost use Rattle.supervisor.specs.Lowest.{openCall, callOf, nobody, lowerOf, lowestOf};
-use rules::Place;
+ghost use Rattle.table.specs.Numbers.{shownOf};
 use rules::Supervisor;
+use rules::Task;
 use table::place::entry_of;
 use table::place::is_between;
 use table::place::is_open;
@@ -24,10 +25,12 @@ pub struct Caller {
     pub entry: u8,
 }
 
-// The open entry that a task in place p has called at task t; 9 where there is none.
-fn open_call(t: u8, o: u8, p: Place) -> u8
-    ensures { λ r. ⌜ r ≡ openCall t o p ⌝ }
+// The open entry of task t that task c has called, of n tasks, where k stands at its place in the table; 9 where there is none.
+fn open_call(t: u8, o: u8, n: u8, c: u8, k: Task) -> u8
+    ensures { λ r. ⌜ r ≡ openCall t o (shownOf n c k .place) ⌝ }
 {
+    let x = shown(n, c, k);
+    let p = x.place;
     let e = entry_of(p);
     if is_queued(p) & (partner_of(p) == t) & is_between(e, 8) & is_open(o, e) {
         e
@@ -59,9 +62,7 @@ pub fn lowest(s: Supervisor, t: u8, o: u8) -> Caller
         }
         let at = index_of(c);
         let k = s.tasks[at];
-        let x = shown(s.created, c, k);
-        let p = x.place;
-        b = lower(b, c, open_call(t, o, p));
+        b = lower(b, c, open_call(t, o, s.created, c, k));
     }
     b
 }
@@ -78,9 +79,7 @@ fn entries_called(s: Supervisor, t: u8) -> [u8; 32]
         }
         let at = index_of(c);
         let k = s.tasks[at];
-        let x = shown(s.created, c, k);
-        let p = x.place;
-        let e = open_call(t, 255, p);
+        let e = open_call(t, 255, s.created, c, k);
         if c < 32 {
             marks[c as usize] = e;
         }
@@ -101,23 +100,14 @@ fn times(marks: [u8; 32], k: u8) -> u8
     n
 }
 
-// The callers with the mark of entry e. Where none has it, which is seen at once, the line is not walked.
-fn queue_of(callers: [u8; 31], marks: [u8; 32], e: u8) -> [u8; 31]
-    ensures { λ r. ⌜ r ≡ pad (withMark marks e (line callers)) ⌝ }
+// Line r, and behind it the callers with the mark of entry e. Where none has it, which is seen at once, the line is not walked.
+fn with_queue(r: [u8; 31], callers: [u8; 31], marks: [u8; 32], e: u8) -> [u8; 31]
+    ensures { λ n. ⌜ n ≡ (if eqb (count e marks) 0 then r else pad (line r ++ withMark marks e (line callers))) ⌝ }
 {
-    if (0 < e) & (times(marks, e) == 0) {
-        return [0u8; 31];
-    }
-    lines::picked(callers, marks, e)
-}
-
-// Line q behind line r, where there is anything in it.
-fn behind(r: [u8; 31], q: [u8; 31]) -> [u8; 31]
-    ensures { λ n. ⌜ n ≡ (if eqb (first (line q)) 0 then r else pad (line r ++ line q)) ⌝ }
-{
-    if lines::first_of(q) == 0 {
+    if times(marks, e) == 0 {
         return r;
     }
+    let q = lines::picked(callers, marks, e);
     lines::joined_all(r, q)
 }
 
@@ -130,8 +120,7 @@ pub fn queued_on(s: Supervisor, t: u8) -> [u8; 31]
     let mut r = [0u8; 31];
     let mut e: u8 = 1;
     while e < 9 {
-        let q = queue_of(callers, marks, e);
-        let next = behind(r, q);
+        let next = with_queue(r, callers, marks, e);
         r = next;
         e += 1;
     }

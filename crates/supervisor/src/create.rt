@@ -29,10 +29,9 @@ pub fn create(s: Supervisor, priority: u8, entries: u8) -> Taken
     let t = s.created + 1;
     let ready = s.ready;
     let ready_now = lines::joined(ready, t);
-    let mut n = s;
+    let x = fresh_task(priority, entries);
+    let mut n = with_task(s, t, x);
     n.created = t;
     n.ready = ready_now;
-    let x = fresh_task(priority, entries);
-    let m = with_task(n, t, x);
-    answered(m, t, DONE, 0, 0, 0)
+    answered(n, t, DONE, 0, 0, 0)
 }

@@ -6,11 +6,12 @@ ghost use mathlib.Core.Path.{_≡_};
 ghost use Rattle.lists.specs.Line.{line};
 ghost use Rattle.rules.specs.Step.{roomAfter};
 ghost use Rattle.rules.specs.Whole.{view};
-ghost use Rattle.supervisor.specs.Taken.{Stands, reasonOf, itemAt, itemOf, EachOnce, WokenAs};
+ghost use Rattle.supervisor.specs.Taken.{Stands, itemAt, itemOf, EachOnce, WokenAs};
+ghost use Rattle.table.specs.Numbers.{shownOf};
 use super::numbers::TASKING_ERROR;
 use rules::Item;
-use rules::Place;
 use rules::Supervisor;
+use rules::Task;
 use table::moves::woken;
 use table::place::entry_of;
 use table::place::expiry_of;
@@ -29,22 +30,27 @@ pub fn put(room: &mut [u8], w: Item)
     room[3] = w.partner;
 }
 
-// Why a wait ends: by FINISH of the called task, or by time.
-fn reason(failed: bool, p: Place) -> u8
-    ensures { λ r. ⌜ r ≡ reasonOf failed p ⌝ }
+// The item of a wait that ends, by FINISH of the called task or by time. Of n tasks, task t waited, and k stands at its place in the table.
+fn item_of(failed: bool, n: u8, t: u8, k: Task) -> Item
+    ensures { λ r. ⌜ r ≡ itemAt failed t (shownOf n t k .place) ⌝ }
 {
-    if failed { TASKING_ERROR } else { expiry_of(p) }
-}
-
-// The item of a wait that ends: task k waited in place p.
-fn item_of(failed: bool, k: u8, p: Place) -> Item
-    ensures { λ r. ⌜ r ≡ itemAt failed k p ⌝ }
-{
+    let x = shown(n, t, k);
+    let p = x.place;
+    let entry = entry_of(p);
+    let partner = partner_of(p);
+    if failed {
+        return Item {
+            task: t,
+            result: TASKING_ERROR,
+            entry,
+            partner,
+        };
+    }
     Item {
-        task: k,
-        result: reason(failed, p),
-        entry: entry_of(p),
-        partner: partner_of(p),
+        task: t,
+        result: expiry_of(p),
+        entry,
+        partner,
     }
 }
 
@@ -62,9 +68,7 @@ fn put_items(s: Supervisor, l: [u8; 31], failed: bool, room: &mut [u8]) -> u8
         }
         let at = index_of(t);
         let k = s.tasks[at];
-        let x = shown(s.created, t, k);
-        let p = x.place;
-        let w = item_of(failed, t, p);
+        let w = item_of(failed, s.created, t, k);
         let from = i * 4;
         put(&mut room[from..], w);
         i += 1;
@@ -83,7 +87,7 @@ pub fn wake_all(s: Supervisor, l: [u8; 31], failed: bool, room: &mut [u8]) -> Wo
     requires { ⌜ Stands s × (length (line l) * 4 ≤ length (now room)) × EachOnce (view s) (line l) ⌝ }
     ensures { λ r. ⌜ WokenAs (view s) failed (line l) (r .state) (r .count) (now (room .entry)) (now (room .exit)) ⌝ }
 {
-    if l[0] == 0 {
+    if lines::first_of(l) == 0 {
         return Woken { state: s, count: 0 };
     }
     let n = put_items(s, l, failed, room);

@@ -1,11 +1,12 @@
 // FINISH.
-ghost use Prim.Native.Nat.{_≤_};
+ghost use Prim.Native.Nat.{_*_, _≤_};
 ghost use lib.ListN.{length};
 ghost use mathlib.Core.Path.{_≡_};
 ghost use Rattle.calls.specs.declared.Call.the-variants.{Finish};
+ghost use Rattle.lists.specs.Line.{line};
 ghost use Rattle.rules.specs.Step.{takeCall, roomAfter};
 ghost use Rattle.rules.specs.Whole.{view};
-ghost use Rattle.supervisor.specs.Taken.{Stands, takenOf, endedBy};
+ghost use Rattle.supervisor.specs.Taken.{Stands, takenOf, endedBy, EachOnce, completing};
 use super::answers::Taken;
 use super::answers::answered;
 use super::answers::refused_by;
@@ -21,6 +22,17 @@ use table::dispatch::running;
 use table::moves::moved;
 use table::queues::Test;
 use table::queues::picked;
+
+// Task t completes, and all of a line become ready because it does.
+fn completed(s: Supervisor, t: u8, l: [u8; 31], room: &mut [u8]) -> Taken
+    requires { ⌜ Stands s × (length (line l) * 4 ≤ length (now room)) × EachOnce (view s) (line l) × (t ≤ length (view s .tasks)) ⌝ }
+    ensures { λ r. ⌜ r ≡ takenOf s (completing (view s) t (line l)) ⌝ }
+    ensures room { λ r. ⌜ now (room .exit) ≡ roomAfter (now (room .entry)) (endedBy (completing (view s) t (line l))) ⌝ }
+{
+    let w = wake_all(s, l, true, room);
+    let m = moved(w.state, t, Place::Completed, Timer::Off);
+    answered(m, t, DONE, 0, 0, w.count)
+}
 
 // The running task completes, and all callers queued on it become ready.
 pub fn finish(s: Supervisor, room: &mut [u8]) -> Taken
@@ -45,8 +57,5 @@ pub fn finish(s: Supervisor, room: &mut [u8]) -> Taken
         return refused_by(s, STILL_SERVING);
     }
     let l = queued_on(s, t);
-    let w = wake_all(s, l, true, room);
-    let n = w.state;
-    let m = moved(n, t, Place::Completed, Timer::Off);
-    answered(m, t, DONE, 0, 0, w.count)
+    completed(s, t, l, room)
 }

@@ -13,6 +13,7 @@ mod select;
 mod tick;
 
 ghost use Prim.Native.Nat.{_≤_};
+ghost use lib.Dec.{ltb};
 ghost use lib.ListN.{length};
 ghost use mathlib.Core.Path.{_≡_};
 ghost use Rattle.rules.specs.Questions.{countWhole, callableWhole};
@@ -59,6 +60,13 @@ fn take_call(s: Supervisor, c: Call, room: &mut [u8]) -> Taken
     }
 }
 
+// Whether n bytes are too few for the items of a step.
+fn is_short(n: usize) -> bool
+    ensures { λ r. ⌜ r ≡ ltb n 124 ⌝ }
+{
+    n < 124
+}
+
 // The step is refused before the call is looked at.
 fn declined(s: Supervisor, n: u8) -> Stepped
     ensures { λ r. ⌜ r ≡ record { state = s; answer = record { refusal = n; result = 0; task = 0; entry = 0; partner = 0; ended = 0; next = 0 } } ⌝ }
@@ -82,7 +90,7 @@ pub fn step(s: Supervisor, c: Call, room: &mut [u8]) -> Stepped
     ensures { λ r. ⌜ r ≡ steppedOf (stepWhole s c (length (now (room .entry)))) ⌝ }
     ensures room { λ r. ⌜ now (room .exit) ≡ roomAfter (now (room .entry)) (stepWhole s c (length (now (room .entry))) .ended) ⌝ }
 {
-    if room.len() < 124 {
+    if is_short(room.len()) {
         return declined(s, SHORT_ROOM);
     }
     if !is_sound(s) {
@@ -90,16 +98,15 @@ pub fn step(s: Supervisor, c: Call, room: &mut [u8]) -> Stepped
     }
     let k = take_call(s, c, room);
     let after = k.state;
-    let answer = k.answer;
     let next = running(after);
     Stepped {
         state: after,
         answer: Answer {
             refusal: k.refusal,
-            result: answer.result,
-            task: answer.task,
-            entry: answer.entry,
-            partner: answer.partner,
+            result: k.result,
+            task: k.task,
+            entry: k.entry,
+            partner: k.partner,
             ended: k.ended,
             next,
         },

@@ -48,7 +48,7 @@ fn select_none(s: Supervisor, t: u8, o: u8, m: SelectMode) -> Taken
             if o == 0 {
                 return answered(s, t, PROGRAM_ERROR, 0, 0, 0);
             }
-            accepting(s, t, o, Timer::Off)
+            return accepting(s, t, o, Timer::Off);
         }
         SelectMode::Delay(d) => {
             let k = ticks(d);
@@ -56,9 +56,11 @@ fn select_none(s: Supervisor, t: u8, o: u8, m: SelectMode) -> Taken
                 return answered(s, t, DELAY_TAKEN, 0, 0, 0);
             }
             let w = Timer::Due(std::num::wrapping_add_u32(s.clock, k));
-            accepting(s, t, o, w)
+            return accepting(s, t, o, w);
         }
-        SelectMode::Else => answered(s, t, ELSE_TAKEN, 0, 0, 0),
+        SelectMode::Else => {
+            return answered(s, t, ELSE_TAKEN, 0, 0, 0);
+        }
     }
 }
 

@@ -1,9 +1,10 @@
 use borrow.Author.Needs.{needs}
 use Prim.Native.Nat.{_<_}
 use mathlib.Core.Path.{_≡_, refl, sym, _∙_, ap}
+use lib.Dec.{ltb}
 use lib.ListN.{length}
-use mathlib.Core.Bool.{true}
-use borrow.Author.Tests.{not-true, not-false}
+use mathlib.Core.Bool.{true, false}
+use borrow.Author.Tests.{not-true, not-false, ltb-false}
 use Rattle.rules.specs.Step.{takeCall, roomAfter}
 use Rattle.rules.specs.Whole.{view, soundWhole}
 use Rattle.table.proofs.LeafLaws.{mapped-long}
@@ -12,14 +13,18 @@ use Rattle.supervisor.proofs.TopLaws.{by-whole, ended-is, kept, next-is
 use Rattle.supervisor.proofs.step.Statement.{statement}
 use Rattle.supervisor.proofs.step.Tie as tie
 
+-- what is_short has answered
+room-here : (c : tie.Else1) → ltb (length (c .before .before .before .args .room .now)) 124 ≡ false
+room-here c = sym (c .before .is-short .ensures) ∙ c .if1 .left
+
 -- what is_sound has answered
-sound-here : (c : tie.Else2) → soundWhole (c .before .before .before .before .args .s) ≡ true
+sound-here : (c : tie.Else2) → soundWhole (c .before .before .before .before .before .args .s) ≡ true
 sound-here c = sym (c .before .is-sound .ensures) ∙ not-false _ (c .if2 .left)
 
 -- the state is sound where the second test has passed
-stands-here : (c : tie.Else2) → Stands (c .before .before .before .before .args .s)
+stands-here : (c : tie.Else2) → Stands (c .before .before .before .before .before .args .s)
 stands-here c =
-    let s = c .before .before .before .before .args .s in
+    let s = c .before .before .before .before .before .args .s in
     let l1 : length (s .tasks) ≡ 31 = search (needs, mapped-long) in
     let l2 : length (s .ready) ≡ 31 = search (needs, mapped-long) in
     let l3 : length (s .callers) ≡ 31 = search (needs, mapped-long) in
@@ -30,30 +35,34 @@ stands-here c =
 
 returns : tie.Need-returns
 returns c =
-    let a = c .before .before .before .args in
-    by-whole _ _ (step-short (a .s) (a .c) (length (a .room .now)) (c .before .if1 .taken)) (c .declined .ensures) refl
+    let r = c .before .before in
+    let a = r .before .before .args in
+    by-whole _ _ (step-short (a .s) (a .c) (length (a .room .now)) (sym (r .is-short .ensures) ∙ c .before .if1 .taken)) (c .declined .ensures) refl
 
 returns-2 : tie.Need-returns-2
 returns-2 c =
-    let a = c .before .before .before .before .before .args in
-    by-whole _ _ (step-unsound (a .s) (a .c) (length (a .room .now)) (c .before .before .before .if1 .left) (sym (c .before .before .is-sound .ensures) ∙ not-true _ (c .before .if2 .taken))) (c .declined2 .ensures) refl
+    let k = c .before .before in
+    let e1 = k .before in
+    let a = e1 .before .before .before .args in
+    by-whole _ _ (step-unsound (a .s) (a .c) (length (a .room .now)) (room-here e1) (sym (k .is-sound .ensures) ∙ not-true _ (c .before .if2 .taken))) (c .declined2 .ensures) refl
 
 take-call-requires : tie.Need-take-call-requires
-take-call-requires c κs = (stands-here (c .before), c .before .before .before .if1 .left)
+take-call-requires c κs = (stands-here (c .before), ltb-false _ 124 (room-here (c .before .before .before)))
 
 returns-3 : tie.Need-returns-3
 returns-3 c =
-    let e2 = c .before .before .before .before .before .before .before in
-    let a = c .before .before .before .before .before .before .before .before .before .before .before .args in
+    let k = c .before .before .before .before in
+    let e2 = k .before .before in
+    let e1 = e2 .before .before in
+    let a = e1 .before .before .before .args in
     let s = a .s in
     let o = takeCall (view s) (a .c) in
-    let k = c .before .before .before .before .before .take-call in
-    by-whole _ _ (step-sound s (a .c) (length (a .room .now)) (c .before .before .before .before .before .before .before .before .before .if1 .left) (sound-here e2))
-    (next-is s o (k .result) (c .running .result) (kept s (a .c) (stands-here e2)) (k .ensures .0) (c .running .ensures))
-    (k .ensures .1 ∙ ap (roomAfter (a .room .now)) (ended-is s o))
+    by-whole _ _ (step-sound s (a .c) (length (a .room .now)) (room-here e1) (sound-here e2))
+    (next-is s o (k .take-call .result) (c .running .result) (kept s (a .c) (stands-here e2)) (k .take-call .ensures .0) (c .running .ensures))
+    (k .take-call .ensures .1 ∙ ap (roomAfter (a .room .now)) (ended-is s o))
 
 pub step-spec : {M : Type 1} → statement M
 step-spec =
     tie.close
-    (tie.spec (λ c κs. search needs) returns (λ c κs. search needs) (λ c κs. search needs) returns-2
+    (tie.spec (λ c κs. search needs) (λ c κs. search needs) returns (λ c κs. search needs) (λ c κs. search needs) returns-2
     take-call-requires (λ c κs. search needs) (λ c. search needs) returns-3)

@@ -9,7 +9,8 @@ use Rattle.table.specs.declared.queues.Test.the-variants.{DueWithin}
 use Rattle.supervisor.specs.Taken.{EachOnce}
 use Rattle.supervisor.proofs.MoveLaws.{picked-line, long-delays}
 use Rattle.supervisor.proofs.RoomLaws.{in-room}
-use Rattle.supervisor.proofs.AdvanceLaws.{within-each, advance-answers}
+use Rattle.supervisor.proofs.TickLaws.{passed-answers}
+use Rattle.supervisor.proofs.AdvanceLaws.{within-each, advance-is}
 use Rattle.supervisor.proofs.advance.advance.Statement.{statement}
 use Rattle.supervisor.proofs.advance.advance.Tie as tie
 
@@ -34,8 +35,9 @@ returns c =
     let k = d .before .before .before in
     let s = k .args .s in
     let w = c .before .before .before .before .wake-all in
-    advance-answers s (view s) (k .args .n) (line (d .picked .result)) (w .result .state) (w .result .count) (r .before .moments-of .result) (r .wrapping-add-u32 .result) _ _
-    (k .pre .0 .sound) (due-here d) (w .ensures) (r .before .moments-of .ensures ∙ ap (changes (leftOf s) 0) (due-here d)) (r .wrapping-add-u32 .ensures) (c .answered .ensures)
+    let m = r .before .moments-of in
+    passed-answers s (view s) (dueWithin (view s) (k .args .n)) (line (d .picked .result)) (w .result .state) (w .result .count) (m .result) (r .wrapping-add-u32 .result) _ _
+    (advance-is (view s) (k .args .n) (m .result) (r .wrapping-add-u32 .result) (k .pre .0 .sound) (m .ensures ∙ ap (changes (leftOf s) 0) (due-here d)) (r .wrapping-add-u32 .ensures)) (due-here d) (w .ensures) (c .answered .ensures)
 
 pub advance-spec : {M : Type 1} → statement M
 advance-spec =

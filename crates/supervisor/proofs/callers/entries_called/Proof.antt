@@ -33,19 +33,19 @@ returns c =
     sym (rw (rest-blank (c .before .before .before .before .args .t1 .callers) (l .i) (omega arith) (c .if1 .taken)) at (l .inv .4))
 
 -- the mark of the caller at place i
-mark-here : (c : tie.After-open-call Inv-loop μ-loop) → let a = c .before .before .before .before .before .before .before .before .args in c .open-call .result ≡ callOf (view (a .t1)) (a .t) 255 (getD (a .t1 .callers) (c .before .before .before .before .before .before .before .loop .i) 0)
+mark-here : (c : tie.After-open-call Inv-loop μ-loop) → let a = c .before .before .before .before .before .before .before .args in c .open-call .result ≡ callOf (view (a .t1)) (a .t) 255 (getD (a .t1 .callers) (c .before .before .before .before .before .before .loop .i) 0)
 mark-here c =
-    let a = c .before .before .before .before .before .before .before .before .args in
-    let l = c .before .before .before .before .before .before .before .loop in
-    c .open-call .ensures ∙ ap (λ (x : Task). openCall (a .t) 255 (x .place)) (shown-at (a .t1) (getD (a .t1 .callers) (l .i) 0) _ _ (l .inv .1) (c .before .before .before .index-of .ensures .0) (c .before .shown .ensures))
+    let a = c .before .before .before .before .before .before .before .args in
+    let l = c .before .before .before .before .before .before .loop in
+    c .open-call .ensures ∙ ap (λ (x : Task). openCall (a .t) 255 (x .place)) (shown-at (a .t1) (getD (a .t1 .callers) (l .i) 0) _ _ (l .inv .1) (c .before .before .index-of .ensures .0) refl)
 
 loop-again : tie.Need-loop-again Inv-loop μ-loop
 loop-again c =
     let m = c .before in
-    let l = m .before .before .before .before .before .before .before .loop in
-    let a = m .before .before .before .before .before .before .before .before .args in
+    let l = m .before .before .before .before .before .before .loop in
+    let a = m .before .before .before .before .before .before .before .args in
     let f : ℕ → ℕ = callOf (view (a .t1)) (a .t) 255 in
-    let rest = rest-entry (a .t1 .callers) (l .i) (omega arith) (m .before .before .before .before .if1 .left) in
+    let rest = rest-entry (a .t1 .callers) (l .i) (omega arith) (m .before .before .before .if1 .left) in
     ways (c .if2 .came)
     (λ w. (omega arith, l .inv .1, l .inv .2, rw (w .1) (length-set {A = ℕ} (l .marks) _ (m .open-call .result) ∙ l .inv .3), rw (w .1) (l .inv .4 ∙ mark-on f _ _ _ (l .marks) (m .open-call .result) rest (mark-here m))))
     (λ w. (omega arith, l .inv .1, l .inv .2, rw (w .1) (l .inv .3), rw (w .1) (l .inv .4 ∙ mark-off f _ _ _ (l .marks) rest (omega arith))))
@@ -59,5 +59,5 @@ pub entries-called-spec : {M : Type 1} → statement M
 entries-called-spec =
     tie.close
     (tie.spec Inv-loop μ-loop loop-holds (λ c. omega arith) returns (λ c κs. search needs) (λ c. omega arith)
-    (λ c. search needs) (λ c κs. search needs) (λ c κs. search needs) (λ c. search needs) (λ c. omega arith)
+    (λ c. search needs) (λ c κs. search needs) (λ c. search needs) (λ c. omega arith)
     (λ c. omega arith) (λ c. omega arith) loop-again returns-2)

@@ -30,17 +30,17 @@ returns c =
     sym (rw (rest-blank (c .before .before .before .before .args .t1 .callers) (l .i) (omega arith) (c .if1 .taken)) at (l .inv .3))
 
 -- the open entry that the caller at place i has called
-call-here : (c : tie.After-open-call Inv-loop μ-loop) → let a = c .before .before .before .before .before .before .before .before .args in c .open-call .result ≡ callOf (view (a .t1)) (a .t) (a .o) (getD (a .t1 .callers) (c .before .before .before .before .before .before .before .loop .i) 0)
+call-here : (c : tie.After-open-call Inv-loop μ-loop) → let a = c .before .before .before .before .before .before .before .args in c .open-call .result ≡ callOf (view (a .t1)) (a .t) (a .o) (getD (a .t1 .callers) (c .before .before .before .before .before .before .loop .i) 0)
 call-here c =
-    let a = c .before .before .before .before .before .before .before .before .args in
-    let l = c .before .before .before .before .before .before .before .loop in
-    c .open-call .ensures ∙ ap (λ (x : Task). openCall (a .t) (a .o) (x .place)) (shown-at (a .t1) (getD (a .t1 .callers) (l .i) 0) _ _ (l .inv .1) (c .before .before .before .index-of .ensures .0) (c .before .shown .ensures))
+    let a = c .before .before .before .before .before .before .before .args in
+    let l = c .before .before .before .before .before .before .loop in
+    c .open-call .ensures ∙ ap (λ (x : Task). openCall (a .t) (a .o) (x .place)) (shown-at (a .t1) (getD (a .t1 .callers) (l .i) 0) _ _ (l .inv .1) (c .before .before .index-of .ensures .0) refl)
 
 loop-again : tie.Need-loop-again Inv-loop μ-loop
 loop-again c =
-    let l = c .before .before .before .before .before .before .before .before .loop in
-    let a = c .before .before .before .before .before .before .before .before .before .args in
-    let rest = rest-entry (a .t1 .callers) (l .i) (omega arith) (c .before .before .before .before .before .if1 .left) in
+    let l = c .before .before .before .before .before .before .before .loop in
+    let a = c .before .before .before .before .before .before .before .before .args in
+    let rest = rest-entry (a .t1 .callers) (l .i) (omega arith) (c .before .before .before .before .if1 .left) in
     (omega arith, l .inv .1, l .inv .2, l .inv .3 ∙ lower-turn (callOf (view (a .t1)) (a .t) (a .o)) (l .b) (c .lower .result) _ (c .before .open-call .result) _ _ rest (call-here (c .before)) (c .lower .ensures))
 
 returns-2 : tie.Need-returns-2 Inv-loop μ-loop
@@ -52,5 +52,5 @@ pub lowest-spec : {M : Type 1} → statement M
 lowest-spec =
     tie.close
     (tie.spec Inv-loop μ-loop loop-holds (λ c. omega arith) returns (λ c κs. search needs) (λ c. omega arith)
-    (λ c. search needs) (λ c κs. search needs) (λ c κs. search needs) (λ c κs. search needs) (λ c. omega arith)
+    (λ c. search needs) (λ c κs. search needs) (λ c κs. search needs) (λ c. omega arith)
     (λ c. omega arith) loop-again returns-2)

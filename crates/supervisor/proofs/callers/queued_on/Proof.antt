@@ -7,7 +7,7 @@ use lib.Dec.{eqb}
 use lib.ListN.{length, length-take}
 use Rattle.lists.specs.Line.{line, pad, padTo}
 use Rattle.lists.specs.Marks.{markOf, withMark}
-use Rattle.lists.proofs.LineLaws.{line-picked}
+use Rattle.lists.proofs.LineLaws.{line-line, line-picked}
 use Rattle.rules.specs.Step.{queuedOn}
 use Rattle.rules.specs.Whole.{view}
 use Rattle.table.proofs.LeafLaws.{mapped-long}
@@ -26,25 +26,25 @@ loop-holds : tie.Need-loop-holds Inv-loop μ-loop
 unfolding pad padTo
 loop-holds c = (omega arith, omega arith, search (needs, mapped-long), refl, refl)
 
--- what is picked by the mark e
-picked-here : (c : tie.After-queue-of Inv-loop μ-loop) → let l = c .before .before .loop in let m = c .before .before .before .entries-called .result in line (c .queue-of .result) ≡ withMark m (l .e) (line (c .before .before .before .before .before .args .s .callers))
+-- what has the mark e is a line
+picked-here : (c : tie.After-with-queue Inv-loop μ-loop) → let m = c .before .before .before .entries-called .result in let q = withMark m (c .before .before .loop .e) (line (c .before .before .before .before .before .args .s .callers)) in line q ≡ q
 picked-here c =
     let l = c .before .before .loop in
     let m = c .before .before .before .entries-called .result in
-    ap line (c .queue-of .ensures) ∙ line-picked (λ t. eqb (markOf m t) (l .e)) (c .before .before .before .before .before .args .s .callers) (l .inv .2)
+    let z = line-picked (λ t. eqb (markOf m t) (l .e)) (c .before .before .before .before .before .args .s .callers) (l .inv .2) in
+    ap line (sym z) ∙ line-line (pad (withMark m (l .e) (line (c .before .before .before .before .before .args .s .callers)))) ∙ z
 
 loop-again : tie.Need-loop-again Inv-loop μ-loop
 loop-again c =
-    let p = c .before in
-    let l = p .before .before .loop in
-    let m = p .before .before .before .entries-called .result in
-    let a = line (p .before .before .before .before .before .args .s .callers) in
-    let q = p .queue-of .result in (
+    let l = c .before .before .loop in
+    let m = c .before .before .before .entries-called .result in
+    let a = line (c .before .before .before .before .before .args .s .callers) in
+    let n = c .with-queue in (
       omega arith,
       omega arith,
       l .inv .2,
-      queued-laid m a (l .e) (l .r) (c .behind .result) q (l .inv .3) (c .behind .ensures) (picked-here p) (omega arith),
-      l .inv .4 ∙ queued-turn m a (l .e) (l .r) (c .behind .result) q (l .inv .3) (c .behind .ensures) (picked-here p) (omega arith),
+      queued-laid m a (l .e) (l .r) (n .result) (l .inv .3) (n .ensures) (picked-here c) (omega arith) (omega arith),
+      l .inv .4 ∙ queued-turn m a (l .e) (l .r) (n .result) (l .inv .3) (n .ensures) (picked-here c) (omega arith) (omega arith),
     )
 
 long-here : (c : tie.Start Inv-loop μ-loop) → length (c .args .s .tasks) ≡ 31
@@ -64,5 +64,5 @@ returns c =
 pub queued-on-spec : {M : Type 1} → statement M
 queued-on-spec =
     tie.close
-    (tie.spec Inv-loop μ-loop (λ c κs. search needs) loop-holds (λ c κs. search needs) (λ c κs. search needs) (λ c. search needs)
+    (tie.spec Inv-loop μ-loop (λ c κs. search needs) loop-holds (λ c κs. search needs) (λ c. search needs)
     (λ c. search needs) loop-again returns)

@@ -1,7 +1,7 @@
 use native.Mathlib.Omega.{arith}
 use borrow.Author.Needs.{needs}
 use Prim.Native.Nat.{_+_, _-_, _*_, _≤_}
-use mathlib.Core.Path.{_≡_, ap, _∙_}
+use mathlib.Core.Path.{_≡_, refl, ap, _∙_}
 use mathlib.Core.List.{_∷_}
 use lib.ListN.{length, drop, getD, length-take, length-drop}
 use Rattle.lists.specs.Line.{line}
@@ -36,27 +36,27 @@ rest-here c = rest-entry (c .before .before .before .before .args .t2) (c .befor
 
 put-requires : tie.Need-put-requires Inv-loop μ-loop
 put-requires c κs =
-    let l = c .before .before .before .before .before .before .before .loop in
+    let l = c .before .before .before .before .before .before .loop in
     let n = l .inv .2 .number in
     let g = l .inv .2 .long in
-    let z = ap length (rest-here (c .before .before .before .before .before)) in
+    let z = ap length (rest-here (c .before .before .before .before)) in
     simp (length-take, length-drop) (omega arith)
 
 -- the item that is written is that of the task at place i
-item-here : (c : tie.After-item-of Inv-loop μ-loop) → let a = c .before .before .before .before .before .before .before .before .args in c .item-of .result ≡ itemOf (view (a .t1)) (a .failed) (getD (a .t2) (c .before .before .before .before .before .before .loop .i) 0)
+item-here : (c : tie.After-item-of Inv-loop μ-loop) → let a = c .before .before .before .before .before .before .before .args in c .item-of .result ≡ itemOf (view (a .t1)) (a .failed) (getD (a .t2) (c .before .before .before .before .before .loop .i) 0)
 item-here c =
-    let a = c .before .before .before .before .before .before .before .before .args in
-    let t = getD (a .t2) (c .before .before .before .before .before .before .loop .i) 0 in
-    c .item-of .ensures ∙ ap (λ (x : Task). itemAt (a .failed) t (x .place)) (shown-at (a .t1) t _ _ (c .before .before .before .before .before .before .loop .inv .3) (c .before .before .before .index-of .ensures .0) (c .before .shown .ensures))
+    let a = c .before .before .before .before .before .before .before .args in
+    let t = getD (a .t2) (c .before .before .before .before .before .loop .i) 0 in
+    c .item-of .ensures ∙ ap (λ (x : Task). itemAt (a .failed) t (x .place)) (shown-at (a .t1) t _ _ (c .before .before .before .before .before .loop .inv .3) (c .before .before .index-of .ensures .0) refl)
 
 loop-again : tie.Need-loop-again Inv-loop μ-loop
 loop-again c =
     let m = c .before .before .before .before in
-    let l = m .before .before .before .before .before .before .loop in (
+    let l = m .before .before .before .before .before .loop in (
       omega arith,
       l .inv .1,
       going-on _ _ _ _ (l .room) (c .before .before .put .last .0) (l .i) _ _ _ (m .item-of .result) (l .inv .2)
-          (rest-here (m .before .before .before .before)) (item-here m) (c .before .before .put .ensures) (l .inv .1),
+          (rest-here (m .before .before .before)) (item-here m) (c .before .before .put .ensures) (l .inv .1),
       l .inv .3,
     )
 
@@ -76,6 +76,6 @@ pub put-items-spec : {M : Type 1} → statement M
 put-items-spec =
     tie.close
     (tie.spec Inv-loop μ-loop loop-holds (λ c. search needs) (λ c. search needs) same-length returns
-    (λ c κs. search needs) (λ c. omega arith) (λ c. search needs) (λ c κs. search needs) (λ c κs. search needs)
+    (λ c κs. search needs) (λ c. omega arith) (λ c. search needs) (λ c κs. search needs)
     (λ c. search needs) (λ c. search needs) (λ c. search needs) (λ c. search needs)
     put-requires (λ c. search needs) (λ c. search needs) loop-again same-length-2 returns-2)

@@ -7,8 +7,8 @@ use lib.ListN.{length}
 use lib.Dec.{eqb}
 use Rattle.calls.specs.declared.Call.the-variants.{Finish}
 use Rattle.lists.specs.Line.{line}
-use Rattle.rules.specs.State.{wakeAll, move, heldBy}
-use Rattle.rules.specs.Step.{queuedOn, failed, takeCall, item, DONE}
+use Rattle.rules.specs.State.{heldBy}
+use Rattle.rules.specs.Step.{queuedOn, takeCall, item, DONE}
 use Rattle.rules.specs.Step as rules
 use Rattle.rules.specs.Whole.{view}
 use Rattle.rules.specs.declared.Place.the-variants.{Completed}
@@ -19,8 +19,8 @@ use Rattle.supervisor.specs.Taken.{EachOnce}
 use Rattle.lists.proofs.Turns.{rest-blank}
 use Rattle.lists.proofs.Tests.{and-first, and-second}
 use Rattle.supervisor.proofs.MoveLaws.{picked-line, long-held, long-callers}
-use Rattle.supervisor.proofs.AnswerLaws.{by-both, runner, move-answers, many-answers, room-of}
-use Rattle.supervisor.proofs.FinishLaws.{finish-idle, finish-runs, finish-holds, finish-goes, finish-alone, queued-all, queued-each, queued-line, woken-completed}
+use Rattle.supervisor.proofs.AnswerLaws.{by-both, runner, move-answers}
+use Rattle.supervisor.proofs.FinishLaws.{finish-idle, finish-runs, finish-holds, finish-goes, finish-alone, queued-each, queued-line}
 use Rattle.supervisor.proofs.RoomLaws.{in-room}
 use Rattle.lists.proofs.LineLaws.{length-pad, first-at}
 use Rattle.supervisor.proofs.finish.finish.Statement.{statement}
@@ -70,32 +70,27 @@ returns-3 c =
     let s = e1 .before .before .before .args .s in
     by-both s _ _ (finish-here e1 ∙ finish-holds (view s) (e1 .before .running .result) _ (held-here h) (c .before .if3 .taken)) (c .refused-by2 .ensures) refl
 
-wake-all-requires : tie.Need-wake-all-requires
-wake-all-requires c κs =
+completed-requires : tie.Need-completed-requires
+completed-requires c κs =
     let q = c .before in
-    let k = q .before .before .before .before .before .before .before .before .before .before .before .before in
+    let e1 = q .before .before .before .before .before .before .before .before .before in
+    let k = e1 .before .before .before in
     let v = view (k .args .s) in
-    let t = q .before .before .before .before .before .before .before .before .before .before .running .result in
-    (k .pre .0, in-room (q .queued-on .result) _ (ap length (q .queued-on .ensures) ∙ length-pad _) (k .pre .1), subst (EachOnce v) (sym (queued-here q)) (queued-each v t (k .pre .0 .sound)))
+    let t = e1 .before .running .result in
+    (k .pre .0, in-room (q .queued-on .result) _ (ap length (q .queued-on .ensures) ∙ length-pad _) (k .pre .1), subst (EachOnce v) (sym (queued-here q)) (queued-each v t (k .pre .0 .sound)), runs-here e1 .high)
 
 returns-4 : tie.Need-returns-4
 returns-4 c =
-    let w = c .before .before .before .before .before in
-    let q = w .before .before in
+    let m = c .before .before in
+    let q = m .before .before in
     let e1 = q .before .before .before .before .before .before .before .before .before in
-    let k = e1 .before .before .before in
-    let s = k .args .s in
-    let v = view s in
-    let t = e1 .before .running .result in
-    let l = line (q .queued-on .result) in
-    by-both s _ _ (finish-here e1 ∙ finish-goes v t _ (held-here (q .before .before)) (q .before .if3 .left))
-    (many-answers s (c .before .moved2 .result) (move (wakeAll v (queuedOn v t)) t Completed Off) (item t DONE 0 0) (failed v) l (queuedOn v t) (w .wake-all .result .count) (c .answered2 .ensures)
-    (woken-completed v (w .wake-all .result .state) (c .before .moved2 .result) l (queuedOn v t) t (k .pre .0 .sound) (queued-all v t) (queued-here q) (runs-here e1 .high) (w .wake-all .ensures .state) (c .before .moved2 .ensures)) (w .wake-all .ensures .number) (queued-here q))
-    (room-of _ _ (failed v) l (queuedOn v t) (w .wake-all .ensures .written) (queued-here q))
+    let s = e1 .before .before .before .args .s in
+    by-both s _ _ (finish-here e1 ∙ finish-goes (view s) (e1 .before .running .result) _ (line (q .queued-on .result)) (held-here (q .before .before)) (q .before .if3 .left) (queued-here q))
+    (m .completed .ensures .0) (m .completed .ensures .1)
 
 pub finish-spec : {M : Type 1} → statement M
 finish-spec =
     tie.close
     (tie.spec (λ c κs. search needs) (λ c κs. search needs) returns (λ c κs. search needs) (λ c κs. search needs)
     (λ c κs. search needs) (λ c κs. search needs) returns-2 (λ c κs. search needs) (λ c κs. search needs) (λ c κs. search needs) returns-3
-    (λ c κs. search needs) wake-all-requires (λ c κs. search needs) (λ c κs. search needs) (λ c. search needs) returns-4)
+    (λ c κs. search needs) completed-requires (λ c. search needs) returns-4)
