@@ -14,11 +14,10 @@ use super::answers::answered;
 use super::ended::wake_all;
 use super::numbers::DONE;
 use rules::Supervisor;
-use table::place::ticks_left;
 use table::queues::Test;
 use table::queues::picked;
 use table::tasks::index_of;
-use table::tasks::shown;
+use table::tasks::left_of;
 
 // How many different numbers of ticks are left to those of a line in order of ticks left, all above 0.
 fn moments_of(s: Supervisor, l: [u8; 31]) -> u8
@@ -32,10 +31,7 @@ fn moments_of(s: Supervisor, l: [u8; 31]) -> u8
             return n;
         }
         let at = index_of(t);
-        let k = s.tasks[at];
-        let x = shown(s.created, t, k);
-        let w = x.timer;
-        let left = ticks_left(s.clock, w);
+        let left = left_of(s.clock, s.created, t, s.tasks[at]);
         n += (left != before) as u8;
         before = left;
     }

@@ -1,7 +1,7 @@
 use native.Mathlib.Omega.{arith}
 use borrow.Author.Needs.{needs}
 use Prim.Native.Nat.{_+_, _-_, _≤_}
-use mathlib.Core.Path.{_≡_, ap, _∙_}
+use mathlib.Core.Path.{_≡_}
 use mathlib.Core.Bool.{not}
 use lib.Dec.{eqb}
 use lib.ListN.{length, drop, getD}
@@ -9,10 +9,8 @@ use mir.Val.{boolByte}
 use Rattle.lists.specs.Line.{line}
 use Rattle.lists.proofs.Turns.{rest-blank, rest-entry, rest-end}
 use Rattle.rules.specs.Advance.{changes}
-use Rattle.rules.specs.State.{ticksLeft}
-use Rattle.rules.specs.declared.Task.{Task}
 use Rattle.table.specs.Moved.{leftOf}
-use Rattle.table.proofs.LeafLaws.{mapped-long, shown-at}
+use Rattle.table.proofs.LeafLaws.{mapped-long, left-at}
 use Rattle.supervisor.proofs.AdvanceLaws.{one-more, moments-on, moments-end}
 use Rattle.supervisor.proofs.advance.moments_of.Statement.{statement}
 use Rattle.supervisor.proofs.advance.moments_of.Tie as tie
@@ -32,29 +30,30 @@ returns c =
     moments-end _ _ _ _ _ (l .inv .3) (rest-blank (c .before .before .before .args .t2) (l .i) (search needs) (c .if1 .taken))
 
 -- the ticks that the task at place i has left
-left-here : (c : tie.After-ticks-left Inv-loop μ-loop) → let a = c .before .before .before .before .before .before .before .args in c .ticks-left .result ≡ leftOf (a .t1) (getD (a .t2) (c .before .before .before .before .before .before .loop .i) 0)
+left-here : (c : tie.After-left-of Inv-loop μ-loop) → let a = c .before .before .before .before .before .before .args in c .left-of .result ≡ leftOf (a .t1) (getD (a .t2) (c .before .before .before .before .before .loop .i) 0)
 left-here c =
-    let a = c .before .before .before .before .before .before .before .args in
-    let l = c .before .before .before .before .before .before .loop in
-    c .ticks-left .ensures ∙ ap (λ (x : Task). ticksLeft (a .t1 .clock) (x .timer)) (shown-at (a .t1) (getD (a .t2) (l .i) 0) _ _ (l .inv .2) (c .before .before .before .index-of .ensures .0) (c .before .shown .ensures))
+    let a = c .before .before .before .before .before .before .args in
+    let l = c .before .before .before .before .before .loop in
+    left-at (a .t1) (getD (a .t2) (l .i) 0) (c .before .before .index-of .result) (c .left-of .result) (l .inv .2) (c .before .before .index-of .ensures .0) (c .left-of .ensures)
 
-more : (c : tie.After-ticks-left Inv-loop μ-loop)
-    → let l = c .before .before .before .before .before .before .loop in l .n + boolByte (not (eqb (c .ticks-left .result) (l .before))) ≤ l .i + 1
+more : (c : tie.After-left-of Inv-loop μ-loop)
+    → let l = c .before .before .before .before .before .loop in l .n + boolByte (not (eqb (c .left-of .result) (l .before))) ≤ l .i + 1
 more c =
-    let l = c .before .before .before .before .before .before .loop in
-    one-more (not (eqb (c .ticks-left .result) (l .before))) (l .n) (l .i) (l .inv .1)
+    let l = c .before .before .before .before .before .loop in
+    one-more (not (eqb (c .left-of .result) (l .before))) (l .n) (l .i) (l .inv .1)
 
 add-n : tie.Need-add-n Inv-loop μ-loop
 add-n c = let m = more c in record { fits = omega arith }
 
 loop-again : tie.Need-loop-again Inv-loop μ-loop
 loop-again c =
-    let a = c .before .before .before .before .before .before .before .args in
-    let l = c .before .before .before .before .before .before .loop in (
+    let e = c .before .before .before in
+    let a = e .before .before .before .args in
+    let l = e .before .before .loop in (
       omega arith,
       more c,
       l .inv .2,
-      moments-on (leftOf (a .t1)) _ (l .n) (l .before) _ (l .inv .3) (getD (a .t2) (l .i) 0) (c .ticks-left .result) _ (rest-entry (a .t2) (l .i) (search needs) (c .before .before .before .before .if1 .left)) (left-here c),
+      moments-on (leftOf (a .t1)) _ (l .n) (l .before) _ (l .inv .3) (getD (a .t2) (l .i) 0) (c .left-of .result) _ (rest-entry (a .t2) (l .i) (search needs) (e .if1 .left)) (left-here c),
     )
 
 returns-2 : tie.Need-returns-2 Inv-loop μ-loop
@@ -67,4 +66,4 @@ pub moments-of-spec : {M : Type 1} → statement M
 moments-of-spec =
     tie.close
     (tie.spec Inv-loop μ-loop loop-holds (λ c. search needs) returns (λ c κs. search needs) (λ c. omega arith)
-    (λ c. search needs) (λ c κs. search needs) (λ c κs. search needs) (λ c. tt) add-n (λ c. omega arith) (λ c. omega arith) loop-again returns-2)
+    (λ c. search needs) (λ c κs. search needs) (λ c. tt) add-n (λ c. omega arith) (λ c. omega arith) loop-again returns-2)
