@@ -5,6 +5,7 @@ ghost use Rattle.script.specs.Rows.{Grown};
 use crate::row::Row;
 use text::put_bytes;
 
+// The place of each word.
 pub(crate) const CREATE: usize = 0;
 
 pub(crate) const DELAY: usize = 1;
@@ -34,85 +35,8 @@ pub(crate) const NONE: usize = 12;
 pub(crate) const MINUS: usize = 13;
 
 // The words, one behind the other, and where each begins.
-const WORDS: [u8; 77] = [
-    67,
-    82,
-    69,
-    65,
-    84,
-    69,
-    68,
-    69,
-    76,
-    65,
-    89,
-    67,
-    65,
-    76,
-    76,
-    83,
-    69,
-    76,
-    69,
-    67,
-    84,
-    69,
-    78,
-    68,
-    70,
-    73,
-    78,
-    73,
-    83,
-    72,
-    84,
-    73,
-    67,
-    75,
-    65,
-    68,
-    86,
-    65,
-    78,
-    67,
-    69,
-    32,
-    116,
-    105,
-    109,
-    101,
-    100,
-    32,
-    99,
-    111,
-    110,
-    100,
-    105,
-    116,
-    105,
-    111,
-    110,
-    97,
-    108,
-    32,
-    100,
-    101,
-    108,
-    97,
-    121,
-    32,
-    101,
-    108,
-    115,
-    101,
-    32,
-    110,
-    111,
-    110,
-    101,
-    32,
-    45,
-];
+const WORDS: [u8; 77] =
+    *b"CREATEDELAYCALLSELECTENDFINISHTICKADVANCE timed conditional delay else none -";
 
 const STARTS: [usize; 15] = [0, 6, 11, 15, 21, 24, 30, 34, 41, 47, 59, 65, 70, 75, 77];
 
