@@ -5,6 +5,7 @@ ghost use Rattle.script.specs.Rows.{Grown};
 use crate::row::Row;
 use text::put_bytes;
 
+// The place of each word.
 pub(crate) const CREATE: usize = 0;
 
 pub(crate) const DELAY: usize = 1;
