@@ -72,9 +72,8 @@ fn take_call(state: &mut [u8], c: Call, room: &mut [u8]) -> Answer
     let s = state_in(state);
     let k = supervisor::step(s, c, room);
     let answer = k.answer;
-    let after = k.state;
     if answer.refusal == 0 {
-        store(after, state);
+        store(k.state, state);
         return answer;
     }
     answer

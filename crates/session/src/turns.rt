@@ -40,8 +40,7 @@ fn taken(s: Session, call: Call, count: usize, room: &mut [u8], out: &mut [u8], 
     ensures { λ r. ⌜ now (room .exit) ≡ took s call count (now (room .entry)) .room ⌝ }
     ensures { λ r. ⌜ now (out .exit) ≡ putAt (now (out .entry)) at (took s call count (now (room .entry)) .text) ⌝ }
 {
-    let state = s.state;
-    let stepped = supervisor::step(state, call, room);
+    let stepped = supervisor::step(s.state, call, room);
     let answer = stepped.answer;
     let place = put_line(s.step, answer, room, out, at);
     let after = stepped.state;
@@ -112,8 +111,7 @@ fn refused(
             next: Next::Stop,
         };
     }
-    let state = s.state;
-    let answer = refused_answer(n, supervisor::running(state));
+    let answer = refused_answer(n, supervisor::running(s.state));
     let place = put_line(s.step, answer, room, out, at);
     Turned {
         session: s,

@@ -1,4 +1,4 @@
-use mathlib.Core.Path.{ap, _∙_}
+use mathlib.Core.Path.{_≡_, ap, _∙_}
 use lib.ListN.{length}
 use denote.Ref.{now}
 use Rattle.rules.specs.Step.{roomAfter}
@@ -10,23 +10,27 @@ use borrow.Author.Needs.{needs}
 use Rattle.card.proofs.take_call.Statement.{statement}
 use Rattle.card.proofs.take_call.Tie as tie
 
+-- what the step answers, of the state in the lent bytes
+stepped : (c : tie.After-step) → let a = c .before .before .before .before .before .before .args in c .step .result ≡ steppedOf (stepWhole (stateIn (now (a .state))) (a .c) (length (now (a .room))))
+stepped c =
+    let a = c .before .before .before .before .before .before .args in
+    c .step .ensures .0 ∙ ap (λ (s : Supervisor). steppedOf (stepWhole s (a .c) (length (now (a .room))))) (c .before .before .state-in .ensures)
+
 returns : tie.Need-returns
 returns c =
-    let a = c .before .before .before .before .before .before .before .before .before .before .before .before .before .before .before .before .args in
+    let p = c .before .before .before .before .before .before .before .before .before in
+    let a = p .before .before .before .before .before .before .args in
     let n = length (now (a .room)) in
-    let e = c .before .before .before .before .before .before .before .before .before .before .before .before .state-in .ensures in
-    let q = c .before .before .before .before .before .before .before .before .before .before .step .ensures .0 ∙ ap (λ (s : Supervisor). steppedOf (stepWhole s (a .c) n)) e in
-    let r = c .before .before .before .before .before .before .before .before .before .before .step .ensures .1 ∙ ap (λ (s : Supervisor). roomAfter (now (a .room)) (stepWhole s (a .c) n .ended)) e in
-    did-take (now (a .state)) (now (a .room)) (stepWhole (stateIn (now (a .state))) (a .c) n) (c .before .before .before .before .before .before .before .before .before .before .step .result) q _ r _ (c .before .before .before .before .if1 .taken) (c .before .before .store .ensures)
+    let r = p .step .ensures .1 ∙ ap (λ (s : Supervisor). roomAfter (now (a .room)) (stepWhole s (a .c) n .ended)) (p .before .before .state-in .ensures) in
+    did-take (now (a .state)) (now (a .room)) (stepWhole (stateIn (now (a .state))) (a .c) n) (p .step .result) (stepped p) _ r _ (c .before .before .before .before .if1 .taken) (c .before .before .store .ensures)
 
 returns-2 : tie.Need-returns-2
 returns-2 c =
-    let a = c .before .before .before .before .before .before .before .before .before .before .before .before .args in
+    let p = c .before .before .before .before .before in
+    let a = p .before .before .before .before .before .before .args in
     let n = length (now (a .room)) in
-    let e = c .before .before .before .before .before .before .before .before .state-in .ensures in
-    let q = c .before .before .before .before .before .before .step .ensures .0 ∙ ap (λ (s : Supervisor). steppedOf (stepWhole s (a .c) n)) e in
-    let r = c .before .before .before .before .before .before .step .ensures .1 ∙ ap (λ (s : Supervisor). roomAfter (now (a .room)) (stepWhole s (a .c) n .ended)) e in
-    did-refuse (now (a .state)) (now (a .room)) (stepWhole (stateIn (now (a .state))) (a .c) n) (c .before .before .before .before .before .before .step .result) q _ r (c .if1 .left)
+    let r = p .step .ensures .1 ∙ ap (λ (s : Supervisor). roomAfter (now (a .room)) (stepWhole s (a .c) n .ended)) (p .before .before .state-in .ensures) in
+    did-refuse (now (a .state)) (now (a .room)) (stepWhole (stateIn (now (a .state))) (a .c) n) (p .step .result) (stepped p) _ r (c .if1 .left)
 
 pub take-call-spec : {M : Type 1} → statement M
 take-call-spec =

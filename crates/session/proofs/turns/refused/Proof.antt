@@ -24,7 +24,7 @@ returns-3 c =
     let p = c .before .before in
     let f = p .before .before in
     let r = f .before in
-    let e = r .before .before in
+    let e = r .before in
     let a = e .before .before .before .before .args in
     let answer = f .refused-answer .ensures ∙ ap (refusedAnswer (a .n)) (r .running .ensures) in
     says _ _ (says-bad (a .s) (a .n) (a .many) (a .last) (a .room .now) (e .before .if1 .left) (ne-eqb (a .n) 12 (e .if2 .left)))

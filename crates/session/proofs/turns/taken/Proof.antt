@@ -7,9 +7,12 @@ use Rattle.session.proofs.turns.taken.Tie as tie
 
 returns : tie.Need-returns
 returns c =
-    let a = c .before .before .before .before .before .before .before .before .before .before .before .before .before .before .before .args in
-    let whole = took-is (a .s) (a .call) (a .count) (a .room .now) (c .before .before .before .before .before .before .before .before .before .before .step .last .1 .1 .0) (c .before .before .before .before .before .before .before .before .before .before .step .result) (c .wrapping-add-u64 .result) (c .before .before .before .before .before .before .before .before .before .before .step .ensures .0) (c .before .before .before .before .before .before .before .before .before .before .step .ensures .1) (c .wrapping-add-u64 .ensures) in
-    let said = says _ _ whole (c .before .before .before .before .put-line .ensures) in
+    let printed = c .before .before .before .before in
+    let stepped = printed .before .before .before .before .before .before in
+    let a = stepped .before .before .before .before .args in
+    let k = stepped .step in
+    let whole = took-is (a .s) (a .call) (a .count) (a .room .now) (k .last .1 .1 .0) (k .result) (c .wrapping-add-u64 .result) (k .ensures .0) (k .ensures .1) (c .wrapping-add-u64 .ensures) in
+    let said = says _ _ whole (printed .put-line .ensures) in
     (said .0, (ap (λ (t : Turn). t .room) whole, said .1))
 
 pub taken-spec : {M : Type 1} → statement M
