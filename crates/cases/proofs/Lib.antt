@@ -1,3 +1,2 @@
 pub mod AllHold
-pub mod FullQueue
 pub mod LargeAdvance

@@ -4,15 +4,13 @@
 -- Assumes nothing.
 use Prim.Native.Nat.{ℕ}
 use mathlib.Core.Bool.{Bool, true, false, _&&_}
-use mathlib.Core.List.{List, [], _∷_, _++_}
+use mathlib.Core.List.{List, [], _∷_}
 use lib.IntN.{pos, negsuc}
 use lib.ListN.{take, replicate}
 use lib.Dec.{eqb}
 use Rattle.rules.specs.State.{empty}
 use Rattle.rules.specs.Step.{item, none}
-use Rattle.rules.specs.Questions.{countWhole}
 use Rattle.rules.specs.declared.Item.{Item}
-use Rattle.rules.specs.declared.Count.{Count}
 use Rattle.rules.specs.Whole.{Whole, pack, stepWhole}
 use Rattle.rules.specs.declared.Supervisor.{Supervisor}
 use Rattle.calls.specs.declared.CallMode.the-variants.{Simple, Timed, Conditional}
@@ -141,14 +139,6 @@ cases =
     -- across the clock's last reading
     ∷ row 4294967294 (Create 4 0 ∷ Delay (pos 3) ∷ Advance 4 ∷ []) (says 0 10 0 1 0 1) 2 (item 1 1 0 0 ∷ [])
     ∷ []
-
--- 31 tasks, each of which calls entry 1 of task 1, task 1 itself first: the fullest that a queue can be
-unfoldable pub crowd : List C.Call
-crowd = replicate 31 (Create 1 1) ++ replicate 31 (Call 1 1 Simple)
-
--- COUNT of that queue
-abbrev pub crowdCount : Count
-crowdCount = countWhole (lastOf (pack (empty 0)) crowd .state) 1 1
 
 -- two tasks that delay, for 2000000000 ticks and for 3
 unfoldable pub sleepers : List C.Call

@@ -3,3 +3,4 @@ pub mod Statement1
 pub mod Statement2
 pub mod Statement3
 pub mod Cutting
+pub mod FullQueue

@@ -6,3 +6,5 @@ pub mod Statement2
 pub mod Statement3
 -- ADVANCE as ticks, and cut in two
 pub mod Cutting
+-- a queue of 31 callers
+pub mod FullQueue

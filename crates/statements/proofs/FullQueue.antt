@@ -7,7 +7,7 @@ use Rattle.rules.specs.Sound.{sound}
 use Rattle.rules.specs.Step.{openEntry, queuedOn}
 use Rattle.rules.specs.Whole.{stepWhole}
 use Rattle.rules.specs.Questions.{countWhole}
-use Rattle.cases.specs.Cases.{crowd, crowdCount}
+use Rattle.statements.specs.FullQueue.{crowd, crowdCount}
 
 pub full-queue : crowdCount ≡ record { refusal = 0; count = 31 }
 unfolding crowd sound stepWhole running openEntry queuedOn pad padTo countWhole
