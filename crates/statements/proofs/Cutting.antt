@@ -11,6 +11,7 @@ use Rattle.rules.specs.Step.{takeCall, roomAfter, SHORT-ROOM, BAD-STATE}
 use Rattle.rules.specs.Whole.{Typed, view, soundWhole, Whole, decline, done, stepWhole, steppedOf}
 use Rattle.rules.specs.Runs.{start}
 use Rattle.rules.specs.Uses.{Use, Keeps, Chain, itemsIn}
+use Rattle.rules.specs.declared.Item.{Item}
 use Rattle.rules.specs.declared.Stepped.{Stepped}
 use Rattle.rules.specs.declared.Supervisor.{Supervisor}
 use Rattle.calls.specs.declared.Call as C
@@ -21,7 +22,7 @@ use Rattle.rules.proofs.EveryStruct.{typed-pack}
 use Rattle.rules.proofs.OverRuns.{empty-sound}
 use Rattle.rules.proofs.Uses.{items-back}
 use Rattle.statements.specs.Statement3.{reached}
-use Rattle.statements.specs.Cutting.{endedIn, RoomsAlike, TicksAlike, CutAlike, Unchanged, Cutting}
+use Rattle.statements.specs.Cutting.{endedIn, RoomsAlike, TicksAlike, EndsJoined, ReadingsAdded, CutAlike, Unchanged, Cutting}
 
 -- a step looks at its room's length only to see whether it is enough
 same-room : (s : Supervisor) (c : C.Call) (u v : Use) → RoomsAlike u v → stepWhole s c (length (v .lent)) ≡ stepWhole s c (length (u .lent))
@@ -58,6 +59,12 @@ module _ (s : Supervisor) (u : Use) (k : Keeps s u) {w : Whole} (same : stepWhol
       ∙ ap (itemsIn (length (w .ended))) wrote
       ∙ items-back (w .ended) (u .lent)
 
+ends-joined : (u v w : Use) {x y : List Item} → endedIn u ≡ x → endedIn v ≡ y → endedIn w ≡ x ++ y → EndsJoined u v w
+ends-joined u v w p q e = e ∙ (λ j. sym p j ++ sym q j)
+
+readings-added : (u v w : Use) {m n : ℕ} → u .gave .answer .entry ≡ m → v .gave .answer .entry ≡ n → w .gave .answer .entry ≡ m + n → ReadingsAdded u v w
+readings-added u v w p q e = e ∙ (λ j. sym p j + sym q j)
+
 module _ (s : Supervisor) (t : Typed s) where
   ticks-alike : (n : ℕ) (u : Use) → Keeps s u → u .call ≡ Advance n → TicksAlike s n u
   ticks-alike n u k e =
@@ -92,8 +99,8 @@ module _ (s : Supervisor) (t : Typed s) where
       let gv = called s1 v ev ∙ same-room s1 (Advance b) u v r in
       record {
         state = state-is s w kw gw ∙ c .state ∙ sym (state-is s1 v k1 gv);
-        ends = ends-are s w kw gw ∙ c .ends ∙ (λ j. sym (ends-are s u ku gu) j ++ sym (ends-are s1 v k1 gv) j);
-        readings = readings-are s w kw gw ∙ c .count ∙ (λ j. sym (readings-are s u ku gu) j + sym (readings-are s1 v k1 gv) j);
+        ends = ends-joined u v w (ends-are s u ku gu) (ends-are s1 v k1 gv) (ends-are s w kw gw ∙ c .ends);
+        readings = readings-added u v w (readings-are s u ku gu) (readings-are s1 v k1 gv) (readings-are s w kw gw ∙ c .count);
         next = next-is s w kw gw ∙ c .next ∙ sym (next-is s1 v k1 gv);
         refusals = (
           refusal-is s w kw gw ∙ c .refusals .0 ∙ sym (refusal-is s u ku gu),

@@ -32,12 +32,20 @@ pub record TicksAlike (s : Supervisor) (n : ℕ) (u : Use) : Type 0 where
   pub different : n < 4294967296 → (r : ℕ) → count r (moments (logWhole s (tickAsks n (length (u .lent))))) ≤ 1
   pub few : u .gave .answer .entry ≤ 31
 
+-- the list of u and then that of v are the list of w
+abbrev pub EndsJoined : Use → Use → Use → Type 0
+EndsJoined u v w = endedIn w ≡ endedIn u ++ endedIn v
+
+-- the readings of u and those of v are as many as those of w
+abbrev pub ReadingsAdded : Use → Use → Use → Type 0
+ReadingsAdded u v w = w .gave .answer .entry ≡ u .gave .answer .entry + v .gave .answer .entry
+
 -- u and then v leave the state of w, their lists joined are its list, and their numbers of readings add up to its;
 -- the task dispatched at the end is the same, and if one of the three is refused, all are, with the same number
 pub record CutAlike (u v w : Use) : Type 0 where
   pub state : w .gave .state ≡ v .gave .state
-  pub ends : endedIn w ≡ endedIn u ++ endedIn v
-  pub readings : w .gave .answer .entry ≡ u .gave .answer .entry + v .gave .answer .entry
+  pub ends : EndsJoined u v w
+  pub readings : ReadingsAdded u v w
   pub next : w .gave .answer .next ≡ v .gave .answer .next
   pub refusals : (w .gave .answer .refusal ≡ u .gave .answer .refusal) × (w .gave .answer .refusal ≡ v .gave .answer .refusal)
 
