@@ -17,7 +17,7 @@ use Rattle.workspace.specs.declared.Test.the-variants.{HasUnits}
 use Rattle.lists.specs.Lists.{every}
 use Rattle.workspace.specs.Rules.{none, isNone}
 use Rattle.workspace.specs.Operations.{Outcome, freshOf, requestOf, releaseOf, blocksAfter, freeAfter, answerOf, unused}
-use Rattle.workspace.specs.Owning.{tablesAs, ownedAfter, ownedFresh}
+use Rattle.workspace.specs.Owning.{ownedAfter, ownedFresh}
 use Rattle.workspace.specs.Places.{placeOf, passesOf}
 use Rattle.workspace.specs.Seen.{tableOf, laid, seenAs, lookOf}
 use Rattle.workspace.specs.Steps.{freshSeen, requestSeen, releaseSeen}
@@ -41,9 +41,10 @@ laid-32 : (t : Table) (l : List Stretch) → length l ≡ 32 → length (t .plac
 unfolding laid
 laid-32 t l h k = sym (over-same (under (t .clear) l) (t .places) (under-length (t .clear) l ∙ h ∙ sym k))
 
-module _ (a : Tables) (s : Look) (d : Done) (r : Tables) (hb : length (a .blocks) ≡ 32) (hf : length (a .free) ≡ 32) (kb : length (d .blocks .places) ≡ 32) (kf : length (d .free .places) ≡ 32) (er : r ≡ tablesAs (d .blocks .places) (d .free .places) (d .answer)) where
+module _ (a : Tables) (s : Look) (d : Done) (r : Tables) (hb : length (a .blocks) ≡ 32) (hf : length (a .free) ≡ 32) (kb : length (d .blocks .places) ≡ 32) (kf : length (d .free .places) ≡ 32)
+    (eb : r .blocks ≡ d .blocks .places) (ef : r .free ≡ d .free .places) (ea : r .answer ≡ d .answer) where
   left-is : (u : Used) (o : Outcome) → Says d (a .blocks) (a .free) u o → r ≡ record { blocks = blocksAfter (a .blocks) o; free = freeAfter (a .free) o; answer = answerOf u o }
-  left-is u o w = er ∙ (λ i. record { blocks = (laid-32 (d .blocks) (a .blocks) hb kb ∙ w .writes) i; free = (laid-32 (d .free) (a .free) hf kf ∙ w .frees) i; answer = w .answers i })
+  left-is u o w = λ i. record { blocks = (eb ∙ laid-32 (d .blocks) (a .blocks) hb kb ∙ w .writes) i; free = (ef ∙ laid-32 (d .free) (a .free) hf kf ∙ w .frees) i; answer = (ea ∙ w .answers) i }
 
   pub fresh-left : s ≡ lookOf (a .blocks) (a .free) 0 → d ≡ freshSeen s unused 0 → r ≡ ownedFresh a
   unfolding ownedFresh

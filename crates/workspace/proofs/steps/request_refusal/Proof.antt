@@ -1,7 +1,7 @@
 use mathlib.Core.Path.{_≡_, refl}
 use Prim.Native.Nat.{_<_, _≤_}
 use mathlib.Core.Bool.{true, _&&_}
-use lib.Dec.{leb}
+use lib.Dec.{leb, ltb}
 use borrow.Author.Needs.{needs}
 use borrow.Author.Tests.{lt-ltb, le-ltb, not-true, not-false}
 use Rattle.workspace.specs.Steps.{requestRefusal}
@@ -14,6 +14,9 @@ kept c = not-false (c .before .args .kept) (c .if1 .left)
 
 sized : (c : tie.Else2) → leb 1 (c .before .before .args .size) && leb (c .before .before .args .size) 65535 ≡ true
 sized c = let n = c .before .before .args .size in not-false (leb 1 n && leb n 65535) (c .if2 .left)
+
+few : (c : tie.Else3) → ltb (c .before .before .before .args .m) 31 ≡ true
+few c = let m = c .before .before .before .args .m in let h : m < 31 = search needs in lt-ltb m 31 h
 
 returns : tie.Need-returns
 unfolding requestRefusal
@@ -36,18 +39,16 @@ unfolding requestRefusal
 returns-4 c =
     let passed = c .before .before in
     let a = passed .before .before .args in
-    let h : a .m < 31 = search needs in
-    let k : a .n ≤ a .place = search needs in
-    rw (kept (passed .before), sized passed, lt-ltb (a .m) 31 h, le-ltb (a .place) (a .n) k) refl
+    let h : a .n ≤ a .place = search needs in
+    rw (kept (passed .before), sized passed, few (c .before), le-ltb (a .place) (a .n) h) refl
 
 returns-5 : tie.Need-returns-5
 unfolding requestRefusal
 returns-5 c =
     let passed = c .before .before in
     let a = passed .before .before .args in
-    let h : a .m < 31 = search needs in
-    let k : a .place < a .n = search needs in
-    rw (kept (passed .before), sized passed, lt-ltb (a .m) 31 h, lt-ltb (a .place) (a .n) k) refl
+    let h : a .place < a .n = search needs in
+    rw (kept (passed .before), sized passed, few (c .before), lt-ltb (a .place) (a .n) h) refl
 
 pub request-refusal-spec : {M : Type 1} → statement M
 request-refusal-spec = tie.close (tie.spec returns returns-2 returns-3 returns-4 returns-5)
