@@ -2,17 +2,17 @@ use borrow.Author.Needs.{needs}
 use mathlib.Core.Path.{refl}
 use mathlib.Core.List.{[]}
 use Rattle.lists.specs.Line.{pad, padTo}
-use Rattle.supervisor.proofs.Parts.{the, Part}
+use Rattle.lists.proofs.Parts.{need, Field}
 use Rattle.supervisor.proofs.empty.Statement.{statement}
 use Rattle.supervisor.proofs.empty.Tie as tie
 
-clock-here : Part (the tie.Need-returns) (λ s. s .clock)
+clock-here : Field (need tie.Need-returns) (λ s. s .clock)
 clock-here c = refl
 
-created-here : Part (the tie.Need-returns) (λ s. s .created)
+created-here : Field (need tie.Need-returns) (λ s. s .created)
 created-here c = refl
 
-tasks-here : Part (the tie.Need-returns) (λ s. s .tasks)
+tasks-here : Field (need tie.Need-returns) (λ s. s .tasks)
 tasks-here c = rw (c .blank-task .ensures)
 
 returns : tie.Need-returns

@@ -5,14 +5,14 @@ use lib.Dec.{eqb}
 use Rattle.lists.proofs.ListLaws.{by-bool}
 use Rattle.rules.specs.State as state
 use Rattle.rules.specs.Whole.{view}
-use Rattle.supervisor.proofs.Parts.{the, Where}
+use Rattle.lists.proofs.Parts.{need, When}
 use Rattle.supervisor.proofs.running.Statement.{statement}
 use Rattle.supervisor.proofs.running.Tie as tie
 
-nobody-ready : Where (the tie.Need-returns) (λ c. eqb (state.running (view (c .before .args .s))) 0 ≡ true)
+nobody-ready : When (need tie.Need-returns) (λ c. eqb (state.running (view (c .before .args .s))) 0 ≡ true)
 nobody-ready c e = c .running .ensures
 
-somebody-ready : Where (the tie.Need-returns) (λ c. eqb (state.running (view (c .before .args .s))) 0 ≡ false)
+somebody-ready : When (need tie.Need-returns) (λ c. eqb (state.running (view (c .before .args .s))) 0 ≡ false)
 somebody-ready c e = c .running .ensures
 
 returns : tie.Need-returns

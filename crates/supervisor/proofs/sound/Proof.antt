@@ -3,14 +3,14 @@ use mathlib.Core.Path.{_≡_}
 use mathlib.Core.Bool.{true, false}
 use Rattle.lists.proofs.ListLaws.{by-bool}
 use Rattle.rules.specs.Whole.{soundWhole}
-use Rattle.supervisor.proofs.Parts.{the, Where}
+use Rattle.lists.proofs.Parts.{need, When}
 use Rattle.supervisor.proofs.sound.Statement.{statement}
 use Rattle.supervisor.proofs.sound.Tie as tie
 
-when-sound : Where (the tie.Need-returns) (λ c. soundWhole (c .before .args .s) ≡ true)
+when-sound : When (need tie.Need-returns) (λ c. soundWhole (c .before .args .s) ≡ true)
 when-sound c e = c .is-sound .ensures
 
-when-unsound : Where (the tie.Need-returns) (λ c. soundWhole (c .before .args .s) ≡ false)
+when-unsound : When (need tie.Need-returns) (λ c. soundWhole (c .before .args .s) ≡ false)
 when-unsound c e = c .is-sound .ensures
 
 returns : tie.Need-returns

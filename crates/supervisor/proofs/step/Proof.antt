@@ -9,7 +9,7 @@ use Rattle.rules.specs.Step.{takeCall, roomAfter}
 use Rattle.rules.specs.Whole.{Whole, view, soundWhole, done, stepWhole, answerOf}
 use Rattle.table.proofs.LeafLaws.{mapped-long}
 use Rattle.supervisor.specs.Taken.{Stands}
-use Rattle.supervisor.proofs.Parts.{the, Answer, Part}
+use Rattle.lists.proofs.Parts.{need, Answer, Field}
 use Rattle.supervisor.proofs.TopLaws.{answer-is, by-whole, ended-is, kept, stands-of, state-is, step-short, step-sound, step-unsound}
 use Rattle.supervisor.proofs.step.Statement.{statement}
 use Rattle.supervisor.proofs.step.Tie as tie
@@ -54,14 +54,14 @@ take-call-requires c κs = (stands-here (c .before), ltb-false _ 124 (room-here 
 done-here : (c : tie.Else2) → let a = c .before .before .before .before .before .args in stepWhole (a .s) (a .c) (length (a .room .now)) ≡ done (a .s) (takeCall (view (a .s)) (a .c))
 done-here c = let a = c .before .before .before .before .before .args in step-sound (a .s) (a .c) (length (a .room .now)) (room-here (c .before .before)) (sound-here c)
 
-state-here : Part (the (Answer (the tie.Need-returns-3))) (λ r. r .state)
+state-here : Field (need (Answer (need tie.Need-returns-3))) (λ r. r .state)
 state-here c =
     let k = c .before .before .before .before in
     let e2 = k .before .before in
     let a = e2 .before .before .before .before .before .args in
     state-is (a .s) (takeCall (view (a .s)) (a .c)) (k .take-call .result) (k .take-call .ensures .0) ∙ sym (ap (λ (w : Whole). w .state) (done-here e2))
 
-answer-here : Part (the (Answer (the tie.Need-returns-3))) (λ r. r .answer)
+answer-here : Field (need (Answer (need tie.Need-returns-3))) (λ r. r .answer)
 answer-here c =
     let k = c .before .before .before .before in
     let e2 = k .before .before in

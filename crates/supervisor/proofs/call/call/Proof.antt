@@ -10,7 +10,7 @@ use Rattle.rules.specs.State.{meet, wake, accepts, isCompleted, isTask, taskOf,
 use Rattle.rules.specs.Whole.{view}
 use Rattle.calls.specs.declared.Call.the-variants.{Call}
 use Rattle.rules.proofs.Members.{Runs}
-use Rattle.supervisor.proofs.Parts.{the, Answer, Room}
+use Rattle.lists.proofs.Parts.{need, Answer, Room}
 use Rattle.supervisor.proofs.CallLaws.{a-task, call-dead, call-entry, call-goes, call-meets, call-target, enter-none, enter-one, no-task, quiet-busy, woken-met}
 use Rattle.supervisor.proofs.AnswerLaws.{answers, by-both, by-ended, by-outcome, of-task, quiet-room, runner, stay-answers}
 use Rattle.supervisor.proofs.call.call.Statement.{statement}
@@ -74,7 +74,7 @@ meets-here c =
     let meets = of-task v (a .g) _ (λ x. accepts (x .place) (a .e)) _ _ (c .before .before .before .before .before .before .task-of .ensures) (c .before .accepts-at .ensures) (c .if5 .taken) in
     call-here e1 ∙ call-meets v (e1 .before .running .result) (a .g) (a .e) (a .m) (task-here e2) (entry-here e3) (alive-here e4) meets
 
-answer-here : Answer (the tie.Need-returns-5)
+answer-here : Answer (need tie.Need-returns-5)
 answer-here c =
     let m = c .before .before .before .before .before .before .before in
     let e2 = m .before .before .before .before .before .before .before in
@@ -86,7 +86,7 @@ answer-here c =
     let woken = woken-met (a .s) _ _ (a .g) t (a .e) (k .pre .0) (task-here e2) (runs-here e1 .high) (c .before .before .moved .ensures) (c .before .met .ensures) in
     by-outcome (a .s) (meets-here m) (answers (a .s) (c .before .met .result) (meet (wake v (a .g)) (a .g) t (a .e)) (item t WAITS 0 0) (item (a .g) ACCEPTED (a .e) t ∷ []) (c .answered2 .ensures) woken)
 
-written-here : Room (the tie.Need-returns-5)
+written-here : Room (need tie.Need-returns-5)
 written-here c = by-ended _ _ (meets-here (c .before .before .before .before .before .before .before)) (c .before .before .before .before .before .put .ensures)
 
 returns-5 : tie.Need-returns-5

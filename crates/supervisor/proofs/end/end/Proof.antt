@@ -9,7 +9,7 @@ use Rattle.rules.specs.Step as rules
 use Rattle.rules.specs.Whole.{view}
 use Rattle.rules.proofs.Members.{Runs}
 use Rattle.table.specs.declared.queues.Test.the-variants.{HeldBy}
-use Rattle.supervisor.proofs.Parts.{the, Answer, Room}
+use Rattle.lists.proofs.Parts.{need, Answer, Room}
 use Rattle.supervisor.proofs.MoveLaws.{long-held, picked-line}
 use Rattle.supervisor.proofs.AnswerLaws.{by-both, by-ended, by-outcome, part-answers, runner}
 use Rattle.supervisor.proofs.EndLaws.{end-idle, end-runs, end-none, end-one, held-fits}
@@ -47,7 +47,7 @@ serves-here c =
     let e1 = c .before .before .before .before in
     end-here e1 ∙ end-one (view (e1 .before .before .before .args .s)) (e1 .before .running .result) (c .before .last-of .result) (last-here (c .before)) (c .if2 .left)
 
-answer-here : Answer (the tie.Need-returns-3)
+answer-here : Answer (need tie.Need-returns-3)
 answer-here c =
     let e2 = c .before .before .before .before .before .before .before .before in
     let e1 = e2 .before .before .before .before in
@@ -59,7 +59,7 @@ answer-here c =
     by-outcome s (serves-here e2)
     (part-answers t k 0 s (c .before .parted .result) (item t DONE 0 0) (item k SERVED (entryOf (placeOf v k)) t ∷ []) (r .pre .0) (runs-here e1 .high) (held-fits v t k (last-here (e2 .before)) (e2 .if2 .left)) (c .answered .ensures) (c .before .parted .ensures))
 
-written-here : Room (the tie.Need-returns-3)
+written-here : Room (need tie.Need-returns-3)
 written-here c = by-ended _ _ (serves-here (c .before .before .before .before .before .before .before .before)) (rw (c .before .before .before .before .before .entry-of .ensures, c .before .before .before .before .before .before .before .task-of .ensures) at (c .before .before .before .before .put .ensures))
 
 returns-3 : tie.Need-returns-3
