@@ -1,4 +1,4 @@
--- `card::is_place` meets its contract: the code's test is the definition's.
+-- `codec::is_place` meets its contract: the code's test is the definition's.
 -- Assumes nothing.
 use mathlib.Core.Path.{refl}
 use Rattle.codec.proofs.is_place.Statement.{statement}

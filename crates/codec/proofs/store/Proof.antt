@@ -1,7 +1,10 @@
+use native.Mathlib.Omega.{arith}
+use Prim.Native.Nat.{_≤_}
 use mathlib.Core.Path.{_≡_}
 use lib.ListN.{length}
 use denote.Ref.{now}
 use Rattle.table.proofs.LeafLaws.{mapped-long}
+use Rattle.codec.specs.Layout.{placedLines}
 use Rattle.codec.proofs.CodecLaws.{stored-short, stored-long}
 use borrow.Author.Needs.{needs}
 use Rattle.codec.proofs.store.Statement.{statement}
@@ -14,15 +17,26 @@ returns c = stored-short (now (c .before .before .args .room)) (c .before .befor
 sized : (c : tie.Start) → let s = c .args .s in (length (s .tasks) ≡ 31) × (length (s .ready) ≡ 31) × (length (s .callers) ≡ 31) × (length (s .held) ≡ 31) × (length (s .delays) ≡ 31)
 sized c = (search (needs, mapped-long), search needs, search needs, search needs, search needs)
 
+-- a state has room in the bytes
+long : (c : tie.Else1) → 439 ≤ length (now (c .before .before .args .room))
+long c = omega arith
+
+-- the lines are put behind the tasks
+lined : (c : tie.After-put-lines) →
+    let filled = c .before .before .before .before .before .before .before .before in
+    let s = filled .before .before .before .before .before .before .before .before .before .before .args .s in
+    c .put-lines .last .0 ≡ placedLines (filled .put-tasks .last .0) (s .ready) (s .callers) (s .held) (s .delays)
+lined c = c .put-lines .ensures
+
 returns-2 : tie.Need-returns-2
 returns-2 c =
-    let lined = c .before .before in
-    let filled = lined .before .before .before .before .before .before .before .before in
+    let l = c .before .before in
+    let filled = l .before .before .before .before .before .before .before .before in
     let headed = filled .before .before .before .before .before in
     let start = headed .before .before .before .before .before in
     let z = sized start in
-    stored-long (now (start .args .room)) (start .args .s) (headed .put-at .last .0) (filled .put-tasks .last .0) (lined .put-lines .last .0) (headed .before .before .before .if1 .left) (z .0) (z .1) (z .2) (z .3) (z .4)
-    (headed .put-at .ensures) (filled .put-tasks .ensures) (lined .put-lines .ensures)
+    stored-long (now (start .args .room)) (start .args .s) (headed .put-at .last .0) (filled .put-tasks .last .0) (l .put-lines .last .0) (long (headed .before .before .before)) (z .0) (z .1) (z .2) (z .3) (z .4)
+    (headed .put-at .ensures) (filled .put-tasks .ensures) (lined l)
 
 pub store-spec : {M : Type 1} → statement M
 store-spec =

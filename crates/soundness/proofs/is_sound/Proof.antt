@@ -1,3 +1,4 @@
+use native.Mathlib.Omega.{arith}
 use borrow.Author.Needs.{needs}
 use mathlib.Core.Path.{_≡_}
 use lib.ListN.{length}
@@ -18,7 +19,7 @@ returns-2 c =
     let u = l .before .before in
     let t = u .before in
     let s = t .before .before .before .args .s in
-    sound-is s (t .told-of .result) _ _ _ (t .before .if1 .left) (long (t .before)) (t .told-of .ensures) (u .all-unused .ensures) (l .lines-hold .ensures) (c .delays-hold .ensures)
+    sound-is s (t .told-of .result) _ _ _ (omega arith) (long (t .before)) (t .told-of .ensures) (u .all-unused .ensures) (l .lines-hold .ensures) (c .delays-hold .ensures)
 
 pub is-sound-spec : {M : Type 1} → statement M
 is-sound-spec = tie.close (tie.spec returns (λ c κs. search needs) (λ c κs. search needs) (λ c κs. search needs) (λ c κs. search needs) returns-2)

@@ -62,16 +62,27 @@ turn c b e =
 returns-2 : tie.Need-returns-2 Inv-loop μ-loop
 returns-2 c = sym (turn (c .before) false (c .if2 .left))
 
-loop-again : tie.Need-loop-again Inv-loop μ-loop
-loop-again c =
-    let h = c .before .before in
-    let j = h .before in
+-- a task that is to be met, and not due before the last, is passed: the walk goes on behind it
+abbrev Passed : tie.Then2 Inv-loop μ-loop → Type 0
+Passed c =
+    let l = c .before .before .before .before .before .before .before .before in let s = l .before .before .args .t1 in
+    let t = getD (s .delays) (l .loop .i) 0 in
+    holdsIn (leftOf (view s)) (l .before .before .args .word) (s .delays)
+    ≡ walked (leftOf (view s)) (withoutMark (l .loop .rest) t) (leftOf (view s) t) (drop (l .loop .i + 1) (s .delays))
+
+passed : (c : tie.Then2 Inv-loop μ-loop) → Passed c
+passed c = turn (c .before) true (c .if2 .taken)
+
+-- where that is so, the next turn begins with its ticks left as the last
+goes-on : ((c : tie.Then2 Inv-loop μ-loop) → Passed c) → tie.Need-loop-again Inv-loop μ-loop
+goes-on p c =
+    let j = c .before .before .before in
     let l = j .before .before .before .before .before .before in let s = l .before .before .args .t1 in
     let v = l .loop .inv in (
       omega arith,
       v .1,
       v .2,
-      turn h true (c .before .if2 .taken) ∙ (λ z. walked (leftOf (view s)) (sym (c .without .ensures) z) (sym (found j) z) (drop (l .loop .i + 1) (s .delays))),
+      p (c .before) ∙ (λ z. walked (leftOf (view s)) (sym (c .without .ensures) z) (sym (found j) z) (drop (l .loop .i + 1) (s .delays))),
     )
 
 returns-3 : tie.Need-returns-3 Inv-loop μ-loop
@@ -84,4 +95,4 @@ pub delays-hold-spec : {M : Type 1} → statement M
 delays-hold-spec =
     tie.close
     (tie.spec Inv-loop μ-loop (λ c κs. search needs) loop-holds (λ c. omega arith) (λ c κs. search needs) (λ c κs. search needs) returns (λ c κs. search needs) (λ c. omega arith) (λ c. search needs)
-    (λ c κs. search needs) (λ c κs. search needs) (λ c κs. search needs) returns-2 (λ c. search needs) (λ c. search needs) loop-again (λ c κs. search needs) returns-3)
+    (λ c κs. search needs) (λ c κs. search needs) (λ c κs. search needs) returns-2 (λ c. search needs) (λ c. search needs) (goes-on passed) (λ c κs. search needs) returns-3)
