@@ -7,7 +7,8 @@ use Rattle.calls.specs.declared.CallMode.{CallMode}
 use Rattle.calls.specs.declared.CallMode.the-variants.{Simple, Timed, Conditional}
 use Rattle.calls.specs.declared.SelectMode.{SelectMode}
 use Rattle.calls.specs.declared.SelectMode.the-variants.{Plain, Delay, Else}
-use Rattle.script.specs.CallText.{modeText, callModeText, selectModeText}
+use Rattle.script.specs.CallText.{callModeText, selectModeText}
+use Rattle.script.specs.WordTable.{modeText}
 
 pub call-mode-text : (m : CallMode)
     → modeText (32 ∷ 116 ∷ 105 ∷ 109 ∷ 101 ∷ 100 ∷ []) (32 ∷ 99 ∷ 111 ∷ 110 ∷ 100 ∷ 105 ∷ 116 ∷ 105 ∷ 111 ∷ 110 ∷ 97 ∷ 108 ∷ []) (callMode m) (callTime m)

@@ -18,7 +18,8 @@ use Rattle.calls.specs.declared.SelectMode.{SelectMode}
 use Rattle.calls.specs.declared.Call as C
 use Rattle.calls.specs.declared.Call.the-variants.{Create, Delay, Call, Select, End, Finish, Tick, Advance}
 use Rattle.text.specs.Text.{decimal}
-use Rattle.script.specs.CallText.{spaced, spacedTime, entries, openText, modeText, callModeText, selectModeText, textOf}
+use Rattle.script.specs.CallText.{spaced, spacedTime, entries, openText, callModeText, selectModeText, textOf}
+use Rattle.script.specs.WordTable.{modeText}
 use Rattle.script.specs.Words.{wordsFrom, wordsOf}
 use Rattle.script.specs.Says.{Fits}
 use Rattle.script.proofs.Digits.{AllPlain, decimal-plain, decimal-some, decimal-short}

@@ -9,7 +9,7 @@ use lib.ListN.{getD}
 use borrow.Author.Tests.{leb-true}
 use Rattle.lists.specs.Lists.{every, downFrom}
 use Rattle.lists.proofs.Tests.{and-first, and-second}
-use Rattle.script.specs.CallText.{starts}
+use Rattle.script.specs.WordTable.{starts}
 use Rattle.script.proofs.Sets.{each}
 
 -- what stands behind the k-th word begins inside the table, and not before that word

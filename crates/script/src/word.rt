@@ -1,6 +1,6 @@
 // The words of the texts of calls, each by its place in a table.
 ghost use Prim.Native.Nat.{_<_};
-ghost use Rattle.script.specs.CallText.{wordOf};
+ghost use Rattle.script.specs.WordTable.{wordOf};
 ghost use Rattle.script.specs.Rows.{Grown};
 use crate::row::Row;
 use text::put_bytes;

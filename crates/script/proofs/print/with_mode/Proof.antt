@@ -1,4 +1,4 @@
-use Rattle.script.specs.CallText.{modeText}
+use Rattle.script.specs.WordTable.{modeText}
 use Rattle.script.proofs.Growing.{none-grown}
 use mir.Val.{toZ, ofZ}
 use mir.Syntax.{w32}
