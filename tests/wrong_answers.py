@@ -1,13 +1,15 @@
 """wrong_answers.py texts | table [--write] DOC | logs [CRATE..]: the wrong answers of crates/*/must-fail/*.edit.
 
-An edit replaces one or more texts of its crate, each by a wrong one; the comment above each names the wrong answer, and above a definition a
-line `law: FILE NAME` names the theorem that refuses it.
-  texts   each replaced text stands once in its file, in the body of a function or in a definition, and has its comment; an edit changes a
-          function once, and no law refuses two of its definitions; and every public function whose contract determines its answer has two
-          wrong answers of its own
+An edit replaces one or more texts of its crate, each by a wrong one. The comment above a text names the wrong answer. Above a definition a
+line `law: FILE NAME` names the theorem that refuses it; above a text of a function a line `at: NAME` may name the declaration of the
+function's own proof that does, and must where the edit has two wrong answers of one function.
+  texts   each replaced text stands once in its file, in the body of a function or in a definition, and has its comment; no two wrong answers
+          of an edit are refused by the same law or at the same declaration; and every public function whose contract determines its answer
+          has two wrong answers of its own, or one and two in its parts if its code is walked by hand
   table   the table of DOC between its two marks lists them all (--write puts it there)
-  logs    in what the prover said of the edits (of the named crates), each changed function was refused by itself, at a fact, and each
-          changed definition by its law, at a fact
+  logs    in what the prover said of the edits (of the named crates), each changed function was refused by itself, at a fact and at the
+          declaration that is named, and each changed definition by its law, at a fact
+tests/alone tries by itself each of the wrong answers of a function that share an edit.
 """
 import re
 import sys
@@ -16,12 +18,12 @@ from pathlib import Path
 
 from unique_names import public_functions, without_answer
 
-Wrong = namedtuple("Wrong", "edit crate file says old where law")
+Wrong = namedtuple("Wrong", "edit crate file says old new where law at")
 BEGIN, END = "<!-- wrong answers: made by tests/wrong_answers.py -->", "<!-- end of the wrong answers -->"
 FUNCTION = re.compile(r'^\s*(?:#\[no_mangle\] )?(?:pub(?:\(crate\))? )?(?:extern "C" )?fn (\w+)')
 CLAUSE = re.compile(r"^\s*(?:requires|ensures|ghost)\b")
 # Public functions whose code is walked by hand: a wrong answer in their own body is refused because the code is not the one that was walked,
-# right or wrong. So each has two more in the parts that it rests on, which are refused at a fact.
+# right or wrong. So one is enough there, and each has two more in the parts that it rests on, which are refused at a fact.
 WALKED = {
     "workspace::fresh": ["lent::place_after", "steps::made"],
     "workspace::request": ["lent::first_fit", "steps::cut_at", "steps::request_refusal"],
@@ -48,14 +50,38 @@ def function_of(file, text, at):
     return "::".join((modules if modules not in (["lib"], ["main"]) else []) + names[-1:]) if names else None
 
 
+def proof_of(where):
+    """The proof file of a function."""
+    return "proofs/" + where.replace("::", "/") + "/Proof.antt"
+
+
+def refusing(wrong):
+    """What refuses a wrong answer: a law, a declaration of the changed function's proof, or that proof."""
+    return " ".join(wrong.law) if wrong.law else f"{wrong.where} {wrong.at}" if wrong.at else wrong.where
+
+
+def amiss_with(wrong):
+    """What is amiss with one wrong answer."""
+    if not wrong.where:
+        yield "in no function's body"
+    if (wrong.law is None) != wrong.file.startswith("src/"):
+        yield "a law is named for a definition, and for nothing else"
+    if wrong.at and wrong.where:
+        proof = Path("crates") / wrong.crate / proof_of(wrong.where)
+        if not proof.exists() or not re.search(rf"(?m)^(?:pub )?{re.escape(wrong.at)} :", proof.read_text()):
+            yield f"{wrong.at} is not declared in {proof}"
+
+
 def replacements(edit):
     """The wrong answers of an edit, and what is amiss with it."""
-    crate, file, says, law, texts, found, amiss = edit.parts[1], None, None, None, {}, [], []
+    crate, file, named, texts, found, amiss = edit.parts[1], None, [], {}, [], []
     for line in edit.read_text().splitlines():
         if line.startswith("#"):
-            says = line[1:].strip()
+            named.append({"says": line[1:].strip(), "law": None, "at": None})
         elif line.startswith("law: "):
-            law = tuple(line.split()[1:])
+            named[-1]["law"] = tuple(line.split()[1:])
+        elif line.startswith("at: "):
+            named[-1]["at"] = line[4:]
         elif line.startswith("file: "):
             file = line[6:]
             texts.setdefault(file, (Path("crates") / crate / file).read_text())
@@ -63,19 +89,17 @@ def replacements(edit):
             old, text = line[5:], texts[file]
             if text.count(old) != 1:
                 amiss.append(f"{edit}: its text stands {text.count(old)} times in {file}: {old.strip()}")
-            where = function_of(file, text, text.find(old)) if file.startswith("src/") else file
-            found.append(Wrong(edit, crate, file, says, old, where, law))
-            if not says:
+            if not named:
                 amiss.append(f"{edit}: no comment above: {old.strip()}")
-            if not where:
-                amiss.append(f"{edit}: in no function's body: {old.strip()}")
-            if (law is None) != file.startswith("src/"):
-                amiss.append(f"{edit}: a law is named for a definition, and for nothing else: {old.strip()}")
-            says = law = None
         elif line.startswith("new:"):
-            texts[file] = texts[file].replace(old, line[4:].removeprefix(" "), 1)
-    places = [w.where if w.law is None else " ".join(w.law) for w in found]
-    amiss += [f"{edit}: {place} stands for two wrong answers" for place in sorted(set(places)) if places.count(place) > 1]
+            new, text = line[4:].removeprefix(" "), texts[file]
+            where = function_of(file, text, text.find(old)) if file.startswith("src/") else file
+            found += (Wrong(edit=edit, crate=crate, file=file, old=old, new=new, where=where, **name) for name in named)
+            texts[file], named = text.replace(old, new, 1), []
+    amiss += (f"{edit}: {why}: {wrong.old.strip()}" for wrong in found for why in amiss_with(wrong))
+    by = [refusing(wrong) for wrong in found]
+    twice = {wrong.where for wrong in found if not wrong.law and not wrong.at and [w.where for w in found].count(wrong.where) > 1}
+    amiss += [f"{edit}: {place} refuses two wrong answers" for place in sorted({b for b in by if by.count(b) > 1} | twice)]
     return found, amiss
 
 
@@ -98,8 +122,10 @@ def texts():
             continue
         for function in ("::".join(f) for f in public_functions(crate)):
             own = [w for w in found if (w.crate, w.where) == (crate, function)]
-            if f"{crate}::{function}" not in unbound and len(own) < 2:
-                amiss.append(f"{crate}::{function}: {len(own)} wrong answers in crates/{crate}/must-fail, not two")
+            name = f"{crate}::{function}"
+            least = 1 if name in WALKED else 2
+            if name not in unbound and len(own) < least:
+                amiss.append(f"{name}: {len(own)} wrong answers in crates/{crate}/must-fail, not {least}")
     for function, parts in WALKED.items():
         crate = function.split("::")[0]
         if len([w for w in found if w.crate == crate and w.where in parts]) < 2:
@@ -137,14 +163,15 @@ def is_walked(wrong):
 
 
 def refused(log, wrong):
-    """What was changed was refused at a fact: a definition by its law, a function by its own proof, or by the search that stands in for one."""
-    if not wrong.law and re.search(rf"(?m)^fn {wrong.crate}::{wrong.where}: no proof: .*`search` does not close", log):
+    """What was changed was refused at a fact: a definition by its law, a function by its own proof, at the named declaration of it if one is, or by
+    the search that stands in for a proof."""
+    if not wrong.law and not wrong.at and re.search(rf"(?m)^fn {wrong.crate}::{wrong.where}: no proof: .*`search` does not close", log):
         return True
-    proof = wrong.law[0] if wrong.law else "proofs/" + wrong.where.replace("::", "/") + "/Proof.antt"
+    proof = wrong.law[0] if wrong.law else proof_of(wrong.where)
     said = re.findall(rf"(?m)^\S*/{proof}:\d+:\d+: error: `([^`]*)`: (.*(?:\n  .*)*)", log)
     facts = {part for part, why in said if FACT.search(why)}
-    if wrong.law:
-        return wrong.law[1] in facts
+    if wrong.law or wrong.at:
+        return (wrong.at or wrong.law[1]) in facts
     return bool(facts if is_walked(wrong) else facts - CODE)
 
 

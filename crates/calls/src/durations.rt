@@ -1,5 +1,6 @@
 // Durations: signed numbers of ticks, and the 32 bits that stand for them.
 ghost use mathlib.Core.Path.{_≡_};
+ghost use Prim.Native.Nat.{_+_, _*_};
 ghost use Rattle.calls.specs.Duration as D;
 
 // The ticks that a duration asks to wait: zero and below mean the same.
@@ -9,11 +10,18 @@ pub fn ticks(d: i32) -> u32
     if d < 0 { 0 } else { d as u32 }
 }
 
+// Two bytes as a number, high byte first.
+pub(crate) fn half(a: u8, b: u8) -> u32
+    ensures { λ r. ⌜ r ≡ a * 256 + b ⌝ }
+{
+    (a as u32) * 256 + (b as u32)
+}
+
 // Four bytes as a number, high byte first.
 pub fn word(a: u8, b: u8, c: u8, d: u8) -> u32
     ensures { λ r. ⌜ r ≡ D.four a b c d ⌝ }
 {
-    (a as u32) * 16777216 + (b as u32) * 65536 + (c as u32) * 256 + (d as u32)
+    half(a, b) * 65536 + half(c, d)
 }
 
 // The duration that 32 bits stand for, two's complement.

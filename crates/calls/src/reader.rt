@@ -1,7 +1,7 @@
 // The reader of call records.
 ghost use mathlib.Core.Path.{_≡_};
 ghost use mathlib.Core.Bool.{true, false};
-ghost use Prim.Native.Nat.{_+_, _*_, _≤_};
+ghost use Prim.Native.Nat.{_+_, _≤_};
 ghost use lib.ListN.{length};
 ghost use Rattle.calls.specs.Record.{fourFrom, lengthOf, isUnknown};
 ghost use Rattle.calls.specs.Reading.{callModeOf, selectModeOf, readOf, refusalOf, countOf, refusalFor, countFor};
@@ -11,6 +11,7 @@ use super::CallMode;
 use super::Read;
 use super::SelectMode;
 use super::durations::duration;
+use super::durations::half;
 use super::durations::word;
 
 // The four bytes of s from index i.
@@ -19,13 +20,6 @@ fn four_from(s: &[u8], i: usize) -> u32
     ensures { λ r. ⌜ r ≡ fourFrom (now (s .entry)) i ⌝ }
 {
     word(s[i], s[i + 1], s[i + 2], s[i + 3])
-}
-
-// Two bytes as a number, high byte first.
-fn half(a: u8, b: u8) -> usize
-    ensures { λ r. ⌜ r ≡ a * 256 + b ⌝ }
-{
-    (a as usize) * 256 + (b as usize)
 }
 
 fn is_unknown(tag: u8) -> bool
@@ -60,7 +54,7 @@ fn bad_frame(s: &[u8]) -> bool
     }
     let tag = s[0];
     let n = length_of(tag);
-    is_unknown(tag) | (half(s[1], s[2]) != n) | (s.len() - 3 < n)
+    is_unknown(tag) | (half(s[1], s[2]) as usize != n) | (s.len() - 3 < n)
 }
 
 // Whether a mode's number and duration make no mode.

@@ -7,8 +7,8 @@ use Rattle.rules.specs.State.{running}
 use Rattle.rules.specs.Sound.{sound}
 use Rattle.rules.specs.Step.{openEntry, queuedOn}
 use Rattle.rules.specs.Whole.{stepWhole}
-use Rattle.cases.specs.Cases.{holds, cases, sample}
+use Rattle.cases.specs.Cases.{stepOf, holds, cases, sample}
 
-pub all-hold : T (every holds cases)
+pub all-hold : T (every (holds stepOf) cases)
 unfolding cases sample sound stepWhole running openEntry queuedOn pad padTo
 all-hold = tt

@@ -1,2 +1,3 @@
 pub mod AllHold
 pub mod LargeAdvance
+pub mod Rejected

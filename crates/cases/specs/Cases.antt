@@ -25,11 +25,15 @@ use Rattle.calls.specs.declared.Call.the-variants.{Create, Delay, Call, Select,
 abbrev pub stepOf : Supervisor → C.Call → Whole
 stepOf s c = stepWhole s c 124
 
--- what the last of the calls gives
-abbrev pub lastOf : Supervisor → List C.Call → Whole
-lastOf s [] = record { refusal = 0; answer = none; ended = []; next = 0; state = s }
-lastOf s (c ∷ []) = stepOf s c
-lastOf s (c ∷ d ∷ cs) = lastOf (stepOf s c .state) (d ∷ cs)
+-- nothing is answered
+abbrev pub idle : Supervisor → Whole
+idle s = record { refusal = 0; answer = none; ended = []; next = 0; state = s }
+
+-- what the last of the calls gives, by any supervisor's step
+abbrev pub lastOf : (Supervisor → C.Call → Whole) → Supervisor → List C.Call → Whole
+lastOf step s [] = idle s
+lastOf step s (c ∷ []) = step s c
+lastOf step s (c ∷ d ∷ cs) = lastOf step (step s c .state) (d ∷ cs)
 
 -- ── a row ──
 
@@ -78,8 +82,8 @@ sameItems (i ∷ is) (j ∷ js) = sameItem i j && sameItems is js
 abbrev pub gives : Whole → Row → Bool
 gives w r = prints w (r .line) && eqb (w .state .clock) (r .clock) && sameItems (w .ended) (r .ended)
 
-abbrev pub holds : Row → Bool
-holds r = gives (lastOf (pack (empty (r .start))) (r .calls)) r
+abbrev pub holds : (Supervisor → C.Call → Whole) → Row → Bool
+holds step r = gives (lastOf step (pack (empty (r .start))) (r .calls)) r
 
 -- ── the table ──
 

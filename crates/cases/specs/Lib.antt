@@ -1,2 +1,3 @@
--- The starred cases and the sample.
+-- The starred cases and the sample, and supervisors that they reject.
 pub mod Cases
+pub mod Rejects

@@ -39,8 +39,11 @@ of-runner st (suc t) f e z = rw (← e)
 pub by-outcome : (s : Supervisor) {o q : Outcome} {r : Taken} → o ≡ q → r ≡ takenOf s q → r ≡ takenOf s o
 by-outcome s e h = h ∙ sym (ap (takenOf s) e)
 
+pub by-ended : (x y : List ℕ) {o q : Outcome} → o ≡ q → x ≡ roomAfter y (endedBy q) → x ≡ roomAfter y (endedBy o)
+by-ended x y e k = k ∙ sym (ap (λ (o : Outcome). roomAfter y (endedBy o)) e)
+
 pub by-both : (s : Supervisor) {o q : Outcome} {r : Taken} (x y : List ℕ) → o ≡ q → r ≡ takenOf s q → x ≡ roomAfter y (endedBy q) → (r ≡ takenOf s o) × (x ≡ roomAfter y (endedBy o))
-by-both s x y e h k = (h ∙ sym (ap (takenOf s) e), k ∙ sym (ap (λ (o : Outcome). roomAfter y (endedBy o)) e))
+by-both s x y e h k = (by-outcome s e h, by-ended x y e k)
 
 -- the state of an answer
 pub answers : (s m : Supervisor) (st : State) (a : Item) (l : List Item) {r : Taken} → r ≡ record { state = m; refusal = 0; task = a .task; result = a .result; entry = a .entry; partner = a .partner; ended = length l } → m ≡ pack st → r ≡ takenOf s (took st a l)

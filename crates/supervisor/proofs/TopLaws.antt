@@ -10,7 +10,7 @@ use lib.ListN.{length}
 use lib.Seq.{length-take-le}
 use Rattle.rules.specs.State.{created, taskOf, running, isCompleted}
 use Rattle.rules.specs.Step.{Outcome, refused, took, takeCall, roomAfter, SHORT-ROOM, BAD-STATE}
-use Rattle.rules.specs.Whole.{Typed, view, pack, Whole, soundWhole, decline, done, stepWhole, steppedOf}
+use Rattle.rules.specs.Whole.{Typed, view, Whole, soundWhole, decline, done, stepWhole, answerOf, steppedOf}
 use Rattle.rules.specs.declared.Task.{Task}
 use Rattle.rules.specs.declared.Supervisor.{Supervisor}
 use Rattle.calls.specs.declared.Call.the-variants.{Call}
@@ -18,6 +18,7 @@ use Rattle.rules.proofs.StepSound.{Kept, call-sound}
 use Rattle.rules.proofs.WholeLaws.{view-pack, parts, whole-packed, sound-view}
 use Rattle.supervisor.specs.Taken.{Stands, takenOf, endedBy}
 use Rattle.supervisor.specs.declared.answers.Taken.{Taken}
+use Rattle.rules.specs.declared.Answer.{Answer}
 use Rattle.rules.specs.declared.Stepped.{Stepped}
 use Rattle.rules.specs.declared.Known.{Known}
 use Rattle.rules.specs.Questions.{callableWhole}
@@ -42,11 +43,15 @@ module _ (s : Supervisor) (c : C.Call) (n : ℕ) where
 pub by-whole : {w q : Whole} {r : Stepped} (x y : List ℕ) → w ≡ q → r ≡ steppedOf q → x ≡ roomAfter y (q .ended) → (r ≡ steppedOf w) × (x ≡ roomAfter y (w .ended))
 by-whole x y e h k = (h ∙ sym (ap steppedOf e), k ∙ sym (ap (λ (w : Whole). roomAfter y (w .ended)) e))
 
+pub state-is : (s : Supervisor) (o : Outcome) (k : Taken) → k ≡ takenOf s o → k .state ≡ done s o .state
+state-is s (refused r) k e = ap (λ (k : Taken). k .state) e
+state-is s (took st a l) k e = ap (λ (k : Taken). k .state) e
+
 -- the dispatched task is worked out on the struct of the next state
-pub next-is : (s : Supervisor) (o : Outcome) (k : Taken) (n : ℕ) → Kept o → k ≡ takenOf s o → n ≡ running (view (k .state))
-    → _≡_ {A = Stepped} (record { state = k .state; answer = record { refusal = k .refusal; result = k .result; task = k .task; entry = k .entry; partner = k .partner; ended = k .ended; next = n } }) (steppedOf (done s o))
-next-is s (refused r) k n h ek en = rw (en, ek)
-next-is s (took st a l) k n h ek en = rw (en, ek) (ap (λ (m : ℕ). record { state = pack st; answer = record { refusal = 0; result = a .result; task = a .task; entry = a .entry; partner = a .partner; ended = length l; next = m } }) (ap running (view-pack st h)))
+pub answer-is : (s : Supervisor) (o : Outcome) (k : Taken) (n : ℕ) → Kept o → k ≡ takenOf s o → n ≡ running (view (k .state))
+    → _≡_ {A = Answer} (record { refusal = k .refusal; result = k .result; task = k .task; entry = k .entry; partner = k .partner; ended = k .ended; next = n }) (answerOf (done s o))
+answer-is s (refused r) k n h ek en = rw (en, ek)
+answer-is s (took st a l) k n h ek en = rw (en, ek) (ap (λ (m : ℕ). record { refusal = 0; result = a .result; task = a .task; entry = a .entry; partner = a .partner; ended = length l; next = m }) (ap running (view-pack st h)))
 
 pub ended-is : (s : Supervisor) (o : Outcome) → endedBy o ≡ done s o .ended
 ended-is s (refused r) = refl

@@ -121,10 +121,6 @@ mapped-long f l n h = sym (length-map l f) ∙ h
 
 -- ---- the move, from what its parts answer
 
-pub with-in : (s : Supervisor) (t : ℕ) (x : Task) → (t ≡ 0 → ⊥)
-    → record { clock = s .clock; created = s .created; tasks = set (s .tasks) (t - 1) x; ready = s .ready; callers = s .callers; held = s .held; delays = s .delays } ≡ withTask s t x
-with-in s t x h = ap (with-tasks s) (set-in (s .tasks) x t h)
-
 pub with-out : (s : Supervisor) (t : ℕ) (x : Task) → length (s .tasks) ≡ 31 → isNumber t ≡ false → s ≡ withTask s t x
 with-out s t x l e = ap (with-tasks s) (set-none (s .tasks) x t l e)
 
@@ -137,6 +133,17 @@ retime-due s t d n l keys long k e em q =
     -- a number above 31 is nobody's, and has no ticks left
     none : (x : ℕ) → 32 ≤ x → leftOf s x ≡ 0
     none x h = ap (λ (y : Task). ticksLeft (s .clock) (y .timer)) (sym (task-out (s .tasks) (s .created) x (omega arith)))
+
+-- the task that moves, its place and its time, as a call of `moved` was given them
+module _ {r : Supervisor} (s : Supervisor) (t : ℕ) (p : Place) (w : Timer) where
+  abbrev pub taskGiven : r ≡ movedOf s t p w → ℕ
+  taskGiven e = t
+
+  abbrev pub placeGiven : r ≡ movedOf s t p w → Place
+  placeGiven e = p
+
+  abbrev pub timerGiven : r ≡ movedOf s t p w → Timer
+  timerGiven e = w
 
 pub moved-law :
     (s : Supervisor) (t : ℕ) (p : Place) (w : Timer) (n : Supervisor) (x y : Task) (b1 b2 b3 : Bool) (r c h d : List ℕ) → x ≡ taskOf (view s) t → y ≡ placed x p w → n ≡ withTask s t y

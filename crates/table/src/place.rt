@@ -90,7 +90,7 @@ pub fn is_due(now: u32, w: Timer) -> bool
     ensures { λ r. ⌜ r ≡ isDue now w ⌝ }
 {
     match w {
-        Timer::Off => false,
+        Timer::Off => false, // no tick is its time
         Timer::Due(d) => d == now,
     }
 }

@@ -16,14 +16,13 @@ use Rattle.workspace.specs.declared.Done.{Done}
 use Rattle.workspace.specs.declared.Test.the-variants.{HasUnits}
 use Rattle.lists.specs.Lists.{every}
 use Rattle.workspace.specs.Rules.{none, isNone}
-use Rattle.workspace.specs.Operations.{Outcome, freshOf, requestOf, releaseOf, blocksAfter, freeAfter, answerOf, unused}
-use Rattle.workspace.specs.Owning.{tablesAs, ownedAfter, ownedFresh}
+use Rattle.workspace.specs.Operations.{Outcome, blocksAfter, freeAfter, answerOf}
+use Rattle.workspace.specs.Owning.{tablesAs}
 use Rattle.workspace.specs.Places.{placeOf, passesOf}
 use Rattle.workspace.specs.Seen.{tableOf, laid, seenAs, lookOf}
-use Rattle.workspace.specs.Steps.{freshSeen, requestSeen, releaseSeen}
 use Rattle.workspace.proofs.PlaceLaws.{over-same}
 use Rattle.workspace.proofs.SeenLaws.{replicate-length, under, under-length}
-use Rattle.workspace.proofs.Bridge.{Says, fresh-says, request-says, release-says}
+use Rattle.workspace.proofs.Bridge.{Says}
 
 -- all of a table of 32 places is seen
 table-32 : (l : List Stretch) → length l ≡ 32 → _≡_ {A = Table} (record { places = l; clear = true }) (tableOf l)
@@ -41,18 +40,11 @@ laid-32 : (t : Table) (l : List Stretch) → length l ≡ 32 → length (t .plac
 unfolding laid
 laid-32 t l h k = sym (over-same (under (t .clear) l) (t .places) (under-length (t .clear) l ∙ h ∙ sym k))
 
-module _ (a : Tables) (s : Look) (d : Done) (r : Tables) (hb : length (a .blocks) ≡ 32) (hf : length (a .free) ≡ 32) (kb : length (d .blocks .places) ≡ 32) (kf : length (d .free .places) ≡ 32) (er : r ≡ tablesAs (d .blocks .places) (d .free .places) (d .answer)) where
-  left-is : (u : Used) (o : Outcome) → Says d (a .blocks) (a .free) u o → r ≡ record { blocks = blocksAfter (a .blocks) o; free = freeAfter (a .free) o; answer = answerOf u o }
-  left-is u o w = er ∙ (λ i. record { blocks = (laid-32 (d .blocks) (a .blocks) hb kb ∙ w .writes) i; free = (laid-32 (d .free) (a .free) hf kf ∙ w .frees) i; answer = w .answers i })
-
-  pub fresh-left : s ≡ lookOf (a .blocks) (a .free) 0 → d ≡ freshSeen s unused 0 → r ≡ ownedFresh a
-  unfolding ownedFresh
-  fresh-left es ed = left-is unused (freshOf (a .blocks) (a .free)) (subst (λ (z : Done). Says z (a .blocks) (a .free) unused (freshOf (a .blocks) (a .free))) (sym (ed ∙ ap (λ (y : Look). freshSeen y unused 0) es)) (fresh-says (a .blocks) (a .free)))
-
-  pub request-left : (n : ℕ) → s ≡ lookOf (a .blocks) (a .free) n → d ≡ requestSeen s (a .answer .used) n → r ≡ ownedAfter a (requestOf (a .blocks) (a .free) (a .answer .used) n)
-  unfolding ownedAfter
-  request-left n es ed = left-is (a .answer .used) (requestOf (a .blocks) (a .free) (a .answer .used) n) (subst (λ (z : Done). Says z (a .blocks) (a .free) (a .answer .used) (requestOf (a .blocks) (a .free) (a .answer .used) n)) (sym (ed ∙ ap (λ (y : Look). requestSeen y (a .answer .used) n) es)) (request-says (a .blocks) (a .free) (a .answer .used) n))
-
-  pub release-left : (n : ℕ) → s ≡ lookOf (a .blocks) (a .free) 0 → d ≡ releaseSeen s (a .answer .used) n → r ≡ ownedAfter a (releaseOf (a .blocks) (a .free) (a .answer .used) n)
-  unfolding ownedAfter
-  release-left n es ed = left-is (a .answer .used) (releaseOf (a .blocks) (a .free) (a .answer .used) n) (subst (λ (z : Done). Says z (a .blocks) (a .free) (a .answer .used) (releaseOf (a .blocks) (a .free) (a .answer .used) n)) (sym (ed ∙ ap (λ (y : Look). releaseSeen y (a .answer .used) n) es)) (release-says (a .blocks) (a .free) (a .answer .used) n))
+-- what is done to tables that are seen, and left of them, is what the outcome says
+module _ (a : Tables) (d : Done) (hb : length (a .blocks) ≡ 32) (hf : length (a .free) ≡ 32) (kb : length (d .blocks .places) ≡ 32) (kf : length (d .free .places) ≡ 32) where
+  pub left-is : (F : Look → Done) {u : Used} {o : Outcome} {s look : Look} {r : Tables} → Says (F look) (a .blocks) (a .free) u o → s ≡ look → d ≡ F s
+      → (r .blocks ≡ d .blocks .places) × (r .free ≡ d .free .places) → r .answer ≡ d .answer
+      → r ≡ tablesAs (blocksAfter (a .blocks) o) (freeAfter (a .free) o) (answerOf u o)
+  left-is F {u = u} {o = o} says es ed et ea =
+      let w : Says d (a .blocks) (a .free) u o = subst (λ (z : Done). Says z (a .blocks) (a .free) u o) (sym (ed ∙ ap F es)) says in
+      λ i. tablesAs ((et .0 ∙ laid-32 (d .blocks) (a .blocks) hb kb ∙ w .writes) i) ((et .1 ∙ laid-32 (d .free) (a .free) hf kf ∙ w .frees) i) ((ea ∙ w .answers) i)

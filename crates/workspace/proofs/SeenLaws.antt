@@ -6,7 +6,7 @@ use native.Mathlib.Nat.{not-suc-le-zero, le-of-suc-le-suc}
 use native.Mathlib.Omega.{arith}
 use mathlib.Core.Bool.{Bool, true, false, _&&_, _||_}
 use mathlib.Core.List.{List, [], _∷_, _++_}
-use lib.ListN.{length, getD, set, take, replicate, List·getD-eq-default}
+use lib.ListN.{length, getD, set, take, replicate}
 use lib.Dec.{ltb}
 use borrow.Author.Tests.{ltb-true, ltb-false}
 use Rattle.workspace.specs.declared.Stretch.{Stretch}
@@ -70,7 +70,7 @@ laid-at t l i long h =
     let u : length (under (t .clear) l) ≡ length l = under-length (t .clear) l in
     by-bool (ltb i 32)
     (λ e. let k : i < 32 = ltb-true i 32 e in rw e (over-in (under (t .clear) l) (t .places) i (omega (arith, u, h)) (omega (arith, long, k))))
-    (λ e. let k : 32 ≤ i = ltb-false i 32 e in rw e (over-out (under (t .clear) l) (t .places) i (omega (arith, long, k)) ∙ under-at (t .clear) l i ∙ ap (λ (x : Stretch). if t .clear then x else getD l i none) (sym (List·getD-eq-default (t .places) none {n = i} (omega (arith, long, k))))))
+    (λ e. let k : 32 ≤ i = ltb-false i 32 e in rw e (over-out (under (t .clear) l) (t .places) i (omega (arith, long, k)) ∙ under-at (t .clear) l i))
 
 -- ---- a table that is written place by place
 pub lay-next : (t : Table) (l : List Stretch) (i : ℕ) → length (t .places) ≡ 32 → i < length l

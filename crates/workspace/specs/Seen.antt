@@ -20,9 +20,9 @@ tableOf l = record { places = over (replicate 32 none) l; clear = every isNone (
 abbrev pub noteOf : Table → ℕ → Stretch → Table
 noteOf t i x = record { places = set (t .places) i x; clear = t .clear && (ltb i 32 || isNone x) }
 
--- what is to stand at place i, where x stands: behind the 32 places nothing stands
+-- what is to stand at place i, where x stands: behind the 32 places nothing where those are clear, else x
 abbrev pub placeAfter : Table → ℕ → Stretch → Stretch
-placeAfter t i x = if ltb i 32 || t .clear then getD (t .places) i none else x
+placeAfter t i x = if ltb i 32 then getD (t .places) i none else (if t .clear then none else x)
 
 -- the 32 places are written to a table; those behind become unused, or stay if they were not
 unfoldable pub laid : Table → List Stretch → List Stretch

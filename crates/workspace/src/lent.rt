@@ -66,9 +66,15 @@ pub fn loaded(table: &[Stretch]) -> Table
 pub fn place_after(t: Table, i: usize, x: Stretch) -> Stretch
     ensures { λ r. ⌜ r ≡ placeAfter t i x ⌝ }
 {
-    let places = t.places;
-    if (i < 32) | t.clear {
-        nth(places, i)
+    if i < 32 {
+        let places = t.places;
+        return nth(places, i);
+    }
+    if t.clear {
+        Stretch {
+            start: 0,
+            length: 0,
+        }
     } else {
         x
     }

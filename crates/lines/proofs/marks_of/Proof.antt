@@ -21,6 +21,9 @@ Inv-loop a r₀ i₀ r i = (i ≤ 31) × (length r ≡ 32) × (marked one (line 
 abbrev μ-loop : tie.MeasureT-loop
 μ-loop a r₀ i₀ r i = 31 - i
 
+loop-holds : tie.Need-loop-holds Inv-loop μ-loop
+loop-holds c = (omega arith, refl, refl)
+
 returns : tie.Need-returns Inv-loop μ-loop
 returns c =
     let s = c .before .before .loop in
@@ -44,5 +47,5 @@ returns-2 c =
 pub marks-of-spec : {M : Type 1} → statement M
 marks-of-spec =
     tie.close
-    (tie.spec Inv-loop μ-loop (λ c. (omega arith, refl, refl)) (λ c. search needs) returns (λ c. search needs) (λ c. omega arith)
+    (tie.spec Inv-loop μ-loop loop-holds (λ c. search needs) returns (λ c. search needs) (λ c. omega arith)
     (λ c. omega arith) (λ c. omega arith) loop-again returns-2)

@@ -22,6 +22,9 @@ Inv-loop t keys k a r₀ carry₀ passed₀ i₀ r carry passed i =
 abbrev μ-loop : tie.MeasureT-loop
 μ-loop t keys k a r₀ carry₀ passed₀ i₀ r carry passed i = 31 - i
 
+loop-holds : tie.Need-loop-holds Inv-loop μ-loop
+loop-holds c = (omega arith, fill-none, refl)
+
 returns : tie.Need-returns Inv-loop μ-loop
 returns c =
     let s = c .before .before .loop in
@@ -58,5 +61,5 @@ returns-2 c =
 pub put-by-spec : {M : Type 1} → statement M
 put-by-spec =
     tie.close
-    (tie.spec Inv-loop μ-loop (λ c. (omega arith, fill-none, refl)) (λ c. search needs) (λ c. search needs) returns (λ c κs. search needs)
+    (tie.spec Inv-loop μ-loop loop-holds (λ c. search needs) (λ c. search needs) returns (λ c κs. search needs)
     (λ c. search needs) (λ c. search needs) (λ c. omega arith) (λ c. omega arith) loop-again returns-2)

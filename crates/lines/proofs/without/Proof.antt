@@ -9,11 +9,15 @@ use lib.ListN.{drop, take, length, getD}
 use borrow.Author.Tests.{eq-eqb, ne-eqb}
 use Rattle.lists.specs.Line.{line, pad}
 use Rattle.lists.proofs.Tests.{ways}
+use Rattle.lists.proofs.Parts.{need, When, Taken, Left}
 use Rattle.lists.proofs.Turns.{rest-blank, rest-entry, rest-end, fill-none, fill, filled}
 use Rattle.lists.specs.Lists.{remove}
 use Rattle.lists.proofs.Turns.{pick-on, pick-off}
 use Rattle.lines.proofs.without.Statement.{statement}
 use Rattle.lines.proofs.without.Tie as tie
+
+abbrev isOther : ℕ → ℕ → Bool
+isOther t x = not (eqb x t)
 
 abbrev Inv-loop : tie.InvT-loop
 Inv-loop t a r₀ j₀ i₀ r j i =
@@ -30,27 +34,33 @@ returns c =
     let s = c .before .before .loop in
     simp (s .inv .3, rest-blank (c .before .before .before .args .t1) (s .i) (search needs) (c .if1 .taken)) (sym (filled (s .r) (s .j) (s .inv .2)))
 
-loop-again : tie.Need-loop-again Inv-loop μ-loop
-loop-again c =
-    let n = c .before in
-    let s = n .before .before .loop in
-    let a = n .before .before .before .args in
-    let p : ℕ → Bool = λ x. not (eqb x (a .t)) in
-    let rest = rest-entry (a .t1) (s .i) (search needs) (n .if1 .left) in
-    ways (c .if2 .came)
-    (λ w.
+-- one other than t stays: it comes behind those so far
+stays : When (need (tie.Need-loop-again Inv-loop μ-loop)) (λ c. Taken (c .if2 .came))
+stays c w =
+    let s = c .before .before .before .loop in
+    let a = c .before .before .before .before .args in
+    let rest = rest-entry (a .t1) (s .i) (search needs) (c .before .if1 .left) in
     let room : s .j < 31 = omega arith in (
       omega arith,
       omega arith,
       simp (w .1, w .2) (fill (s .r) (s .j) _ room (s .inv .2)),
-      rw (w .1, w .2) (s .inv .3 ∙ pick-on p (s .r) (s .j) _ _ _ room (s .inv .2) rest (ap not (ne-eqb (getD (a .t1) (s .i) 0) (a .t) (w .0 .taken)))),
-    ))
-    (λ w. (
+      rw (w .1, w .2) (s .inv .3 ∙ pick-on (isOther (a .t)) (s .r) (s .j) _ _ _ room (s .inv .2) rest (ap not (ne-eqb (getD (a .t1) (s .i) 0) (a .t) (w .0 .taken)))),
+    )
+
+-- t leaves: nothing comes behind those so far
+leaves : When (need (tie.Need-loop-again Inv-loop μ-loop)) (λ c. Left (c .if2 .came))
+leaves c w =
+    let s = c .before .before .before .loop in
+    let a = c .before .before .before .before .args in
+    let rest = rest-entry (a .t1) (s .i) (search needs) (c .before .if1 .left) in (
       omega arith,
       omega arith,
       simp (w .1, w .2) (s .inv .2),
-      rw (w .1, w .2) (s .inv .3 ∙ pick-off p _ _ _ (take (s .j) (s .r)) rest (ap not (eq-eqb _ _ (w .0 .left)))),
-    ))
+      rw (w .1, w .2) (s .inv .3 ∙ pick-off (isOther (a .t)) _ _ _ (take (s .j) (s .r)) rest (ap not (eq-eqb (getD (a .t1) (s .i) 0) (a .t) (w .0 .left)))),
+    )
+
+loop-again : tie.Need-loop-again Inv-loop μ-loop
+loop-again c = ways (c .if2 .came) (stays c) (leaves c)
 
 returns-2 : tie.Need-returns-2 Inv-loop μ-loop
 returns-2 c =

@@ -1,11 +1,23 @@
 use borrow.Author.Needs.{needs}
+use mathlib.Core.Path.{refl}
+use mathlib.Core.List.{[]}
 use Rattle.lists.specs.Line.{pad, padTo}
+use Rattle.lists.proofs.Parts.{need, Field}
 use Rattle.supervisor.proofs.empty.Statement.{statement}
 use Rattle.supervisor.proofs.empty.Tie as tie
 
+clock-here : Field (need tie.Need-returns) (λ s. s .clock)
+clock-here c = refl
+
+created-here : Field (need tie.Need-returns) (λ s. s .created)
+created-here c = refl
+
+tasks-here : Field (need tie.Need-returns) (λ s. s .tasks)
+tasks-here c = rw (c .blank-task .ensures)
+
 returns : tie.Need-returns
 unfolding pad padTo
-returns c = rw (c .blank-task .ensures)
+returns c = λ i. record { clock = clock-here c i; created = created-here c i; tasks = tasks-here c i; ready = pad []; callers = pad []; held = pad []; delays = pad [] }
 
 pub empty-spec : {M : Type 1} → statement M
 empty-spec = tie.close (tie.spec (λ c κs. search needs) returns)

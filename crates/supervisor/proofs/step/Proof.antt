@@ -6,10 +6,11 @@ use lib.ListN.{length}
 use mathlib.Core.Bool.{true, false}
 use borrow.Author.Tests.{not-true, not-false, ltb-false}
 use Rattle.rules.specs.Step.{takeCall, roomAfter}
-use Rattle.rules.specs.Whole.{view, soundWhole}
+use Rattle.rules.specs.Whole.{Whole, view, soundWhole, done, stepWhole, answerOf}
 use Rattle.table.proofs.LeafLaws.{mapped-long}
 use Rattle.supervisor.specs.Taken.{Stands}
-use Rattle.supervisor.proofs.TopLaws.{by-whole, ended-is, kept, next-is, stands-of, step-short, step-sound, step-unsound}
+use Rattle.lists.proofs.Parts.{need, Answer, Field}
+use Rattle.supervisor.proofs.TopLaws.{answer-is, by-whole, ended-is, kept, stands-of, state-is, step-short, step-sound, step-unsound}
 use Rattle.supervisor.proofs.step.Statement.{statement}
 use Rattle.supervisor.proofs.step.Tie as tie
 
@@ -49,17 +50,32 @@ returns-2 c =
 take-call-requires : tie.Need-take-call-requires
 take-call-requires c κs = (stands-here (c .before), ltb-false _ 124 (room-here (c .before .before .before)))
 
+-- the call is looked at where both tests have passed
+done-here : (c : tie.Else2) → let a = c .before .before .before .before .before .args in stepWhole (a .s) (a .c) (length (a .room .now)) ≡ done (a .s) (takeCall (view (a .s)) (a .c))
+done-here c = let a = c .before .before .before .before .before .args in step-sound (a .s) (a .c) (length (a .room .now)) (room-here (c .before .before)) (sound-here c)
+
+state-here : Field (need (Answer (need tie.Need-returns-3))) (λ r. r .state)
+state-here c =
+    let k = c .before .before .before .before in
+    let e2 = k .before .before in
+    let a = e2 .before .before .before .before .before .args in
+    state-is (a .s) (takeCall (view (a .s)) (a .c)) (k .take-call .result) (k .take-call .ensures .0) ∙ sym (ap (λ (w : Whole). w .state) (done-here e2))
+
+answer-here : Field (need (Answer (need tie.Need-returns-3))) (λ r. r .answer)
+answer-here c =
+    let k = c .before .before .before .before in
+    let e2 = k .before .before in
+    let a = e2 .before .before .before .before .before .args in
+    answer-is (a .s) (takeCall (view (a .s)) (a .c)) (k .take-call .result) (c .running .result) (kept (a .s) (a .c) (stands-here e2)) (k .take-call .ensures .0) (c .running .ensures) ∙ sym (ap answerOf (done-here e2))
+
 returns-3 : tie.Need-returns-3
 returns-3 c =
     let k = c .before .before .before .before in
     let e2 = k .before .before in
-    let e1 = e2 .before .before in
-    let a = e1 .before .before .before .args in
-    let s = a .s in
-    let o = takeCall (view s) (a .c) in
-    by-whole _ _ (step-sound s (a .c) (length (a .room .now)) (room-here e1) (sound-here e2))
-    (next-is s o (k .take-call .result) (c .running .result) (kept s (a .c) (stands-here e2)) (k .take-call .ensures .0) (c .running .ensures))
-    (k .take-call .ensures .1 ∙ ap (roomAfter (a .room .now)) (ended-is s o))
+    let a = e2 .before .before .before .before .before .args in (
+      λ i. record { state = state-here c i; answer = answer-here c i },
+      k .take-call .ensures .1 ∙ ap (roomAfter (a .room .now)) (ended-is (a .s) (takeCall (view (a .s)) (a .c)) ∙ sym (ap (λ (w : Whole). w .ended) (done-here e2))),
+    )
 
 pub step-spec : {M : Type 1} → statement M
 step-spec =

@@ -1,17 +1,19 @@
-use mathlib.Core.Path.{ap}
-use mathlib.Core.Bool.{true}
+use mathlib.Core.Path.{refl}
 use borrow.Author.Needs.{needs}
-use Rattle.stream.specs.declared.flow.Flow.{Flow}
-use Rattle.stream.specs.declared.window.Window.{Window}
+use Rattle.lists.proofs.Parts.{need, Field}
 use Rattle.stream.proofs.flow.begun.Statement.{statement}
 use Rattle.stream.proofs.flow.begun.Tie as tie
 
--- the flow with this window and nothing that waits
-abbrev from : Window → Flow
-from w = record { window = w; waits = 0; goes = true }
+-- nothing waits to be written
+waits-here : Field (need tie.Need-returns) (λ f. f .waits)
+waits-here c = refl
+
+-- it goes on
+goes-here : Field (need tie.Need-returns) (λ f. f .goes)
+goes-here c = refl
 
 returns : tie.Need-returns
-returns c = ap from (c .unread .ensures)
+returns c = λ i. record { window = c .unread .ensures i; waits = waits-here c i; goes = goes-here c i }
 
 pub begun-spec : {M : Type 1} → statement M
 begun-spec = tie.close (tie.spec (λ c κs. search needs) returns)

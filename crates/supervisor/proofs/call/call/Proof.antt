@@ -4,14 +4,15 @@ use mathlib.Core.Bool.{true, false, _&&_}
 use mathlib.Core.List.{[], _∷_}
 use lib.Dec.{ltb, leb}
 use borrow.Author.Tests.{not-true, not-false}
-use Rattle.rules.specs.Step.{takeCall, item, WAITS}
+use Rattle.rules.specs.Step.{takeCall, took, item, WAITS, ACCEPTED}
 use Rattle.rules.specs.Step as rules
 use Rattle.rules.specs.State.{meet, wake, accepts, isCompleted, isTask, taskOf, placeOf}
 use Rattle.rules.specs.Whole.{view}
 use Rattle.calls.specs.declared.Call.the-variants.{Call}
 use Rattle.rules.proofs.Members.{Runs}
+use Rattle.lists.proofs.Parts.{need, Answer, Room}
 use Rattle.supervisor.proofs.CallLaws.{a-task, call-dead, call-entry, call-goes, call-meets, call-target, enter-none, enter-one, no-task, quiet-busy, woken-met}
-use Rattle.supervisor.proofs.AnswerLaws.{answers, by-both, of-task, quiet-room, runner, stay-answers}
+use Rattle.supervisor.proofs.AnswerLaws.{answers, by-both, by-ended, by-outcome, of-task, quiet-room, runner, stay-answers}
 use Rattle.supervisor.proofs.call.call.Statement.{statement}
 use Rattle.supervisor.proofs.call.call.Tie as tie
 
@@ -60,20 +61,36 @@ returns-4 c =
     let dead = of-task (view (a .s)) (a .g) _ (λ x. isCompleted (x .place)) _ _ (c .before .before .before .before .before .task-of .ensures) (c .before .before .is-completed .ensures) (c .before .if4 .taken) in
     by-both (a .s) _ _ (call-here e1 ∙ call-dead (view (a .s)) _ (a .g) (a .e) (a .m) (task-here e2) (entry-here e3) dead) (stay-answers (a .s) _ [] (c .before .before .before .before .before .before .before .before .before .before .before .pre .0) (c .answered .ensures)) refl
 
-returns-5 : tie.Need-returns-5
-returns-5 c =
-    let e4 = c .before .before .before .before .before .before .before .before .before in
+-- the call meets its acceptor
+meets-here : (c : tie.Then5)
+    → let a = c .before .before .before .before .before .before .before .before .before .before .before .before .args in let v = view (a .s) in let t = c .before .before .before .before .before .before .before .before .before .before .running .result in takeCall v (Call (a .g) (a .e) (a .m)) ≡ took (meet (wake v (a .g)) (a .g) t (a .e)) (item t WAITS 0 0) (item (a .g) ACCEPTED (a .e) t ∷ [])
+meets-here c =
+    let e4 = c .before .before in
     let e3 = e4 .before .before in
     let e2 = e3 .before .before .before in
     let e1 = e2 .before .before in
-    let a = c .before .before .before .before .before .before .before .before .before .before .before .before .before .before .before .before .before .before .before .args in
+    let a = e1 .before .before .before .args in
+    let v = view (a .s) in
+    let meets = of-task v (a .g) _ (λ x. accepts (x .place) (a .e)) _ _ (c .before .before .before .before .before .before .task-of .ensures) (c .before .accepts-at .ensures) (c .if5 .taken) in
+    call-here e1 ∙ call-meets v (e1 .before .running .result) (a .g) (a .e) (a .m) (task-here e2) (entry-here e3) (alive-here e4) meets
+
+answer-here : Answer (need tie.Need-returns-5)
+answer-here c =
+    let m = c .before .before .before .before .before .before .before in
+    let e2 = m .before .before .before .before .before .before .before in
+    let e1 = e2 .before .before in
+    let k = e1 .before .before .before in
+    let a = k .args in
     let v = view (a .s) in
     let t = e1 .before .running .result in
-    let meets = of-task v (a .g) _ (λ x. accepts (x .place) (a .e)) _ _ (c .before .before .before .before .before .before .before .before .before .before .before .before .before .task-of .ensures) (c .before .before .before .before .before .before .before .before .accepts-at .ensures) (c .before .before .before .before .before .before .before .if5 .taken) in
-    let woken = woken-met (a .s) _ _ (a .g) t (a .e) (c .before .before .before .before .before .before .before .before .before .before .before .before .before .before .before .before .before .before .before .pre .0) (task-here e2) (runs-here e1 .high) (c .before .before .moved .ensures) (c .before .met .ensures) in
-    by-both (a .s) _ _ (call-here e1 ∙ call-meets v t (a .g) (a .e) (a .m) (task-here e2) (entry-here e3) (alive-here e4) meets)
-    (answers (a .s) (c .before .met .result) (meet (wake v (a .g)) (a .g) t (a .e)) (item t WAITS 0 0) (item (a .g) 5 (a .e) t ∷ []) (c .answered2 .ensures) woken)
-    (c .before .before .before .before .before .put .ensures)
+    let woken = woken-met (a .s) _ _ (a .g) t (a .e) (k .pre .0) (task-here e2) (runs-here e1 .high) (c .before .before .moved .ensures) (c .before .met .ensures) in
+    by-outcome (a .s) (meets-here m) (answers (a .s) (c .before .met .result) (meet (wake v (a .g)) (a .g) t (a .e)) (item t WAITS 0 0) (item (a .g) ACCEPTED (a .e) t ∷ []) (c .answered2 .ensures) woken)
+
+written-here : Room (need tie.Need-returns-5)
+written-here c = by-ended _ _ (meets-here (c .before .before .before .before .before .before .before)) (c .before .before .before .before .before .put .ensures)
+
+returns-5 : tie.Need-returns-5
+returns-5 c = (answer-here c, written-here c)
 
 call-busy-requires : tie.Need-call-busy-requires
 call-busy-requires c κs = (c .before .before .before .before .before .before .before .before .before .before .before .before .pre .0, runs-here (c .before .before .before .before .before .before .before .before .before) .high)

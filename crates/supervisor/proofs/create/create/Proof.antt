@@ -35,7 +35,7 @@ returns-3 c =
     let m = c .before .with-task in
     by-outcome (a .s) (create-new (view (a .s)) (a .priority) (a .entries) (r .in-range .result) _ (r .in-range .ensures) (e1 .if1 .left) (omega (arith, k, e2 .if2 .left)) (omega (arith, k)))
     (answers (a .s) _ (add (view (a .s)) (a .priority) (a .entries)) _ [] (c .answered .ensures)
-    (add-packed (a .s) (m .result) (a .priority) (a .entries) _ _ h (e2 .if2 .left) refl (c .before .before .fresh-task .ensures) (c .before .before .before .joined .ensures) (m .ensures)))
+    (add-packed (a .s) (m .result) (a .priority) (a .entries) _ _ h (omega (arith, e2 .if2 .left)) refl (c .before .before .fresh-task .ensures) (c .before .before .before .joined .ensures) (m .ensures)))
 
 pub create-spec : {M : Type 1} → statement M
 create-spec =

@@ -3,14 +3,15 @@ use mathlib.Core.Path.{_≡_, _∙_, ap, refl}
 use mathlib.Core.List.{[], _∷_}
 use Rattle.calls.specs.declared.Call.the-variants.{End}
 use Rattle.lists.specs.Lists.{last}
-use Rattle.rules.specs.State.{entryOf, placeOf, heldBy}
-use Rattle.rules.specs.Step.{item, takeCall, DONE}
+use Rattle.rules.specs.State.{entryOf, placeOf, heldBy, part}
+use Rattle.rules.specs.Step.{item, takeCall, took, DONE, SERVED}
 use Rattle.rules.specs.Step as rules
 use Rattle.rules.specs.Whole.{view}
 use Rattle.rules.proofs.Members.{Runs}
 use Rattle.table.specs.declared.queues.Test.the-variants.{HeldBy}
+use Rattle.lists.proofs.Parts.{need, Answer, Room}
 use Rattle.supervisor.proofs.MoveLaws.{long-held, picked-line}
-use Rattle.supervisor.proofs.AnswerLaws.{by-both, part-answers, runner}
+use Rattle.supervisor.proofs.AnswerLaws.{by-both, by-ended, by-outcome, part-answers, runner}
 use Rattle.supervisor.proofs.EndLaws.{end-idle, end-runs, end-none, end-one, held-fits}
 use Rattle.supervisor.proofs.end.end.Statement.{statement}
 use Rattle.supervisor.proofs.end.end.Tie as tie
@@ -39,18 +40,30 @@ returns-2 c =
     let s = c .before .before .before .before .before .before .before .before .args .s in
     by-both s _ _ (end-here e1 ∙ end-none (view s) (e1 .before .running .result) _ (last-here k) (c .before .if2 .taken)) (c .refused-by2 .ensures) refl
 
-returns-3 : tie.Need-returns-3
-returns-3 c =
+-- the caller held last is served
+serves-here : (c : tie.Else2)
+    → let v = view (c .before .before .before .before .before .before .before .args .s) in let t = c .before .before .before .before .before .running .result in let k = c .before .last-of .result in takeCall v End ≡ took (part v t k) (item t DONE 0 0) (item k SERVED (entryOf (placeOf v k)) t ∷ [])
+serves-here c =
+    let e1 = c .before .before .before .before in
+    end-here e1 ∙ end-one (view (e1 .before .before .before .args .s)) (e1 .before .running .result) (c .before .last-of .result) (last-here (c .before)) (c .if2 .left)
+
+answer-here : Answer (need tie.Need-returns-3)
+answer-here c =
     let e2 = c .before .before .before .before .before .before .before .before in
-    let e1 = c .before .before .before .before .before .before .before .before .before .before .before .before in
-    let s = c .before .before .before .before .before .before .before .before .before .before .before .before .before .before .before .args .s in
+    let e1 = e2 .before .before .before .before in
+    let r = e1 .before .before .before in
+    let s = r .args .s in
     let v = view s in
     let t = e1 .before .running .result in
     let k = e2 .before .last-of .result in
-    let held = last-here (e2 .before) in
-    by-both s _ _ (end-here e1 ∙ end-one v t k held (e2 .if2 .left))
-    (part-answers t k 0 s (c .before .parted .result) (item t DONE 0 0) (item k 2 (entryOf (placeOf v k)) t ∷ []) (c .before .before .before .before .before .before .before .before .before .before .before .before .before .before .before .pre .0) (runs-here e1 .high) (held-fits v t k held (e2 .if2 .left)) (c .answered .ensures) (c .before .parted .ensures))
-    (rw (c .before .before .before .before .before .entry-of .ensures, c .before .before .before .before .before .before .before .task-of .ensures) at (c .before .before .before .before .put .ensures))
+    by-outcome s (serves-here e2)
+    (part-answers t k 0 s (c .before .parted .result) (item t DONE 0 0) (item k SERVED (entryOf (placeOf v k)) t ∷ []) (r .pre .0) (runs-here e1 .high) (held-fits v t k (last-here (e2 .before)) (e2 .if2 .left)) (c .answered .ensures) (c .before .parted .ensures))
+
+written-here : Room (need tie.Need-returns-3)
+written-here c = by-ended _ _ (serves-here (c .before .before .before .before .before .before .before .before)) (rw (c .before .before .before .before .before .entry-of .ensures, c .before .before .before .before .before .before .before .task-of .ensures) at (c .before .before .before .before .put .ensures))
+
+returns-3 : tie.Need-returns-3
+returns-3 c = (answer-here c, written-here c)
 
 pub end-spec : {M : Type 1} → statement M
 end-spec =

@@ -1,6 +1,7 @@
 use native.Mathlib.Omega.{arith}
 use borrow.Author.Needs.{needs}
 use borrow.Author.Tests.{eqb-true}
+use Prim.Native.Nat.{_≤_}
 use mathlib.Core.List.{[]}
 use mathlib.Core.Path.{_≡_, refl, sym, _∙_, ap, subst}
 use lib.ListN.{length}
@@ -37,6 +38,10 @@ held-here : (c : tie.After-len) → c .len .result ≡ length (heldBy (view (c .
 held-here c =
     let s = c .before .before .before .before .before .before .before .before .before .before .args .s in
     c .len .ensures ∙ ap length (picked-line s (s .held) (HeldBy (c .before .before .before .before .before .before .before .before .running .result)) _ (long-held s (c .before .before .before .before .before .before .before .before .before .before .pre .0)) (c .before .picked .ensures))
+
+-- t holds nobody
+none-held : (c : tie.Else3) → c .before .len .result ≤ 0
+none-held c = c .if3 .left
 
 -- who is queued on t
 queued-here : (c : tie.After-queued-on) → line (c .queued-on .result) ≡ queuedOn (view (c .before .before .before .before .before .before .before .before .before .before .before .before .args .s)) (c .before .before .before .before .before .before .before .before .before .before .running .result)
@@ -85,7 +90,7 @@ returns-4 c =
     let q = m .before .before in
     let e1 = q .before .before .before .before .before .before .before .before .before in
     let s = e1 .before .before .before .args .s in
-    by-both s _ _ (finish-here e1 ∙ finish-goes (view s) (e1 .before .running .result) _ (line (q .queued-on .result)) (held-here (q .before .before)) (q .before .if3 .left) (queued-here q))
+    by-both s _ _ (finish-here e1 ∙ finish-goes (view s) (e1 .before .running .result) _ (line (q .queued-on .result)) (held-here (q .before .before)) (none-held (q .before)) (queued-here q))
     (m .completed .ensures .0) (m .completed .ensures .1)
 
 pub finish-spec : {M : Type 1} → statement M

@@ -5,11 +5,13 @@ use mathlib.Core.Bool.{false}
 use mathlib.Core.List.{[]}
 use lib.Dec.{leb}
 use Rattle.calls.specs.declared.Call.the-variants.{Select}
-use Rattle.rules.specs.State.{taskOf}
-use Rattle.rules.specs.Step.{takeCall, item, ACCEPTED}
+use Rattle.lists.specs.Lists.{first}
+use Rattle.rules.specs.State.{taskOf, queue, meet}
+use Rattle.rules.specs.Step.{takeCall, took, item, openEntry, ACCEPTED}
 use Rattle.rules.specs.Step as rules
 use Rattle.rules.specs.Whole.{view}
 use Rattle.rules.proofs.Members.{Runs}
+use Rattle.supervisor.specs.Taken.{takenOf}
 use Rattle.supervisor.proofs.AnswerLaws.{by-outcome, of-task, runner, meet-answers}
 use Rattle.supervisor.proofs.LowestLaws.{lowest-none, lowest-one}
 use Rattle.supervisor.proofs.SelectLaws.{select-alone, select-runs, select-wide, select-idle, select-takes, first-fits}
@@ -53,18 +55,32 @@ returns-3 c =
     let none = lowest-none v t (a .o) (c .before .before .before .lowest .result) (c .before .before .before .lowest .ensures) (c .before .if3 .taken) in
     by-outcome (a .s) (select-here e1 ∙ select-idle v t (a .o) (a .m) (own-here e2) none) (c .select-none .ensures)
 
+-- the lowest open entry that has a caller, and its longest-waiting one
+lowest-here : (c : tie.Else3) → let a = c .before .before .before .before .before .before .before .before .args in let v = view (a .s) in let t = c .before .before .before .before .before .before .before .running .result in let b = c .before .before .lowest .result in
+    (b .entry ≡ openEntry v t (a .o)) × (b .entry ≡ 0 → ⊥) × (b .task ≡ first (queue v t (b .entry)))
+lowest-here c = let a = c .before .before .before .before .before .before .before .before .args in lowest-one (view (a .s)) (c .before .before .before .before .before .before .before .running .result) (a .o) (c .before .before .lowest .result) (c .before .before .lowest .ensures) (c .if3 .left)
+
+-- the caller that is taken is held
+held-here : (c : tie.After-answered) → let s = c .before .before .before .before .before .before .before .before .before .before .args .s in let t = c .before .before .before .before .before .before .before .before .before .running .result in let b = c .before .before .before .before .lowest .result in
+    c .answered .result ≡ takenOf s (took (meet (view s) t (b .task) (b .entry)) (item t ACCEPTED (b .entry) (b .task)) [])
+held-here c =
+    let e3 = c .before .before in
+    let e1 = e3 .before .before .before .before .before .before in
+    let a = e1 .before .before .args in
+    let t = e1 .before .running .result in
+    let b = e3 .before .before .lowest .result in
+    let l = lowest-here e3 in
+    meet-answers t (b .task) (b .entry) (a .s) (c .before .met .result) (item t ACCEPTED (b .entry) (b .task)) [] (e1 .before .before .pre) (runs-here e1 .high) (first-fits (view (a .s)) t (a .o) (b .entry) (b .task) (l .0) (l .1) (l .2)) (c .answered .ensures) (c .before .met .ensures)
+
 returns-4 : tie.Need-returns-4
 returns-4 c =
     let e3 = c .before .before in
-    let e2 = c .before .before .before .before .before in
-    let e1 = c .before .before .before .before .before .before .before .before in
-    let a = c .before .before .before .before .before .before .before .before .before .before .args in
-    let v = view (a .s) in
-    let t = e1 .before .running .result in
+    let e2 = e3 .before .before .before in
+    let e1 = e2 .before .before .before in
+    let a = e1 .before .before .args in
     let b = e3 .before .before .lowest .result in
-    let one = lowest-one v t (a .o) b (e3 .before .before .lowest .ensures) (e3 .if3 .left) in
-    by-outcome (a .s) (select-here e1 ∙ select-takes v t (a .o) (a .m) (b .entry) (b .task) (own-here e2) (one .0) (one .1) (one .2))
-    (meet-answers t (b .task) (b .entry) (a .s) (c .before .met .result) (item t ACCEPTED (b .entry) (b .task)) [] (c .before .before .before .before .before .before .before .before .before .before .pre) (runs-here e1 .high) (first-fits v t (a .o) (b .entry) (b .task) (one .0) (one .1) (one .2)) (c .answered .ensures) (c .before .met .ensures))
+    let l = lowest-here e3 in
+    by-outcome (a .s) (select-here e1 ∙ select-takes (view (a .s)) (e1 .before .running .result) (a .o) (a .m) (b .entry) (b .task) (own-here e2) (l .0) (l .1) (l .2)) (held-here c)
 
 pub select-spec : {M : Type 1} → statement M
 select-spec =

@@ -1,7 +1,20 @@
 use borrow.Author.Needs.{needs}
+use mathlib.Core.Path.{_≡_}
+use Rattle.lists.specs.Line.{line, pad}
+use Rattle.lists.specs.Lists.{rejoin}
+use Rattle.rules.specs.State.{retime}
+use Rattle.rules.specs.Whole.{view}
 use Rattle.table.proofs.LeafLaws.{moved-law}
 use Rattle.table.proofs.moves.moved.Statement.{statement}
 use Rattle.table.proofs.moves.moved.Tie as tie
+
+-- the callers without t, and with t at the end if it is queued now
+callers-here : (c : tie.After-rejoined2) → let a = c .before .before .before .before .before .before .before .before .before .before .args in c .rejoined2 .result ≡ pad (rejoin (c .before .is-queued .result) (a .t) (line (a .s .callers)))
+callers-here c = c .rejoined2 .ensures
+
+-- the delay queue without t, and with t in its place if it has a time now
+delays-here : (c : tie.After-retimed) → let a = c .before .before .before .before .before .before .before .before .before .before .before .before .before .args in c .retimed .result ≡ pad (retime (a .s .clock) (view (a .s) .tasks) (a .w) (a .t) (line (a .s .delays)))
+delays-here c = c .retimed .ensures
 
 returns : tie.Need-returns
 returns c =
@@ -14,7 +27,7 @@ returns c =
     moved-law (a .s) (a .t) (a .p) (a .w) _ _ _ _ _ _ _ _ _ _
     (y .before .task-of .ensures) (y .placed-at .ensures) (t .with-task .ensures)
     (r .before .is-ready .ensures) (q .before .is-queued .ensures) (h .before .is-held .ensures)
-    (r .rejoined .ensures) (q .rejoined2 .ensures) (h .rejoined3 .ensures) (c .retimed .ensures)
+    (r .rejoined .ensures) (callers-here q) (h .rejoined3 .ensures) (delays-here c)
 
 pub moved-spec : {M : Type 1} → statement M
 moved-spec =

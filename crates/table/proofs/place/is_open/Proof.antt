@@ -10,7 +10,10 @@ returns c = open-zero (c .before .args .o) (c .before .args .e) (c .if1 .taken)
 returns-2 : tie.Need-returns-2
 returns-2 c = open-high (c .before .before .args .o) (c .before .before .args .e) (omega arith) (c .if2 .taken)
 
+returns-3 : tie.Need-returns-3
+returns-3 c = search needs
+
 pub is-open-spec : {M : Type 1} → statement M
 is-open-spec =
     tie.close
-    (tie.spec returns returns-2 (λ c. search needs) (λ c. search needs) (λ c. search needs))
+    (tie.spec returns returns-2 (λ c. search needs) (λ c. search needs) returns-3)

@@ -2,11 +2,13 @@ use native.Mathlib.Omega.{arith}
 use borrow.Author.Needs.{needs}
 use Prim.Native.Nat.{_-_, _≤_, _<_}
 use mathlib.Core.Path.{_≡_, refl, sym, ap, _∙_}
+use mathlib.Core.Bool.{Bool, true, false}
 use mathlib.Core.List.{_++_}
 use lib.ListN.{drop, take, length, getD}
 use Rattle.lists.specs.Line.{line, pad}
 use Rattle.lists.specs.Lists.{filter}
 use Rattle.lists.proofs.Tests.{ways}
+use Rattle.lists.proofs.Parts.{need, When, Taken, Left}
 use Rattle.lists.proofs.Turns.{rest-blank, rest-entry, rest-end, fill-none, fill, filled, pick-on, pick-off}
 use Rattle.rules.specs.Whole.{view}
 use Rattle.rules.specs.declared.Task.{Task}
@@ -30,35 +32,49 @@ returns c =
     let l = c .before .before .loop in
     rw (l .inv .3, rest-blank (c .before .before .before .args .t2) (l .i) (search needs) (c .if1 .taken)) (sym (filled (l .r) (l .j) (l .inv .2)))
 
--- what the code's test says of the task at place i
-passes-here : (c : tie.After-passes Inv-loop μ-loop) → let a = c .before .before .before .before .before .before .before .args in c .passes .result ≡ passesOf (view (a .t1)) (a .q) (getD (a .t2) (c .before .before .before .before .before .before .loop .i) 0)
-passes-here c =
-    let a = c .before .before .before .before .before .before .before .args in
-    c .passes .ensures ∙ ap (λ (x : Task). isPicked x (a .q)) (shown-at (a .t1) (getD (a .t2) (c .before .before .before .before .before .before .loop .i) 0) _ _ (c .before .before .before .before .before .before .loop .inv .4) (c .before .before .before .index-of .ensures .0) (c .before .shown .ensures))
+-- the test of the task at place i, and what the code says of it
+abbrev test : tie.After-passes Inv-loop μ-loop → Bool
+test c = let a = c .before .before .before .before .before .before .before .args in passesOf (view (a .t1)) (a .q) (getD (a .t2) (c .before .before .before .before .before .before .loop .i) 0)
 
-loop-again : tie.Need-loop-again Inv-loop μ-loop
-loop-again c =
+passes-here : (c : tie.After-passes Inv-loop μ-loop) → c .passes .result ≡ test c
+passes-here c =
+    let l = c .before .before .before .before .before .before in
+    let a = l .before .args in
+    c .passes .ensures ∙ ap (λ (x : Task). isPicked x (a .q)) (shown-at (a .t1) (getD (a .t2) (l .loop .i) 0) _ _ (l .loop .inv .4) (c .before .before .before .index-of .ensures .0) (c .before .shown .ensures))
+
+-- one that passes comes behind those so far
+picks : When (need (tie.Need-loop-again Inv-loop μ-loop)) (λ c. Taken (c .if2 .came) × (test (c .before) ≡ true))
+picks c h =
     let l = c .before .before .before .before .before .before .before .loop in
     let a = c .before .before .before .before .before .before .before .before .args in
-    let p = passesOf (view (a .t1)) (a .q) in
     let rest = rest-entry (a .t2) (l .i) (search needs) (c .before .before .before .before .before .if1 .left) in
-    let test = sym (passes-here (c .before)) in
-    ways (c .if2 .came)
-    (λ w.
+    let w = h .0 in
     let room : l .j < 31 = omega arith in (
       omega arith,
       omega arith,
       rw (w .1, w .2) (fill (l .r) (l .j) _ room (l .inv .2)),
-      rw (w .1, w .2) (l .inv .3 ∙ pick-on p (l .r) (l .j) _ _ _ room (l .inv .2) rest (test ∙ w .0 .taken)),
+      rw (w .1, w .2) (l .inv .3 ∙ pick-on (passesOf (view (a .t1)) (a .q)) (l .r) (l .j) _ _ _ room (l .inv .2) rest (h .1)),
       l .inv .4,
-    ))
-    (λ w. (
+    )
+
+-- one that does not is left out
+leaves-out : When (need (tie.Need-loop-again Inv-loop μ-loop)) (λ c. Left (c .if2 .came) × (test (c .before) ≡ false))
+leaves-out c h =
+    let l = c .before .before .before .before .before .before .before .loop in
+    let a = c .before .before .before .before .before .before .before .before .args in
+    let rest = rest-entry (a .t2) (l .i) (search needs) (c .before .before .before .before .before .if1 .left) in
+    let w = h .0 in (
       omega arith,
       omega arith,
       rw (w .1, w .2) (l .inv .2),
-      rw (w .1, w .2) (l .inv .3 ∙ pick-off p _ _ _ (take (l .j) (l .r)) rest (test ∙ w .0 .left)),
+      rw (w .1, w .2) (l .inv .3 ∙ pick-off (passesOf (view (a .t1)) (a .q)) _ _ _ (take (l .j) (l .r)) rest (h .1)),
       l .inv .4,
-    ))
+    )
+
+loop-again : tie.Need-loop-again Inv-loop μ-loop
+loop-again c =
+    let e = sym (passes-here (c .before)) in
+    ways (c .if2 .came) (λ w. picks c (w, e ∙ w .0 .taken)) (λ w. leaves-out c (w, e ∙ w .0 .left))
 
 returns-2 : tie.Need-returns-2 Inv-loop μ-loop
 returns-2 c =

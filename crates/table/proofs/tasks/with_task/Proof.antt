@@ -1,19 +1,34 @@
 use borrow.Author.Needs.{needs}
 use native.Mathlib.Omega.{arith}
 use Prim.Native.Nat.{_≤_}
-use mathlib.Core.Path.{_≡_, sym, _∙_}
+use mathlib.Core.Path.{_≡_, refl, sym, _∙_}
 use lib.ListN.{length}
-use Rattle.table.proofs.LeafLaws.{number-range, with-in, with-out, mapped-long}
+use Rattle.lists.proofs.Parts.{need, Field}
+use Rattle.table.proofs.LeafLaws.{number-range, set-in, with-out, mapped-long}
 use Rattle.table.proofs.tasks.with_task.Statement.{statement}
 use Rattle.table.proofs.tasks.with_task.Tie as tie
 
 number-here : (c : tie.Then1) → (1 ≤ c .before .before .args .t) × (c .before .before .args .t ≤ 31)
 number-here c = number-range (c .before .before .args .t) (sym (c .before .is-number .ensures) ∙ c .if1 .taken)
 
+-- task t is x
+tasks-here : Field (need tie.Need-returns) (λ s. s .tasks)
+tasks-here c = let a = c .before .before .args in set-in (a .s .tasks) (a .x) (a .t) (λ z. omega (arith, number-here c))
+
+-- as many tasks are created as before
+created-here : Field (need tie.Need-returns) (λ s. s .created)
+created-here c = refl
+
 returns : tie.Need-returns
-returns c =
-    let a = c .before .before .args in
-    with-in (a .s) (a .t) (a .x) (λ z. omega (arith, number-here c))
+returns c = let s = c .before .before .args .s in λ i. record {
+  clock = s .clock;
+  created = created-here c i;
+  tasks = tasks-here c i;
+  ready = s .ready;
+  callers = s .callers;
+  held = s .held;
+  delays = s .delays;
+}
 
 returns-2 : tie.Need-returns-2
 returns-2 c =

@@ -1,5 +1,4 @@
 use mathlib.Core.Path.{_≡_, sym}
-use Prim.Native.Nat.{_≤_}
 use native.Mathlib.Omega.{arith}
 use lib.ListN.{length, List·getD-eq-default}
 use Rattle.workspace.specs.Rules.{none}
@@ -11,7 +10,7 @@ use Rattle.workspace.proofs.places.nth.Tie as tie
 returns-2 : tie.Need-returns-2
 returns-2 c =
     let long : length (c .before .args .t1) ≡ 32 = search (needs, mapped-long) in
-    let out : 32 ≤ c .before .args .i = search needs in
+    let out = c .if1 .left in
     sym (List·getD-eq-default (c .before .args .t1) none {n = c .before .args .i} (omega (arith, long, out)))
 
 pub nth-spec : {M : Type 1} → statement M

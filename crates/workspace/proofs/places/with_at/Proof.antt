@@ -1,5 +1,4 @@
 use mathlib.Core.Path.{_≡_, sym}
-use Prim.Native.Nat.{_≤_}
 use native.Mathlib.Omega.{arith}
 use lib.ListN.{length}
 use lib.Seq.{set-out}
@@ -11,7 +10,7 @@ use Rattle.workspace.proofs.places.with_at.Tie as tie
 returns-2 : tie.Need-returns-2
 returns-2 c =
     let long : length (c .before .args .a) ≡ 32 = search (needs, mapped-long) in
-    let out : 32 ≤ c .before .args .i = search needs in
+    let out = c .if1 .left in
     sym (set-out (c .before .args .a) (c .before .args .i) (c .before .args .x) (omega (arith, long, out)))
 
 pub with-at-spec : {M : Type 1} → statement M

@@ -1,5 +1,5 @@
 use mathlib.Core.Path.{sym, _∙_}
-use Prim.Native.Nat.{_<_, _≤_}
+use Prim.Native.Nat.{_≤_}
 use native.Mathlib.Omega.{arith}
 use borrow.Author.Needs.{needs}
 use Rattle.workspace.proofs.StepLaws.{counted, release-freed, release-unknown, release-unsound}
@@ -15,25 +15,22 @@ place-of-requires c κs = let h : c .before .before .before .args .used .blocks 
 
 freed-requires : tie.Need-freed-requires
 freed-requires c κs =
-    let p = c .before .before in
-    let h : p .place-of .result < p .before .before .before .before .args .used .blocks = search needs in
-    (omega (arith, h), in-range (p .before .before) .1)
+    let h = c .if2 .taken in
+    (omega (arith, h), in-range (c .before .before .before .before) .1)
 
 returns : tie.Need-returns
 returns c =
     let p = c .before .before .before in
     let kept = p .before .before in
     let a = kept .before .before .args in
-    let h : p .place-of .result < a .used .blocks = search needs in
-    release-freed (a .seen) (a .used) (a .start) (kept .before .keeps .ensures) (kept .if1 .taken) (p .place-of .ensures) h (c .freed .ensures)
+    release-freed (a .seen) (a .used) (a .start) (kept .before .keeps .ensures) (kept .if1 .taken) (p .place-of .ensures) (c .before .if2 .taken) (c .freed .ensures)
 
 returns-2 : tie.Need-returns-2
 returns-2 c =
     let p = c .before .before .before in
     let kept = p .before .before in
     let a = kept .before .before .args in
-    let h : a .used .blocks ≤ p .place-of .result = search needs in
-    release-unknown (a .seen) (a .used) (a .start) (kept .before .keeps .ensures) (kept .if1 .taken) (p .place-of .ensures) h (c .refused .ensures)
+    release-unknown (a .seen) (a .used) (a .start) (kept .before .keeps .ensures) (kept .if1 .taken) (p .place-of .ensures) (c .before .if2 .left) (c .refused .ensures)
 
 returns-3 : tie.Need-returns-3
 returns-3 c =

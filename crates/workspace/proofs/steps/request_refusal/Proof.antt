@@ -1,8 +1,6 @@
 use mathlib.Core.Path.{_≡_, refl}
-use Prim.Native.Nat.{_<_, _≤_}
 use mathlib.Core.Bool.{true, _&&_}
-use lib.Dec.{leb}
-use borrow.Author.Needs.{needs}
+use lib.Dec.{leb, ltb}
 use borrow.Author.Tests.{lt-ltb, le-ltb, not-true, not-false}
 use Rattle.workspace.specs.Steps.{requestRefusal}
 use Rattle.workspace.proofs.steps.request_refusal.Statement.{statement}
@@ -14,6 +12,9 @@ kept c = not-false (c .before .args .kept) (c .if1 .left)
 
 sized : (c : tie.Else2) → leb 1 (c .before .before .args .size) && leb (c .before .before .args .size) 65535 ≡ true
 sized c = let n = c .before .before .args .size in not-false (leb 1 n && leb n 65535) (c .if2 .left)
+
+few : (c : tie.Else3) → ltb (c .before .before .before .args .m) 31 ≡ true
+few c = lt-ltb (c .before .before .before .args .m) 31 (c .if3 .left)
 
 returns : tie.Need-returns
 unfolding requestRefusal
@@ -28,26 +29,21 @@ unfolding requestRefusal
 returns-3 c =
     let passed = c .before in
     let a = passed .before .before .args in
-    let h : 31 ≤ a .m = search needs in
-    rw (kept (passed .before), sized passed, le-ltb (a .m) 31 h) refl
+    rw (kept (passed .before), sized passed, le-ltb (a .m) 31 (c .if3 .taken)) refl
 
 returns-4 : tie.Need-returns-4
 unfolding requestRefusal
 returns-4 c =
     let passed = c .before .before in
     let a = passed .before .before .args in
-    let h : a .m < 31 = search needs in
-    let k : a .n ≤ a .place = search needs in
-    rw (kept (passed .before), sized passed, lt-ltb (a .m) 31 h, le-ltb (a .place) (a .n) k) refl
+    rw (kept (passed .before), sized passed, few (c .before), le-ltb (a .place) (a .n) (c .if4 .taken)) refl
 
 returns-5 : tie.Need-returns-5
 unfolding requestRefusal
 returns-5 c =
     let passed = c .before .before in
     let a = passed .before .before .args in
-    let h : a .m < 31 = search needs in
-    let k : a .place < a .n = search needs in
-    rw (kept (passed .before), sized passed, lt-ltb (a .m) 31 h, lt-ltb (a .place) (a .n) k) refl
+    rw (kept (passed .before), sized passed, few (c .before), lt-ltb (a .place) (a .n) (c .if4 .left)) refl
 
 pub request-refusal-spec : {M : Type 1} → statement M
 request-refusal-spec = tie.close (tie.spec returns returns-2 returns-3 returns-4 returns-5)
