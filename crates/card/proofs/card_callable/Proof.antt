@@ -1,19 +1,33 @@
-use mathlib.Core.Path.{ap, _∙_}
+use mathlib.Core.Path.{_≡_, ap, _∙_}
 use denote.Ref.{now}
 use Rattle.lists.specs.Lists.{bit}
 use Rattle.rules.specs.declared.Supervisor.{Supervisor}
 use Rattle.rules.specs.Questions.{callableWhole}
 use Rattle.rules.specs.declared.Known.{Known}
+use Rattle.codec.specs.Layout.{stateIn}
+use Rattle.card.specs.Answers.{ifRoom, oneAfter}
 use Rattle.card.proofs.CardLaws.{one-as}
 use borrow.Author.Needs.{needs}
 use Rattle.card.proofs.card_callable.Statement.{statement}
 use Rattle.card.proofs.card_callable.Tie as tie
 
+-- the state in the bytes was asked
+known : (c : tie.After-callable) → let a = c .before .before .before .before .args in c .callable .result ≡ callableWhole (stateIn (now (a .state))) (a .task)
+known c = c .callable .ensures ∙ ap (λ (s : Supervisor). callableWhole s (c .before .before .before .before .args .task)) (c .before .state-in .ensures)
+
+-- its refusal is returned, and 1 or 0 put into the answer
+put : (c : tie.After-put-one) →
+    let k = c .before .before .before in
+    let answer = now (k .before .before .before .before .args .answer) in
+    (c .put-one .result ≡ ifRoom 1 answer 1 (k .callable .result .refusal)) × (c .put-one .last .0 ≡ oneAfter answer (c .before .flag .result))
+put c = c .put-one .ensures
+
 returns : tie.Need-returns
 returns c =
-    let a = c .before .before .before .before .before .before .before .before .before .args in
-    let q = c .before .before .before .before .before .callable .ensures ∙ ap (λ (s : Supervisor). callableWhole s (a .task)) (c .before .before .before .before .before .before .state-in .ensures) in
-    one-as (now (a .answer)) _ _ _ _ _ _ (c .before .before .put-one .ensures) (ap (λ (k : Known). k .refusal) q) (c .before .before .before .flag .ensures ∙ ap (λ (k : Known). bit (k .yes)) q)
+    let p = c .before .before in
+    let k = p .before .before .before in
+    let q = known k in
+    one-as (now (k .before .before .before .before .args .answer)) _ _ _ _ _ _ (put p) (ap (λ (k : Known). k .refusal) q) (p .before .flag .ensures ∙ ap (λ (k : Known). bit (k .yes)) q)
 
 pub card-callable-spec : {M : Type 1} → statement M
 card-callable-spec =

@@ -1,3 +1,4 @@
+use native.Mathlib.Omega.{arith}
 use mathlib.Core.Path.{sym, _∙_}
 use mathlib.Core.List.{_∷_}
 use lib.ListN.{length, drop}
@@ -16,9 +17,9 @@ returns c = let t = lt-ltb (length (now (c .before .args .answer))) 1 (c .if1 .t
 returns-2 : tie.Need-returns-2
 returns-2 c =
     let l = now (c .before .args .answer) in
-    let f = le-ltb (length l) 1 (c .if1 .left) in
+    let f = le-ltb (length l) 1 (omega arith) in
     let v = c .before .args .value in
-    (sym (if-false _ _ _ f), one-set l v (c .if1 .left) ∙ sym (if-false (ltb (length l) 1) l (v ∷ drop 1 l) f))
+    (sym (if-false _ _ _ f), one-set l v (omega arith) ∙ sym (if-false (ltb (length l) 1) l (v ∷ drop 1 l) f))
 
 pub put-one-spec : {M : Type 1} → statement M
 put-one-spec = tie.close (tie.spec returns (λ c. search needs) (λ c. search needs) returns-2)

@@ -1,4 +1,6 @@
-use mathlib.Core.Path.{ap, _∙_}
+use mathlib.Core.Path.{_≡_, ap, _∙_}
+use mathlib.Core.Bool.{true, false, not, _&&_}
+use lib.Dec.{eqb, ltb}
 use borrow.Author.Tests.{eq-eqb, ne-eqb}
 use Rattle.report.specs.Lines.{lineText}
 use Rattle.rules.specs.declared.Answer.{Answer}
@@ -9,15 +11,29 @@ use borrow.Author.Needs.{needs}
 use Rattle.session.proofs.turns.refused.Statement.{statement}
 use Rattle.session.proofs.turns.refused.Tie as tie
 
+-- more bytes may come, and a record may need them
+more : (c : tie.Then1) → let a = c .before .before .before .args in (not (a .last) && ltb (a .many) 10) ≡ true
+more c = c .if1 .taken
+
+no-more : (c : tie.Else1) → let a = c .before .before .before .args in (not (a .last) && ltb (a .many) 10) ≡ false
+no-more c = c .if1 .left
+
+-- there are no bytes
+over : (c : tie.Then2) → eqb (c .before .before .before .before .args .n) 12 ≡ true
+over c = eq-eqb _ 12 (c .if2 .taken)
+
+bad : (c : tie.Else2) → eqb (c .before .before .before .before .args .n) 12 ≡ false
+bad c = ne-eqb _ 12 (c .if2 .left)
+
 returns : tie.Need-returns
 returns c =
     let a = c .before .before .before .before .args in
-    says _ _ (asks-more (a .s) (a .n) (a .many) (a .last) (a .room .now) (c .before .if1 .taken)) (put-none (c .least .ensures))
+    says _ _ (asks-more (a .s) (a .n) (a .many) (a .last) (a .room .now) (more (c .before))) (put-none (c .least .ensures))
 
 returns-2 : tie.Need-returns-2
 returns-2 c =
     let a = c .before .before .before .before .before .args in
-    says _ _ (ends (a .s) (a .n) (a .many) (a .last) (a .room .now) (c .before .before .if1 .left) (eq-eqb (a .n) 12 (c .before .if2 .taken))) (put-none (c .least2 .ensures))
+    says _ _ (ends (a .s) (a .n) (a .many) (a .last) (a .room .now) (no-more (c .before .before)) (over (c .before))) (put-none (c .least2 .ensures))
 
 returns-3 : tie.Need-returns-3
 returns-3 c =
@@ -27,7 +43,7 @@ returns-3 c =
     let e = r .before in
     let a = e .before .before .before .before .args in
     let answer = f .refused-answer .ensures ∙ ap (refusedAnswer (a .n)) (r .running .ensures) in
-    says _ _ (says-bad (a .s) (a .n) (a .many) (a .last) (a .room .now) (e .before .if1 .left) (ne-eqb (a .n) 12 (e .if2 .left)))
+    says _ _ (says-bad (a .s) (a .n) (a .many) (a .last) (a .room .now) (no-more (e .before)) (bad e))
     (same-text (ap (λ (x : Answer). lineText (a .s .step) x (a .room .now)) answer) (p .put-line .ensures))
 
 pub refused-spec : {M : Type 1} → statement M

@@ -1,17 +1,25 @@
-use mathlib.Core.Path.{ap}
-use Rattle.session.specs.Turn.{Turn}
+use mathlib.Core.Path.{_≡_, ap}
+use Rattle.session.specs.Turn.{Turn, nextStep}
 use Rattle.session.proofs.TurnLaws.{took-is, says}
 use borrow.Author.Needs.{needs}
 use Rattle.session.proofs.turns.taken.Statement.{statement}
 use Rattle.session.proofs.turns.taken.Tie as tie
 
-returns : tie.Need-returns
-returns c =
+-- the number of the next line
+abbrev Numbered : tie.After-wrapping-add-u64 → Type 0
+Numbered c = c .wrapping-add-u64 .result ≡ nextStep (c .before .before .before .before .before .before .before .before .before .before .before .before .before .before .args .s .step)
+
+numbered : (c : tie.After-wrapping-add-u64) → Numbered c
+numbered c = c .wrapping-add-u64 .ensures
+
+-- what a turn with that number gives
+gives : ((c : tie.After-wrapping-add-u64) → Numbered c) → tie.Need-returns
+gives number c =
     let printed = c .before .before .before .before in
     let stepped = printed .before .before .before .before .before .before in
     let a = stepped .before .before .before .before .args in
     let k = stepped .step in
-    let whole = took-is (a .s) (a .call) (a .count) (a .room .now) (k .last .1 .1 .0) (k .result) (c .wrapping-add-u64 .result) (k .ensures .0) (k .ensures .1) (c .wrapping-add-u64 .ensures) in
+    let whole = took-is (a .s) (a .call) (a .count) (a .room .now) (k .last .1 .1 .0) (k .result) (c .wrapping-add-u64 .result) (k .ensures .0) (k .ensures .1) (number c) in
     let said = says _ _ whole (printed .put-line .ensures) in
     (said .0, (ap (λ (t : Turn). t .room) whole, said .1))
 
@@ -24,4 +32,4 @@ taken-spec =
     (λ c κs. search needs)
     (λ c. search needs)
     (λ c. search needs)
-    returns)
+    (gives numbered))
