@@ -9,9 +9,9 @@ use Rattle.calls.specs.declared.Call as C
 use Rattle.calls.specs.declared.Call.the-variants.{Create, Delay, Call, Select, End, Finish, Tick, Advance}
 use Rattle.calls.specs.declared.CallMode.{CallMode}
 use Rattle.calls.specs.declared.CallMode.the-variants.{Simple, Timed, Conditional}
-use Rattle.rules.specs.State.{empty}
-use Rattle.rules.specs.Step.{item, BAD-STATE}
-use Rattle.rules.specs.Whole.{Whole, pack, decline}
+use Rattle.rules.specs.State.{empty, running}
+use Rattle.rules.specs.Step.{item, BAD-STATE, CALL-EXPIRED}
+use Rattle.rules.specs.Whole.{Whole, view, pack, decline}
 use Rattle.rules.specs.declared.Item.{Item}
 use Rattle.rules.specs.declared.Supervisor.{Supervisor}
 use Rattle.cases.specs.Cases.{stepOf, idle, holds, cases}
@@ -32,7 +32,7 @@ answersAlike s c = stepOf (pack (empty 0)) (Create 1 0)
 abbrev pub untouched : Supervisor → C.Call → Whole
 untouched s c = let w = stepOf s c in record { refusal = w .refusal; answer = w .answer; ended = w .ended; next = w .next; state = s }
 
--- "one that works at its first step and idles later"
+-- "one that works at its first step and idles later": later, some task is created
 abbrev pub idlesLater : Supervisor → C.Call → Whole
 idlesLater s c = cond (eqb (s .created) 0) (stepOf s c) (idle s)
 
@@ -46,7 +46,7 @@ exchanged (i ∷ j ∷ js) = j ∷ i ∷ js
 abbrev pub exchangesEnded : Supervisor → C.Call → Whole
 exchangesEnded s c = let w = stepOf s c in record { refusal = w .refusal; answer = w .answer; ended = exchanged (w .ended); next = w .next; state = w .state }
 
--- a call that may wait for 0 ticks
+-- how a call waits: with a time of 0 ticks
 abbrev ofNoTicks : CallMode → Bool
 ofNoTicks Simple = false
 ofNoTicks (Timed (pos d)) = eqb d 0
@@ -58,7 +58,7 @@ abbrev pub neverLooks : Supervisor → C.Call → Whole
 neverLooks s (Create p n) = stepOf s (Create p n)
 neverLooks s (Delay d) = stepOf s (Delay d)
 neverLooks s (Call t e m) =
-    cond (ofNoTicks m) (record { refusal = 0; answer = item 2 3 e t; ended = []; next = 2; state = s }) (stepOf s (Call t e m))
+    let r = running (view s) in cond (ofNoTicks m) (record { refusal = 0; answer = item r CALL-EXPIRED e t; ended = []; next = r; state = s }) (stepOf s (Call t e m))
 neverLooks s (Select o m) = stepOf s (Select o m)
 neverLooks s End = stepOf s End
 neverLooks s Finish = stepOf s Finish
