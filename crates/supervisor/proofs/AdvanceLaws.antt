@@ -1,26 +1,33 @@
--- ADVANCE: those whose time comes within its ticks, and what is to be answered.
+-- TICK and ADVANCE: those whose time comes within their ticks, and what is to be answered.
 -- Assumes nothing.
 use Prim.Native.Nat.{ℕ, _+_, _≤_}
 use mathlib.Core.Path.{_≡_, refl, sym, ap, _∙_}
-use mathlib.Core.Bool.{Bool, true, not}
-use mathlib.Core.List.{List, [], _∷_, map}
+use mathlib.Core.Bool.{Bool, true, false, not}
+use mathlib.Core.List.{List, [], _∷_, map, append-nil}
 use native.Mathlib.Omega.{arith}
 use lib.Dec.{eqb}
+use lib.ListN.{length, length-map}
 use mir.Val.{boolByte}
-use Rattle.rules.specs.State.{State, hasTime, after, wakeAll, setClock}
-use Rattle.rules.specs.Step.{took, item, DONE, takeCall, expired}
+use Rattle.lists.specs.Line.{line, pad}
+use Rattle.rules.specs.State.{State, hasTime, timerOf, after, wakeAll, setClock}
+use Rattle.rules.specs.Step.{took, item, DONE, takeCall, expired, endsAt, roomAfter}
 use Rattle.rules.specs.Advance.{comesIn, dueWithin, changes, dueMoments}
+use Rattle.rules.specs.Whole.{view, pack}
+use Rattle.rules.specs.declared.Supervisor.{Supervisor}
 use Rattle.rules.specs.declared.Timer.{Timer}
 use Rattle.rules.specs.declared.Timer.the-variants.{Off, Due}
-use Rattle.calls.specs.declared.Call.the-variants.{Advance}
-use Rattle.lists.proofs.ListLaws.{clash}
+use Rattle.calls.specs.declared.Call.the-variants.{Tick, Advance}
+use Rattle.lists.proofs.ListLaws.{clash, count-filter-le}
 use Rattle.rules.proofs.Invariant.{Sound}
-use Rattle.rules.proofs.Members.{bit-le}
+use Rattle.rules.proofs.Members.{bit-le, in-filter, timed-there}
 use Rattle.rules.proofs.SoundTest.{sound-test}
 use Rattle.rules.proofs.Advances.{advances}
-use Rattle.supervisor.specs.Taken.{EachOnce}
+use Rattle.table.specs.declared.queues.Test.the-variants.{DueWithin}
+use Rattle.supervisor.specs.Taken.{Stands, EachOnce, WokenAs, takenOf, endedBy, passing}
+use Rattle.supervisor.specs.declared.answers.Taken.{Taken}
+use Rattle.supervisor.proofs.AnswerLaws.{list-answers}
 use Rattle.supervisor.proofs.FinishLaws.{byte-bit}
-use Rattle.supervisor.proofs.TickLaws.{timed-each}
+use Rattle.supervisor.proofs.MoveLaws.{picked-line, long-delays}
 
 -- ── those whose time comes ──
 
@@ -29,8 +36,17 @@ has-time : (now n : ℕ) (w : Timer) → comesIn now n w ≡ true → hasTime w 
 has-time now n Off e = clash e refl
 has-time now n (Due d) e = refl
 
+-- picked out of the delay queue, they read back
+pub within-line : (s : Supervisor) (n : ℕ) (l : List ℕ) → Stands s → l ≡ pad (dueWithin (view s) n) → line l ≡ dueWithin (view s) n
+within-line s n l h e = picked-line s (s .delays) (DueWithin (s .clock) n) l (long-delays s h) e
+
+-- they are tasks, each once
 pub within-each : (v : State) (n : ℕ) → Sound v → EachOnce v (dueWithin v n)
-within-each v n h = timed-each v (comesIn (v .clock) n) h (has-time (v .clock) n)
+within-each v n h =
+    let p : ℕ → Bool = λ t. comesIn (v .clock) n (timerOf v t) in (
+      λ u k. timed-there v u (has-time (v .clock) n (timerOf v u) (in-filter p u (v .delays) k .0)),
+      λ u. omega (arith, count-filter-le p u (v .delays), h .delays u, bit-le (hasTime (timerOf v u))),
+    )
 
 -- ── their moments ──
 
@@ -46,10 +62,39 @@ module _ (f : ℕ → ℕ) (w n k : ℕ) (xs : List ℕ) (q : w ≡ n + changes 
   pub moments-end : xs ≡ [] → n ≡ w
   moments-end e = omega (arith, q, ap (changes f k) e)
 
--- ── the call ──
+-- ── what is answered ──
 
-pub advance-is : (v : State) (n moments reading : ℕ) → Sound v → moments ≡ dueMoments v n → reading ≡ after (v .clock) n
-    → takeCall v (Advance n) ≡ took (setClock (wakeAll v (dueWithin v n)) reading) (item 0 DONE moments 0) (map (expired v) (dueWithin v n))
-advance-is v n moments reading h em er =
-    let c = advances .at-once v n (h .clock) (sound-test v h) in
-    (λ i. took (c .state i) (item 0 DONE (c .count i) 0) (c .ends i)) ∙ λ i. took (setClock (wakeAll v (dueWithin v n)) (sym er i)) (item 0 DONE (sym em i) 0) (map (expired v) (dueWithin v n))
+clock-packed : (n : Supervisor) (st : State) (now : ℕ) → n ≡ pack st
+    → _≡_ {A = Supervisor} (record { clock = now; created = n .created; tasks = n .tasks; ready = n .ready; callers = n .callers; held = n .held; delays = n .delays }) (pack (setClock st now))
+clock-packed n st now e = ap (λ (z : Supervisor). record { clock = now; created = z .created; tasks = z .tasks; ready = z .ready; callers = z .callers; held = z .held; delays = z .delays }) e
+
+-- once those of the line l have been woken, and the clock stands at its reading
+pub passed-answers : (s : Supervisor) (v : State) (l : List ℕ) (m : Supervisor) (n k e reading : ℕ) (room last : List ℕ) {r : Taken}
+    → l ≡ dueWithin v n → reading ≡ after (v .clock) n → WokenAs v false l m k room last
+    → r ≡ record {
+      state = record { clock = reading; created = m .created; tasks = m .tasks; ready = m .ready; callers = m .callers; held = m .held; delays = m .delays };
+      refusal = 0;
+      task = 0;
+      result = DONE;
+      entry = e;
+      partner = 0;
+      ended = k;
+    }
+    → (r ≡ takenOf s (passing v n e)) × (last ≡ roomAfter room (endedBy (passing v n e)))
+passed-answers s v l m n k e reading room last q c w a =
+    let d = dueWithin v n in
+    let t : Supervisor = record { clock = reading; created = m .created; tasks = m .tasks; ready = m .ready; callers = m .callers; held = m .held; delays = m .delays } in
+    list-answers s t (setClock (wakeAll v d) (after (v .clock) n)) (item 0 DONE e 0) (map (expired v) d) k room last refl a
+    (clock-packed m (wakeAll v d) reading (w .state ∙ ap (λ (x : List ℕ). pack (wakeAll v x)) q) ∙ ap (λ (x : ℕ). pack (setClock (wakeAll v d) x)) c)
+    (w .number ∙ ap length q ∙ sym (length-map d (expired v)))
+    (w .written ∙ ap (λ (x : List ℕ). roomAfter room (map (expired v) x)) q)
+
+-- ── the calls ──
+
+pub tick-is : (v : State) → Sound v → takeCall v Tick ≡ passing v 1 0
+tick-is v h =
+    let c = advances .at-once v 1 (h .clock) (sound-test v h) in
+    λ i. took (c .state i) (item 0 DONE 0 0) ((sym (append-nil (endsAt v (after (v .clock) 1))) ∙ c .ends) i)
+
+pub advance-is : (v : State) (n : ℕ) → Sound v → takeCall v (Advance n) ≡ passing v n (dueMoments v n)
+advance-is v n h = let c = advances .at-once v n (h .clock) (sound-test v h) in λ i. took (c .state i) (item 0 DONE (c .count i) 0) (c .ends i)

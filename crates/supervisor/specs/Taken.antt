@@ -6,8 +6,9 @@ use mathlib.Core.Bool.{Bool}
 use mathlib.Core.List.{List, [], map}
 use lib.ListN.{length}
 use Rattle.lists.specs.Lists.{if_then_else_, count}
-use Rattle.rules.specs.State.{State, placeOf, entryOf, partnerOf, move, wakeAll, offer}
-use Rattle.rules.specs.Step.{Outcome, refused, took, number, item, expiry, failed, roomAfter, WAITS, TASKING-ERROR, DONE}
+use Rattle.rules.specs.State.{State, placeOf, entryOf, partnerOf, after, move, wakeAll, setClock, offer}
+use Rattle.rules.specs.Advance.{dueWithin}
+use Rattle.rules.specs.Step.{Outcome, refused, took, number, item, expiry, expired, failed, roomAfter, WAITS, TASKING-ERROR, DONE}
 use Rattle.rules.specs.Whole.{view, pack}
 use Rattle.rules.specs.declared.Item.{Item}
 use Rattle.rules.specs.declared.Place.{Place}
@@ -40,6 +41,10 @@ awaiting s t o w = took (move s t (Accepting (offer o)) w) (item t WAITS 0 0) []
 -- task t completes, and all of a list wake because it does
 abbrev pub completing : State → ℕ → List ℕ → Outcome
 completing s t l = took (move (wakeAll s l) t Completed Off) (item t DONE 0 0) (map (failed s) l)
+
+-- n ticks at once: all whose time comes within them wake, and the clock goes on by n; the answer has the entry e
+abbrev pub passing : State → ℕ → ℕ → Outcome
+passing s n e = took (setClock (wakeAll s (dueWithin s n)) (after (s .clock) n)) (item 0 DONE e 0) (map (expired s) (dueWithin s n))
 
 -- why the wait of a task in place p ends: by FINISH of the called task, or by time
 abbrev pub reasonOf : Bool → Place → ℕ

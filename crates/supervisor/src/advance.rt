@@ -1,13 +1,13 @@
-// ADVANCE: all those whose time comes within its ticks become ready at once, in the order of the delay queue.
+// TICK and ADVANCE: all those whose time comes within the ticks become ready at once, in the order of the delay queue.
 ghost use Prim.Native.Nat.{_≤_};
 ghost use lib.ListN.{length};
 ghost use mathlib.Core.Path.{_≡_};
-ghost use Rattle.calls.specs.declared.Call.the-variants.{Advance};
-ghost use Rattle.lists.specs.Line.{line};
-ghost use Rattle.rules.specs.Advance.{changes};
+ghost use Rattle.calls.specs.declared.Call.the-variants.{Tick, Advance};
+ghost use Rattle.lists.specs.Line.{line, pad};
+ghost use Rattle.rules.specs.Advance.{changes, dueWithin};
 ghost use Rattle.rules.specs.Step.{takeCall, roomAfter};
 ghost use Rattle.rules.specs.Whole.{view};
-ghost use Rattle.supervisor.specs.Taken.{Stands, takenOf, endedBy};
+ghost use Rattle.supervisor.specs.Taken.{Stands, takenOf, endedBy, passing};
 ghost use Rattle.table.specs.Moved.{leftOf};
 use super::answers::Taken;
 use super::answers::answered;
@@ -18,6 +18,21 @@ use table::queues::Test;
 use table::queues::picked;
 use table::tasks::index_of;
 use table::tasks::left_of;
+
+// Those whose time comes within n ticks, in the order of the delay queue.
+fn due_within(s: Supervisor, n: u32) -> [u8; 31]
+    ensures { λ r. ⌜ r ≡ pad (dueWithin (view s) n) ⌝ }
+{
+    let delays = s.delays;
+    picked(
+        s,
+        delays,
+        Test::DueWithin {
+            now: s.clock,
+            ticks: n,
+        },
+    )
+}
 
 // How many different numbers of ticks are left to those of a line in order of ticks left, all above 0.
 fn moments_of(s: Supervisor, l: [u8; 31]) -> u8
@@ -38,25 +53,36 @@ fn moments_of(s: Supervisor, l: [u8; 31]) -> u8
     n
 }
 
-// The clock goes on by n, and those due on the way become ready in delay-queue order.
+// The clock goes on by n ticks, and those of the line, whose time comes within them, become ready. The answer's entry is as given.
+fn passed(s: Supervisor, l: [u8; 31], n: u32, entry: u8, room: &mut [u8]) -> Taken
+    requires { ⌜ Stands s × (124 ≤ length (now room)) × (l ≡ pad (dueWithin (view s) n)) ⌝ }
+    ensures { λ r. ⌜ r ≡ takenOf s (passing (view s) n entry) ⌝ }
+    ensures room { λ r. ⌜ now (room .exit) ≡ roomAfter (now (room .entry)) (endedBy (passing (view s) n entry)) ⌝ }
+{
+    let reading = std::num::wrapping_add_u32(s.clock, n);
+    let w = wake_all(s, l, false, room);
+    let mut m = w.state;
+    m.clock = reading;
+    answered(m, 0, DONE, entry, 0, w.count)
+}
+
+// The clock goes on by one.
+pub fn tick(s: Supervisor, room: &mut [u8]) -> Taken
+    requires { ⌜ Stands s × (124 ≤ length (now room)) ⌝ }
+    ensures { λ r. ⌜ r ≡ takenOf s (takeCall (view s) Tick) ⌝ }
+    ensures room { λ r. ⌜ now (room .exit) ≡ roomAfter (now (room .entry)) (endedBy (takeCall (view s) Tick)) ⌝ }
+{
+    let l = due_within(s, 1);
+    passed(s, l, 1, 0, room)
+}
+
+// The clock goes on by n. The answer's entry is the number of readings at which a wait ended.
 pub fn advance(s: Supervisor, n: u32, room: &mut [u8]) -> Taken
     requires { ⌜ Stands s × (124 ≤ length (now room)) ⌝ }
     ensures { λ r. ⌜ r ≡ takenOf s (takeCall (view s) (Advance n)) ⌝ }
     ensures room { λ r. ⌜ now (room .exit) ≡ roomAfter (now (room .entry)) (endedBy (takeCall (view s) (Advance n))) ⌝ }
 {
-    let delays = s.delays;
-    let l = picked(
-        s,
-        delays,
-        Test::DueWithin {
-            now: s.clock,
-            ticks: n,
-        },
-    );
+    let l = due_within(s, n);
     let moments = moments_of(s, l);
-    let reading = std::num::wrapping_add_u32(s.clock, n);
-    let w = wake_all(s, l, false, room);
-    let mut m = w.state;
-    m.clock = reading;
-    answered(m, 0, DONE, moments, 0, w.count)
+    passed(s, l, n, moments, room)
 }

@@ -10,7 +10,6 @@ mod ended;
 mod finish;
 mod numbers;
 mod select;
-mod tick;
 
 ghost use Prim.Native.Nat.{_≤_};
 ghost use lib.Dec.{ltb};
@@ -55,7 +54,7 @@ fn take_call(s: Supervisor, c: Call, room: &mut [u8]) -> Taken
         Call::Select { open, mode } => select::select(s, open, mode),
         Call::End => end::end(s, room),
         Call::Finish => finish::finish(s, room),
-        Call::Tick => tick::tick(s, room),
+        Call::Tick => advance::tick(s, room),
         Call::Advance(n) => advance::advance(s, n, room),
     }
 }

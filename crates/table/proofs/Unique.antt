@@ -15,7 +15,6 @@ use Rattle.table.proofs.place.partner_of.Reads as partner-of
 use Rattle.table.proofs.place.entry_of.Reads as entry-of
 use Rattle.table.proofs.place.expiry_of.Reads as expiry-of
 use Rattle.table.proofs.place.has_time.Reads as has-time
-use Rattle.table.proofs.place.is_due.Reads as is-due
 use Rattle.table.proofs.place.ticks_left.Reads as ticks-left
 use Rattle.table.proofs.place.is_between.Reads as is-between
 use Rattle.table.proofs.place.in_range.Reads as in-range
@@ -77,9 +76,6 @@ expiry-of-once κs x r r′ y y′ p q = p ∙ sym q
 
 pub has-time-once : Once has-time.Post
 has-time-once κs x r r′ y y′ p q = p ∙ sym q
-
-pub is-due-once : Once is-due.Post
-is-due-once κs x r r′ y y′ p q = p ∙ sym q
 
 pub ticks-left-once : Once ticks-left.Post
 ticks-left-once κs x r r′ y y′ p q = p ∙ sym q

@@ -11,7 +11,6 @@ use Rattle.rules.specs.State.{State, setNth, taskOf, timerOf, isReady, isQueued
 use Rattle.rules.specs.declared.Place.the-variants.{Ready, Held}
 use Rattle.rules.specs.declared.Timer.the-variants.{Off}
 use Rattle.rules.specs.Advance.{comesIn}
-use Rattle.rules.specs.Step.{isDue}
 use Rattle.rules.specs.Whole.{view}
 use Rattle.rules.specs.declared.Task.{Task}
 use Rattle.rules.specs.declared.Timer.{Timer}
@@ -19,7 +18,7 @@ use Rattle.rules.specs.declared.Place.{Place}
 use Rattle.rules.specs.declared.Supervisor.{Supervisor}
 use Rattle.table.specs.Numbers.{isNumber, shownOf}
 use Rattle.table.specs.declared.queues.Test.{Test}
-use Rattle.table.specs.declared.queues.Test.the-variants.{QueuedOn, HeldBy, DueAt, DueWithin}
+use Rattle.table.specs.declared.queues.Test.the-variants.{QueuedOn, HeldBy, DueWithin}
 
 -- the struct with task t as x
 abbrev pub withTask : Supervisor → ℕ → Task → Supervisor
@@ -81,7 +80,6 @@ leftOf s x = ticksLeft (s .clock) (timerOf (view s) x)
 abbrev pub isPicked : Task → Test → Bool
 isPicked x (QueuedOn t e) = isQueued (x .place) && eqb (partnerOf (x .place)) t && eqb (entryOf (x .place)) e
 isPicked x (HeldBy t) = isHeld (x .place) && eqb (partnerOf (x .place)) t
-isPicked x (DueAt now) = isDue now (x .timer)
 isPicked x (DueWithin now n) = comesIn now n (x .timer)
 
 abbrev pub passesOf : State → Test → ℕ → Bool

@@ -5,7 +5,7 @@ ghost use mathlib.Core.Bool.{_&&_};
 ghost use mathlib.Core.Path.{_≡_};
 ghost use Rattle.rules.specs.Sound.{inRange};
 ghost use Rattle.rules.specs.State.{isReady, isQueued, isHeld, isCompleted, partnerOf, entryOf, accepts, opens, hasTime, ticksLeft};
-ghost use Rattle.rules.specs.Step.{isDue, expiry};
+ghost use Rattle.rules.specs.Step.{expiry};
 use rules::Place;
 use rules::Timer;
 
@@ -83,15 +83,6 @@ pub fn has_time(w: Timer) -> bool
     match w {
         Timer::Off => false, // no tick ends the wait
         Timer::Due(_) => true,
-    }
-}
-
-pub fn is_due(now: u32, w: Timer) -> bool
-    ensures { λ r. ⌜ r ≡ isDue now w ⌝ }
-{
-    match w {
-        Timer::Off => false, // no tick is its time
-        Timer::Due(d) => d == now,
     }
 }
 

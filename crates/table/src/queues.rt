@@ -8,7 +8,6 @@ ghost use Rattle.rules.specs.Advance.{comesIn};
 ghost use Rattle.rules.specs.State.{isQueued, isHeld, partnerOf, entryOf};
 ghost use Rattle.rules.specs.Whole.{view};
 ghost use Rattle.table.specs.Moved.{isPicked, passesOf};
-use super::place::is_due;
 use super::place::ticks_left;
 use super::tasks::index_of;
 use super::tasks::shown;
@@ -21,7 +20,6 @@ use rules::Timer;
 pub enum Test {
     QueuedOn { target: u8, entry: u8 },
     HeldBy { holder: u8 },
-    DueAt { now: u32 },
     DueWithin { now: u32, ticks: u32 },
 }
 
@@ -62,7 +60,6 @@ fn passes(x: Task, q: Test) -> bool
     match q {
         Test::QueuedOn { target, entry } => waits_on(p, target, entry),
         Test::HeldBy { holder } => is_held_by(p, holder),
-        Test::DueAt { now } => is_due(now, w),
         Test::DueWithin { now, ticks } => comes_in(now, ticks, w),
     }
 }
