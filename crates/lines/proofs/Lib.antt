@@ -1,2 +1,1 @@
-pub mod RejoinLaws
 pub mod Unique

@@ -1,10 +1,8 @@
 // Lines: task numbers in order, and blanks (0) behind them, in an array of 31.
 ghost use mathlib.Core.Path.{_≡_};
 ghost use mathlib.Core.List.{[], _∷_, _++_};
-ghost use mathlib.Core.Bool.{_&&_};
-ghost use lib.Dec.{ltb};
-ghost use lib.ListN.{length, set};
-ghost use Rattle.lists.specs.Lists.{if_then_else_, remove, rejoin, first, last};
+ghost use lib.ListN.{length};
+ghost use Rattle.lists.specs.Lists.{remove, rejoin, first, last};
 ghost use Rattle.lists.specs.Line.{line, pad};
 ghost use Rattle.lists.specs.Marks.{noMarks, markOf, marked, withMark, insertBy};
 
@@ -55,34 +53,15 @@ pub fn without(a: [u8; 31], t: u8) -> [u8; 31]
     r
 }
 
-// The first j of r, with t behind them if it joins and there is room.
-fn with_last(r: [u8; 31], j: usize, t: u8, joins: bool) -> [u8; 31]
-    ensures { λ n. ⌜ n ≡ (if joins && ltb j 31 then set r j t else r) ⌝ }
-{
-    let mut n = r;
-    if joins & (j < 31) {
-        n[j] = t;
-    }
-    n
-}
-
 // The line without t, and with t at its end if it belongs there now.
 pub fn rejoined(a: [u8; 31], t: u8, joins: bool) -> [u8; 31]
     ensures { λ r. ⌜ r ≡ pad (rejoin joins t (line a)) ⌝ }
 {
-    let mut r = [0u8; 31];
-    let mut j: usize = 0;
-    for i in 0..31 {
-        let x = a[i];
-        if x == 0 {
-            return with_last(r, j, t, joins);
-        }
-        if x != t {
-            r[j] = x;
-            j += 1;
-        }
+    let rest = without(a, t);
+    if joins {
+        return joined(rest, t);
     }
-    with_last(r, j, t, joins)
+    rest
 }
 
 // The line laid out afresh: what stood behind a blank is gone.

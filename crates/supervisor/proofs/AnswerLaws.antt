@@ -91,10 +91,6 @@ of-task v g x f b c ex e z = sym (ap f ex) ∙ sym e ∙ z
 pub quiet-room : (x : List ℕ) {l : List Item} → l ≡ [] → x ≡ roomAfter x l
 quiet-room x e = sym (ap (roomAfter x) e)
 
--- the room, where the list that was woken is another's name
-pub room-of : (x y : List ℕ) (f : ℕ → Item) (l xs : List ℕ) → y ≡ roomAfter x (map f l) → l ≡ xs → y ≡ roomAfter x (map f xs)
-room-of x y f l xs e q = e ∙ ap (λ (z : List ℕ). roomAfter x (map f z)) q
-
 -- a call that ends no wait
 abbrev pub Quiet : Outcome → Type 0
 Quiet o = endedBy o ≡ []
