@@ -3,9 +3,9 @@ ghost use mathlib.Core.Path.{_≡_};
 ghost use mathlib.Core.Bool.{true, false};
 ghost use Prim.Native.Nat.{_+_, _≤_};
 ghost use lib.ListN.{length};
-ghost use Rattle.calls.specs.Record.{fourFrom, lengthOf, isUnknown};
+ghost use Rattle.calls.specs.Record.{byte, fourFrom, lengthOf, isUnknown};
 ghost use Rattle.calls.specs.Reading.{callModeOf, selectModeOf, readOf, refusalOf, countOf, refusalFor, countFor};
-ghost use Rattle.calls.specs.Parts.{badFrame, badMode, bodyRead};
+ghost use Rattle.calls.specs.Parts.{badFrame, badMode, badBody, bodyRead};
 use super::Call;
 use super::CallMode;
 use super::Read;
@@ -57,11 +57,26 @@ fn bad_frame(s: &[u8]) -> bool
     is_unknown(tag) | (half(s[1], s[2]) as usize != n) | (s.len() - 3 < n)
 }
 
-// Whether a mode's number and duration make no mode.
-fn bad_mode(m: u8, d: u32) -> bool
-    ensures { λ r. ⌜ r ≡ badMode m d ⌝ }
+// Whether the mode at an index and the duration behind it make no mode.
+fn bad_mode(s: &[u8], i: usize) -> bool
+    requires { ⌜ i + 5 ≤ length (now s) ⌝ }
+    ensures { λ r. ⌜ r ≡ badMode (byte (now (s .entry)) i) (fourFrom (now (s .entry)) (i + 1)) ⌝ }
 {
+    let m = s[i];
+    let d = four_from(s, i + 1);
     (2 < m) | ((m != 1) & (d != 0))
+}
+
+// Whether a record whose frame is right has a mode that is none.
+fn bad_body(s: &[u8], tag: u8) -> bool
+    requires { ⌜ 3 + lengthOf tag ≤ length (now s) ⌝ }
+    ensures { λ r. ⌜ r ≡ badBody tag (now (s .entry)) ⌝ }
+{
+    match tag {
+        3 => bad_mode(s, 5),
+        4 => bad_mode(s, 4),
+        _ => false,
+    }
 }
 
 fn call_mode(m: u8, d: u32) -> CallMode
@@ -84,7 +99,7 @@ fn select_mode(m: u8, d: u32) -> SelectMode
     }
 }
 
-// A DELAY record whose frame is right.
+// A DELAY record without a fault.
 fn read_delay(s: &[u8]) -> Read
     requires { ⌜ 7 ≤ length (now s) ⌝ }
     ensures { λ r. ⌜ r ≡ bodyRead 2 (now (s .entry)) ⌝ }
@@ -96,17 +111,12 @@ fn read_delay(s: &[u8]) -> Read
     }
 }
 
-// A CALL record whose frame is right.
+// A CALL record without a fault.
 fn read_call(s: &[u8]) -> Read
     requires { ⌜ 10 ≤ length (now s) ⌝ }
     ensures { λ r. ⌜ r ≡ bodyRead 3 (now (s .entry)) ⌝ }
 {
-    let m = s[5];
-    let d = four_from(s, 6);
-    if bad_mode(m, d) {
-        return Read::BadRecord;
-    }
-    let mode = call_mode(m, d);
+    let mode = call_mode(s[5], four_from(s, 6));
     Read::Record {
         call: Call::Call {
             target: s[3],
@@ -117,24 +127,19 @@ fn read_call(s: &[u8]) -> Read
     }
 }
 
-// A SELECT record whose frame is right.
+// A SELECT record without a fault.
 fn read_select(s: &[u8]) -> Read
     requires { ⌜ 9 ≤ length (now s) ⌝ }
     ensures { λ r. ⌜ r ≡ bodyRead 4 (now (s .entry)) ⌝ }
 {
-    let m = s[4];
-    let d = four_from(s, 5);
-    if bad_mode(m, d) {
-        return Read::BadRecord;
-    }
-    let mode = select_mode(m, d);
+    let mode = select_mode(s[4], four_from(s, 5));
     Read::Record {
         call: Call::Select { open: s[3], mode },
         count: 9,
     }
 }
 
-// An ADVANCE record whose frame is right.
+// An ADVANCE record without a fault.
 fn read_advance(s: &[u8]) -> Read
     requires { ⌜ 7 ≤ length (now s) ⌝ }
     ensures { λ r. ⌜ r ≡ bodyRead 8 (now (s .entry)) ⌝ }
@@ -146,7 +151,7 @@ fn read_advance(s: &[u8]) -> Read
     }
 }
 
-// A record whose frame is right. There is no other tag: the frame would be wrong.
+// A record without a fault. There is no other tag: the frame would be wrong.
 fn read_body(s: &[u8], tag: u8) -> Read
     requires { ⌜ isUnknown tag ≡ false ⌝ }
     requires { ⌜ 3 + lengthOf tag ≤ length (now s) ⌝ }
@@ -189,6 +194,9 @@ pub fn read_record(s: &[u8]) -> Read
         return Read::EndOfLog;
     }
     if bad_frame(s) {
+        return Read::BadRecord;
+    }
+    if bad_body(s, s[0]) {
         return Read::BadRecord;
     }
     read_body(s, s[0])

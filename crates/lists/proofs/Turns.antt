@@ -90,13 +90,46 @@ laid r j xs l e n = rw (e, n) (take-pad xs l)
 pub laid-out : (r : List ℕ) (j : ℕ) (xs : List ℕ) → length xs ≤ 31 → r ≡ pad xs → j ≡ length xs → r ≡ pad (take j r)
 laid-out r j xs l e n = e ∙ ap pad (sym (laid r j xs l e n))
 
--- one turn of picking, over plain lists: what a turn's `simp` would do over the long paths of `c`, done once
-pub pick-on : (p : ℕ → Bool) (r : List ℕ) (j x : ℕ) (xs ys : List ℕ) → j < 31 → r ≡ pad (take j r) → xs ≡ x ∷ ys → p x ≡ true → pad (take j r ++ filter p xs) ≡ pad (take (j + 1) (set r j x) ++ filter p ys)
-pick-on p r j x xs ys l e q h = simp (q, h, fill-front r j x (filter p ys) l e)
+-- ---- a line that is laid out afresh, place after place
 
--- one turn of picking where the number fails the test
-pub pick-off : (p : ℕ → Bool) (x : ℕ) (xs ys zs : List ℕ) → xs ≡ x ∷ ys → p x ≡ false → pad (zs ++ filter p xs) ≡ pad (zs ++ filter p ys)
-pick-off p x xs ys zs q h = simp (q, h)
+-- of the line in a, i places are looked at; r holds the j entries that F keeps of them, and what it keeps of the rest is to come behind them
+pub record Filling (F : List ℕ → List ℕ) (a r : List ℕ) (j i : ℕ) : Type 0 where
+  pub looked : i ≤ 31
+  pub kept : j ≤ i
+  pub front : r ≡ pad (take j r)
+  pub whole : pad (F (line a)) ≡ pad (take j r ++ F (line (drop i a)))
+
+-- at first there is nothing
+pub fill-start : {F : List ℕ → List ℕ} {a : List ℕ} → Filling F a (replicate 31 0) 0 0
+fill-start = record { looked = omega arith; kept = omega arith; front = fill-none; whole = refl }
+
+module _ {F : List ℕ → List ℕ} {a r : List ℕ} {j i : ℕ} (f : Filling F a r j i) where
+  -- a turn that keeps the number at place i, and one that does not
+  module _ (long : length a ≡ 31) (here : i < 31) (entry : getD a i 0 ≡ 0 → ⊥) where
+    pub fill-keep : F (getD a i 0 ∷ line (drop (i + 1) a)) ≡ getD a i 0 ∷ F (line (drop (i + 1) a)) → Filling F a (set r j (getD a i 0)) (j + 1) (i + 1)
+    fill-keep e =
+        let few = f .kept in
+        let room : j < 31 = omega arith in
+        record {
+          looked = omega arith;
+          kept = omega arith;
+          front = fill r j (getD a i 0) room (f .front);
+          whole = f .whole ∙ (rw (rest-entry a i (omega arith) entry, e) (ap pad (sym (fill-front r j (getD a i 0) (F (line (drop (i + 1) a))) room (f .front)))));
+        }
+
+    pub fill-skip : F (getD a i 0 ∷ line (drop (i + 1) a)) ≡ F (line (drop (i + 1) a)) → Filling F a r j (i + 1)
+    fill-skip e =
+        let few = f .kept in
+        record {
+          looked = omega arith;
+          kept = omega arith;
+          front = f .front;
+          whole = f .whole ∙ ap (λ (l : List ℕ). pad (take j r ++ l)) (ap F (rest-entry a i (omega arith) entry) ∙ e);
+        }
+
+  -- nothing is left
+  pub fill-end : line (drop i a) ≡ [] → F [] ≡ [] → r ≡ pad (F (line a))
+  fill-end e z = sym (f .whole ∙ (rw (e, z) (filled r j (f .front))))
 
 -- ---- insertion before the first that passes the test, or at once where one before has passed
 

@@ -45,18 +45,6 @@ returns-2 c =
     let s = n .loop in
     rw (whole n) (sym (filled-up (s .r) (s .j) _ (c .if2 .taken) (s .inv .2)))
 
-array-write-r : tie.Need-array-write-r Inv-loop μ-loop
-array-write-r c = omega arith
-
-add-j : tie.Need-add-j Inv-loop μ-loop
-add-j c = omega arith
-
-add-i : tie.Need-add-i Inv-loop μ-loop
-add-i c = omega arith
-
-loop-less : tie.Need-loop-less Inv-loop μ-loop
-loop-less c = omega arith
-
 loop-again : tie.Need-loop-again Inv-loop μ-loop
 loop-again c =
     let n = c .before .before .before in
@@ -85,9 +73,9 @@ joined-all-spec =
     (λ c. search needs)
     returns
     returns-2
-    array-write-r
-    add-j
-    add-i
-    loop-less
+    (λ c. omega arith)
+    (λ c. omega arith)
+    (λ c. omega arith)
+    (λ c. omega arith)
     loop-again
     returns-3)

@@ -14,18 +14,12 @@ Inv-loop a i₀ i = (i ≤ 31) × (length (line a) ≡ i + length (line (drop i 
 abbrev μ-loop : tie.MeasureT-loop
 μ-loop a i₀ i = 31 - i
 
-loop-holds : tie.Need-loop-holds Inv-loop μ-loop
-loop-holds c = omega arith
-
 returns : tie.Need-returns Inv-loop μ-loop
 returns c =
     let a = c .before .before .before .args .t1 in
     let i = c .before .before .loop .i in
     let l : length a ≡ 31 = search needs in
     omega (arith, ap length (rest-blank a i (omega arith) (c .if1 .taken)))
-
-loop-less : tie.Need-loop-less Inv-loop μ-loop
-loop-less c = omega arith
 
 loop-again : tie.Need-loop-again Inv-loop μ-loop
 loop-again c =
@@ -47,10 +41,10 @@ len-spec =
     (tie.spec
     Inv-loop
     μ-loop
-    loop-holds
+    (λ c. omega arith)
     (λ c. search needs)
     returns
     (λ c. search needs)
-    loop-less
+    (λ c. omega arith)
     loop-again
     returns-2)

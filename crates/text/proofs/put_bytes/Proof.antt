@@ -20,15 +20,6 @@ loop-holds c =
     let a = c .before .before .before .args in
     (omega arith, putting-start (a .out .now) (a .at) (a .text .now) (c .least .ensures))
 
-shared-slice-read-put-byte : tie.Need-shared-slice-read-put-byte Inv-loop μ-loop
-shared-slice-read-put-byte c = omega arith
-
-add-i : tie.Need-add-i Inv-loop μ-loop
-add-i c = omega arith
-
-loop-less : tie.Need-loop-less Inv-loop μ-loop
-loop-less c = omega arith
-
 loop-again : tie.Need-loop-again Inv-loop μ-loop
 loop-again c =
     let a = c .before .before .before .before .before .before .before .before .before .before .args in
@@ -53,10 +44,10 @@ put-bytes-spec =
     μ-loop
     (λ c κs. search needs)
     loop-holds
-    shared-slice-read-put-byte
+    (λ c. omega arith)
     (λ c κs. search needs)
-    add-i
-    loop-less
+    (λ c. omega arith)
+    (λ c. omega arith)
     loop-again
     same-length
     returns)

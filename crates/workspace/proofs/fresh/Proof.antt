@@ -1,7 +1,7 @@
 -- `workspace::fresh` meets its contract: a walk of its MIR, by hand. Both tables are looked at, a covered function works out what is to be done, and the tables are written.
 --     begins       the body, once the parameters are in their locals
 -- Assumes nothing.
-use Rattle.workspace.proofs.Prelude.{_≡_, refl, _∙_, ℕ, _<_, List, [], _∷_, length, URA, fullShare, named, erased, imm, mut, tyUnit, Val, SProp, ent, emp, via, fst∗, Lft, Share, ftrue, fat, froom, fdies, flft, Memory, Routine, Heap, Env, WpFn, Calls, Loops, Tables, Atoms, Fun, givenOf, tables, tablesOf, Given, Item, _⊛_, ⋆, runs, atRet, Sq, _$_, _∵_, !, qed, move, drop, split, join, fsplit, fjoin, suffices, frame, done, agg, init, stop, from, of-opd, and-then, no-more, lit, lit<, assigns, enter, alloc1, alloc0, params1, pass1, pass0, FmC, fmOf, WpFn-mono, owns, Is, RefT, MutSlice, Room, finally, slice-vals, mut-slice-tells, plain, nothing, owned, Vals, onEntry, Meets, tripleOf, Triple, entered, cited, says, Stays, gave-slice, walkOf, AllGo, goes-gave-slice, Walks, ends-at, walked, walk-meets, ‵, tyInt, w32, w64, vint}
+use Rattle.workspace.proofs.Prelude.{_≡_, refl, _∙_, ℕ, _<_, List, [], _∷_, length, URA, fullShare, named, erased, imm, mut, tyUnit, Val, SProp, ent, emp, via, fst∗, Lft, Share, ftrue, fat, froom, fdies, flft, Memory, Routine, Heap, Env, WpFn, Calls, Loops, Tables, Atoms, Fun, givenOf, tables, tablesOf, Given, Item, _⊛_, ⋆, runs, atRet, Sq, _$_, _∵_, !, qed, move, drop, split, join, fsplit, fjoin, suffices, frame, done, agg, init, stop, from, of-opd, and-then, no-more, lit, lit<, assigns, enter, alloc1, alloc0, params1, pass1, pass0, FmC, fmOf, WpFn-mono, owns, Is, RefT, MutSlice, Room, finally, slice-vals, mut-slice-tells, plain, nothing, owned, Vals, onEntry, Meets, tripleOf, Triple, entered, cited, says, Stays, gave-slice, walkOf, AllGo, goes-gave-slice, ends-at, walked, walk-meets, ‵, tyInt, w32, w64, vint}
 use denote.Struct.Laws as LL
 use Rattle.workspace.specs.declared.Stretch.{Stretch}
 use Rattle.workspace.specs.declared.Done.{Done}
@@ -96,19 +96,15 @@ module _ {M : Type 1} (𝓤 : URA M) (H : Heap 𝓤) (A : Atoms 𝓤) (W : Given
       starts C Λ fm k₁ k₂ k₃ l₀ l₁ l₂ l₃ l₄ l₅ l₆ l₇ l₈ l₉ l₁₀ l₁₁ l₁₂ l₁₃ l₁₄ l₁₅))))))))))))))))
 
 module _ {M : Type 1} (𝓤 : URA M) (H : Heap 𝓤) (A : Atoms 𝓤) (W : Given 𝓤 H A) (mem : Memory → SProp 𝓤) (run : Routine → Fun 𝓤) where
-  fresh-walks : (C : Calls 𝓤 H) (Λ : Loops 𝓤 H) → FmC 𝓤 H (W .laws) C → Triple 𝓤 (C #workspace·look-at) (LookAt 𝓤 H A mem run) → Triple 𝓤 (C #workspace·made) (Does 𝓤 H A freshSeen) → Triple 𝓤 (C #workspace·stored) (Stored 𝓤 H A mem run)
-      → Walks 𝓤 H A f.ended stayed (WpFn 𝓤 H C Λ code.function) (f.clauses 𝓤 H A mem run)
-  fresh-walks C Λ fm k₁ k₂ k₃ = walked 𝓤 H A f.ended stayed (f.clauses 𝓤 H A mem run) (WpFn 𝓤 H C Λ code.function) (λ κs. (slice-vals, (slice-vals, tt)))
-      (λ κs. (mut-slice-tells (named 0) (κs .0) T.the-row, (mut-slice-tells (named 1) (κs .1 .0) T.the-row, tt)))
-      (λ κs qs bounds a g are. via 𝓤 _ (fst∗ 𝓤 _ (emp 𝓤)) (walk 𝓤 H A W mem run (κs .0) (κs .1 .0) (qs .0) (qs .1 .0) (record { b = a .0 .ptr .0; o = a .0 .ptr .1; γ = a .0 .name; now = a .0 .now }) (record { b = a .1 .0 .ptr .0; o = a .1 .0 .ptr .1; γ = a .1 .0 .name; now = a .1 .0 .now })
-      (are .0 .0 .1) (are .1 .0 .0 .1) C Λ fm k₁ k₂ k₃))
-
   goes : AllGo 𝓤 H A W 2 (f.signature .params) (f.ended .kept) stayed
   goes = (goes-gave-slice 𝓤 H A W 2 0 tt (plain (λ _. T.the-row)), (goes-gave-slice 𝓤 H A W 2 1 tt (plain (λ _. T.the-row)), tt))
 
-fresh-meets : {M : Type 1} (𝓤 : URA M) (H : Heap 𝓤) (A : Atoms 𝓤) → Given 𝓤 H A → (mem : Memory → SProp 𝓤) (run : Routine → Fun 𝓤) (𝓣 : Tables 𝓤 H) → Triple 𝓤 (𝓣 .C #workspace·look-at) (LookAt 𝓤 H A mem run) → Triple 𝓤 (𝓣 .C #workspace·made) (Does 𝓤 H A freshSeen) → Triple 𝓤 (𝓣 .C #workspace·stored) (Stored 𝓤 H A mem run)
-    → Meets 𝓤 H A f.signature (WpFn 𝓤 H (𝓣 .C) (𝓣 .Λ) code.function) (f.spec 𝓤 H A mem run)
-fresh-meets 𝓤 H A W mem run 𝓣 k₁ k₂ k₃ = walk-meets 𝓤 H A f.ended stayed W (goes 𝓤 H A W mem run) (f.clauses 𝓤 H A mem run) (WpFn 𝓤 H (𝓣 .C) (𝓣 .Λ) code.function) (WpFn-mono 𝓤 H (W .laws) 𝓣 code.function) (fresh-walks 𝓤 H A W mem run (𝓣 .C) (𝓣 .Λ) (fmOf 𝓤 H (W .laws) 𝓣) k₁ k₂ k₃)
+  fresh-meets : (𝓣 : Tables 𝓤 H) → Triple 𝓤 (𝓣 .C #workspace·look-at) (LookAt 𝓤 H A mem run) → Triple 𝓤 (𝓣 .C #workspace·made) (Does 𝓤 H A freshSeen) → Triple 𝓤 (𝓣 .C #workspace·stored) (Stored 𝓤 H A mem run) → Meets 𝓤 H A f.signature (WpFn 𝓤 H (𝓣 .C) (𝓣 .Λ) code.function) (f.spec 𝓤 H A mem run)
+  fresh-meets 𝓣 k₁ k₂ k₃ = walk-meets 𝓤 H A f.ended stayed W goes (f.clauses 𝓤 H A mem run) (WpFn 𝓤 H (𝓣 .C) (𝓣 .Λ) code.function) (WpFn-mono 𝓤 H (W .laws) 𝓣 code.function)
+      (walked 𝓤 H A f.ended stayed (f.clauses 𝓤 H A mem run) (WpFn 𝓤 H (𝓣 .C) (𝓣 .Λ) code.function) (λ κs. (slice-vals, (slice-vals, tt)))
+      (λ κs. (mut-slice-tells (named 0) (κs .0) T.the-row, (mut-slice-tells (named 1) (κs .1 .0) T.the-row, tt)))
+      (λ κs qs bounds a g are. via 𝓤 _ (fst∗ 𝓤 _ (emp 𝓤)) (walk 𝓤 H A W mem run (κs .0) (κs .1 .0) (qs .0) (qs .1 .0) (record { b = a .0 .ptr .0; o = a .0 .ptr .1; γ = a .0 .name; now = a .0 .now }) (record { b = a .1 .0 .ptr .0; o = a .1 .0 .ptr .1; γ = a .1 .0 .name; now = a .1 .0 .now })
+      (are .0 .0 .1) (are .1 .0 .0 .1) (𝓣 .C) (𝓣 .Λ) (fmOf 𝓤 H (W .laws) 𝓣) k₁ k₂ k₃)))
 
 pub fresh-spec : {M : Type 1} → stated.statement M
 unfolding code.routine tablesOf

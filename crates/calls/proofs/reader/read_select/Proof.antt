@@ -1,28 +1,13 @@
 use borrow.Author.Needs.{needs}
-use mathlib.Core.Path.{sym, _∙_}
 use Rattle.calls.specs.Parts.{bodyRead}
 use Rattle.calls.proofs.reader.read_select.Statement.{statement}
 use Rattle.calls.proofs.reader.read_select.Tie as tie
 
 returns : tie.Need-returns
 unfolding bodyRead
-returns c = rw (sym (rw (c .before .before .four-from .ensures) at (c .before .bad-mode .ensures)) ∙ c .if1 .taken)
-
-returns-2 : tie.Need-returns-2
-unfolding bodyRead
-returns-2 c =
-    let k = c .before .before .before in
-    let d = k .before .four-from .ensures in
-    rw (sym (rw d at (k .bad-mode .ensures)) ∙ c .before .before .if1 .left, rw d at (c .before .select-mode .ensures))
+returns c = let k = c .before in rw (rw (k .before .four-from .ensures) at (k .select-mode .ensures))
 
 pub read-select-spec : {M : Type 1} → statement M
 read-select-spec =
     tie.close
-    (tie.spec
-    (λ c. search needs)
-    (λ c κs. search needs)
-    (λ c κs. search needs)
-    returns
-    (λ c κs. search needs)
-    (λ c. search needs)
-    returns-2)
+    (tie.spec (λ c. search needs) (λ c κs. search needs) (λ c κs. search needs) (λ c. search needs) returns)

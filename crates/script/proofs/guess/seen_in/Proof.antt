@@ -23,12 +23,6 @@ loop-holds c = (search needs, (search needs, (omega arith, ap (λ (s : Seen). he
 element-copy-out-heard : tie.Need-element-copy-out-heard Inv-loop μ-loop
 element-copy-out-heard c = let v = c .before .loop .inv in omega (arith, v .0, v .1 .0, c .loop-test .taken)
 
-add-i : tie.Need-add-i Inv-loop μ-loop
-add-i c = omega arith
-
-loop-less : tie.Need-loop-less Inv-loop μ-loop
-loop-less c = omega arith
-
 loop-again : tie.Need-loop-again Inv-loop μ-loop
 loop-again c =
     let l = c .before .before .before .loop in
@@ -52,7 +46,7 @@ seen-in-spec =
     loop-holds
     element-copy-out-heard
     (λ c κs. search needs)
-    add-i
-    loop-less
+    (λ c. omega arith)
+    (λ c. omega arith)
     loop-again
     returns)

@@ -21,9 +21,6 @@ abbrev μ-loop : tie.MeasureT-loop
 loop-holds : tie.Need-loop-holds Inv-loop μ-loop
 loop-holds c = (omega arith, (search needs, refl))
 
-loop-less : tie.Need-loop-less Inv-loop μ-loop
-loop-less c = omega arith
-
 loop-again : tie.Need-loop-again Inv-loop μ-loop
 loop-again c =
     let l = c .before .before .before .loop in
@@ -45,6 +42,6 @@ with-entries-spec =
     (λ c κs. search needs)
     (λ c κs. search needs)
     (λ c. search needs)
-    loop-less
+    (λ c. omega arith)
     loop-again
     returns)

@@ -24,21 +24,12 @@ loop-holds c =
     let l = c .before .before .args .line .now in
     (omega arith, (search needs, sym (ap (λ (t : List ℕ). cut (t ++ wordsFrom false l)) (c .empty .ensures))))
 
-shared-slice-read-b : tie.Need-shared-slice-read-b Inv-loop μ-loop
-shared-slice-read-b c = omega arith
-
 returns : tie.Need-returns Inv-loop μ-loop
 unfolding wordsOf
 returns c =
     let l = c .before .before .before .loop in
     let w = c .before .before .before .before .before .before .args .line .now in
     growing-done (l .words) _ _ (l .inv .1 .0) (comment w (l .inside) (l .i) (omega arith) (c .if1 .taken)) (l .inv .1 .1)
-
-add-i : tie.Need-add-i Inv-loop μ-loop
-add-i c = omega arith
-
-loop-less : tie.Need-loop-less Inv-loop μ-loop
-loop-less c = omega arith
 
 loop-again : tie.Need-loop-again Inv-loop μ-loop
 loop-again c =
@@ -61,10 +52,10 @@ words-of-spec =
     μ-loop
     (λ c κs. search needs)
     loop-holds
-    shared-slice-read-b
+    (λ c. omega arith)
     returns
     (λ c κs. search needs)
-    add-i
-    loop-less
+    (λ c. omega arith)
+    (λ c. omega arith)
     loop-again
     returns-2)

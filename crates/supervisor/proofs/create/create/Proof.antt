@@ -1,7 +1,9 @@
+use Prim.Native.Nat.{_<_}
 use native.Mathlib.Omega.{arith}
 use borrow.Author.Needs.{needs}
 use mathlib.Core.Path.{refl}
 use mathlib.Core.List.{[]}
+use Rattle.lists.proofs.Parts.{need, When}
 use Rattle.rules.specs.State.{add}
 use Rattle.rules.specs.Whole.{view}
 use Rattle.supervisor.proofs.MoveLaws.{created-is}
@@ -24,18 +26,25 @@ returns-2 c =
     let k = created-is (a .s) (r .before .pre) in
     by-outcome (a .s) (create-full (view (a .s)) (a .priority) (a .entries) (r .in-range .result) (r .in-range .ensures) (e1 .if1 .left) (omega (arith, k))) (c .refused-by2 .ensures)
 
-returns-3 : tie.Need-returns-3
-returns-3 c =
-    let e2 = c .before .before .before .before .before .before in
+-- behind the second test there is room for one more
+room : (c : tie.Else2) → c .before .before .before .before .args .s .created < 31
+room c = omega (arith, c .if2 .left)
+
+-- what is answered where there is
+new-task : When (need tie.Need-returns-3) (λ c. c .before .before .before .before .before .before .before .before .before .before .args .s .created < 31)
+new-task c few =
     let e1 = c .before .before .before .before .before .before .before .before in
     let r = e1 .before in
     let a = r .before .args in
     let h = r .before .pre in
     let k = created-is (a .s) h in
     let m = c .before .with-task in
-    by-outcome (a .s) (create-new (view (a .s)) (a .priority) (a .entries) (r .in-range .result) _ (r .in-range .ensures) (e1 .if1 .left) (omega (arith, k, e2 .if2 .left)) (omega (arith, k)))
+    by-outcome (a .s) (create-new (view (a .s)) (a .priority) (a .entries) (r .in-range .result) _ (r .in-range .ensures) (e1 .if1 .left) (omega (arith, k, few)) (omega (arith, k)))
     (answers (a .s) _ (add (view (a .s)) (a .priority) (a .entries)) _ [] (c .answered .ensures)
-    (add-packed (a .s) (m .result) (a .priority) (a .entries) _ _ h (omega (arith, e2 .if2 .left)) refl (c .before .before .fresh-task .ensures) (c .before .before .before .joined .ensures) (m .ensures)))
+    (add-packed (a .s) (m .result) (a .priority) (a .entries) _ _ h few refl (c .before .before .fresh-task .ensures) (c .before .before .before .joined .ensures) (m .ensures)))
+
+returns-3 : tie.Need-returns-3
+returns-3 c = new-task c (room (c .before .before .before .before .before .before))
 
 pub create-spec : {M : Type 1} → statement M
 create-spec =

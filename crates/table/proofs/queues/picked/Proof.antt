@@ -1,15 +1,13 @@
 use native.Mathlib.Omega.{arith}
 use borrow.Author.Needs.{needs}
-use Prim.Native.Nat.{_-_, _≤_, _<_}
+use Prim.Native.Nat.{_-_}
 use mathlib.Core.Path.{_≡_, refl, sym, ap, _∙_}
 use mathlib.Core.Bool.{Bool, true, false}
-use mathlib.Core.List.{_++_}
-use lib.ListN.{drop, take, length, getD}
-use Rattle.lists.specs.Line.{line, pad}
+use lib.ListN.{length, getD}
 use Rattle.lists.specs.Lists.{filter}
 use Rattle.lists.proofs.Tests.{ways}
 use Rattle.lists.proofs.Parts.{need, When, Taken, Left}
-use Rattle.lists.proofs.Turns.{rest-blank, rest-entry, rest-end, fill-none, fill, filled, pick-on, pick-off}
+use Rattle.lists.proofs.Turns.{rest-blank, rest-end, Filling, fill-start, fill-keep, fill-skip, fill-end}
 use Rattle.rules.specs.Whole.{view}
 use Rattle.rules.specs.declared.Task.{Task}
 use Rattle.table.specs.Moved.{isPicked, passesOf}
@@ -19,18 +17,18 @@ use Rattle.table.proofs.queues.picked.Tie as tie
 
 abbrev Inv-loop : tie.InvT-loop
 Inv-loop q s a r₀ j₀ i₀ r j i =
-    (i ≤ 31) × (j ≤ i) × (r ≡ pad (take j r)) × (pad (filter (passesOf (view s) q) (line a)) ≡ pad (take j r ++ filter (passesOf (view s) q) (line (drop i a)))) × (length (s .tasks) ≡ 31)
+    Filling (filter (passesOf (view s) q)) a r j i × (length (s .tasks) ≡ 31)
 
 abbrev μ-loop : tie.MeasureT-loop
 μ-loop q s a r₀ j₀ i₀ r j i = 31 - i
 
 loop-holds : tie.Need-loop-holds Inv-loop μ-loop
-loop-holds c = (omega arith, omega arith, fill-none, refl, search (needs, mapped-long))
+loop-holds c = (fill-start, search (needs, mapped-long))
 
 returns : tie.Need-returns Inv-loop μ-loop
 returns c =
     let l = c .before .before .loop in
-    rw (l .inv .3, rest-blank (c .before .before .before .args .t2) (l .i) (search needs) (c .if1 .taken)) (sym (filled (l .r) (l .j) (l .inv .2)))
+    fill-end (l .inv .0) (rest-blank (c .before .before .before .args .t2) (l .i) (search needs) (c .if1 .taken)) refl
 
 -- the test of the task at place i, and what the code says of it
 abbrev test : tie.After-passes Inv-loop μ-loop → Bool
@@ -40,36 +38,19 @@ passes-here : (c : tie.After-passes Inv-loop μ-loop) → c .passes .result ≡ 
 passes-here c =
     let l = c .before .before .before .before .before .before in
     let a = l .before .args in
-    c .passes .ensures ∙ ap (λ (x : Task). isPicked x (a .q)) (shown-at (a .t1) (getD (a .t2) (l .loop .i) 0) _ _ (l .loop .inv .4) (c .before .before .before .index-of .ensures .0) (c .before .shown .ensures))
+    c .passes .ensures ∙ ap (λ (x : Task). isPicked x (a .q)) (shown-at (a .t1) (getD (a .t2) (l .loop .i) 0) _ _ (l .loop .inv .1) (c .before .before .before .index-of .ensures .0) (c .before .shown .ensures))
 
 -- one that passes comes behind those so far
 picks : When (need (tie.Need-loop-again Inv-loop μ-loop)) (λ c. Taken (c .if2 .came) × (test (c .before) ≡ true))
 picks c h =
     let l = c .before .before .before .before .before .before .before .loop in
-    let a = c .before .before .before .before .before .before .before .before .args in
-    let rest = rest-entry (a .t2) (l .i) (search needs) (c .before .before .before .before .before .if1 .left) in
-    let w = h .0 in
-    let room : l .j < 31 = omega arith in (
-      omega arith,
-      omega arith,
-      rw (w .1, w .2) (fill (l .r) (l .j) _ room (l .inv .2)),
-      rw (w .1, w .2) (l .inv .3 ∙ pick-on (passesOf (view (a .t1)) (a .q)) (l .r) (l .j) _ _ _ room (l .inv .2) rest (h .1)),
-      l .inv .4,
-    )
+    (rw (h .0 .1, h .0 .2) (fill-keep (l .inv .0) (search needs) (search needs) (c .before .before .before .before .before .if1 .left) (rw (h .1))), l .inv .1)
 
 -- one that does not is left out
 leaves-out : When (need (tie.Need-loop-again Inv-loop μ-loop)) (λ c. Left (c .if2 .came) × (test (c .before) ≡ false))
 leaves-out c h =
     let l = c .before .before .before .before .before .before .before .loop in
-    let a = c .before .before .before .before .before .before .before .before .args in
-    let rest = rest-entry (a .t2) (l .i) (search needs) (c .before .before .before .before .before .if1 .left) in
-    let w = h .0 in (
-      omega arith,
-      omega arith,
-      rw (w .1, w .2) (l .inv .2),
-      rw (w .1, w .2) (l .inv .3 ∙ pick-off (passesOf (view (a .t1)) (a .q)) _ _ _ (take (l .j) (l .r)) rest (h .1)),
-      l .inv .4,
-    )
+    (rw (h .0 .1, h .0 .2) (fill-skip (l .inv .0) (search needs) (search needs) (c .before .before .before .before .before .if1 .left) (rw (h .1))), l .inv .1)
 
 loop-again : tie.Need-loop-again Inv-loop μ-loop
 loop-again c =
@@ -80,7 +61,7 @@ returns-2 : tie.Need-returns-2 Inv-loop μ-loop
 returns-2 c =
     let l = c .before .loop in
     let k : length (c .before .before .args .t2) ≡ 31 = search needs in
-    rw (l .inv .3, rest-end (c .before .before .args .t2) (l .i) (omega arith)) (sym (filled (l .r) (l .j) (l .inv .2)))
+    fill-end (l .inv .0) (rest-end (c .before .before .args .t2) (l .i) (omega arith)) refl
 
 pub picked-spec : {M : Type 1} → statement M
 picked-spec =

@@ -3,7 +3,7 @@
 --     leaves       the loop is left at place i, and the rest of the body runs
 --     turns        a turn from the invariant: it goes one place on, or leaves the loop
 -- Assumes nothing.
-use Rattle.workspace.proofs.Prelude.{_≡_, refl, sym, ℕ, _+_, _-_, _≤_, _<_, _^_, zero-le, lt-of-le-of-lt, add-one-le, add-one-dec, false, WellFounded, InvImage·wf, List, [], _∷_, length, getD, Nat·lt-wfRel, T, leb, ltb→lt, nltb→le, lit<, URA, fullShare, Ty, Body, named, imm, w32, w64, tyInt, tyBool, tyPtr, tyRef, Val, vint, vptr, SProp, ent, emp, via, fst∗, Lft, GName, Share, ftrue, fat, froom, fdies, flft, fres, fshr-bor, Memory, Routine, Heap, Out, Env, afterSeq, afterBlock, afterTurn, Calls, Loops, Wp, atReturn, WpFn, Tables, Atoms, Fun, givenOf, tables, tablesOf, Given, Item, ‵, _⊛_, ⋆, runs, anyQ, atRet, Sq, _$_, _∵_, !, qed, by, move, keep, split, join, rewrite, fsplit, fjoin, suffices, frame, done, whole, sub, look-in, look, init, store, forget, stop, hop, fld, from, load, lit, of-opd, bin, assigns, assigns-last, first, skips, jumps, blocks, branches, returns, enter, alloc1, alloc0, params1, pass1, pass0, free1, free0, exec, Below, again, loops, arr-parts, WpFn-mono, owns, Is, shows, pointee, shares, uint-vals, uint-tells, uint-makes, usize, u32, RefT, sliceTy, sliceVal, ShrSlice, Room, slice-vals, shr-slice-tells, at-slice, codedHoleys, heres, place-is, elem-out, elem-back, looks-slice, shuts-slice, plain, nothing, owned, Vals, onEntry, Meets, tripleOf, entered, says, Stays, stay-none-slice, stay-none, walkOf, goes-none-slice, goes-none, Walks, ends-at, walked, walk-meets, yes}
+use Rattle.workspace.proofs.Prelude.{_≡_, refl, sym, ℕ, _+_, _-_, _≤_, _<_, _^_, zero-le, lt-of-le-of-lt, add-one-le, add-one-dec, false, WellFounded, InvImage·wf, List, [], _∷_, length, getD, Nat·lt-wfRel, T, leb, ltb→lt, nltb→le, lit<, URA, fullShare, Ty, Body, named, imm, w32, w64, tyInt, tyBool, tyPtr, tyRef, Val, vint, vptr, SProp, ent, emp, via, fst∗, Lft, GName, Share, ftrue, fat, froom, fdies, flft, fres, fshr-bor, Memory, Routine, Heap, Out, Env, afterSeq, afterBlock, afterTurn, Calls, Loops, Wp, atReturn, WpFn, Tables, Atoms, Fun, givenOf, tables, tablesOf, Given, Item, ‵, _⊛_, ⋆, runs, anyQ, atRet, Sq, _$_, _∵_, !, qed, by, move, keep, split, join, rewrite, fsplit, fjoin, suffices, frame, done, whole, sub, look-in, look, init, store, forget, stop, hop, fld, from, load, lit, of-opd, bin, assigns, assigns-last, first, skips, jumps, blocks, branches, returns, enter, alloc1, alloc0, params1, pass1, pass0, free1, free0, exec, Below, again, loops, arr-parts, WpFn-mono, owns, Is, shows, pointee, shares, uint-vals, uint-tells, uint-makes, usize, u32, RefT, sliceTy, sliceVal, ShrSlice, Room, slice-vals, shr-slice-tells, at-slice, codedHoleys, heres, place-is, elem-out, elem-back, looks-slice, shuts-slice, plain, nothing, owned, Vals, onEntry, Meets, tripleOf, entered, says, Stays, stay-none-slice, stay-none, walkOf, goes-none-slice, goes-none, ends-at, walked, walk-meets, yes}
 use denote.Struct.Laws as LL
 use Rattle.workspace.specs.declared.Stretch.{Stretch}
 use Rattle.workspace.specs.Rules.{none}
@@ -137,14 +137,11 @@ module _ {M : Type 1} (𝓤 : URA M) (H : Heap 𝓤) (A : Atoms 𝓤) (W : Given
       first ! $ blocks ! $ loops ! 𝓣 Nearer Nearer-wf (At 𝓣 l₀ l₁ l₂ l₃ l₄ l₅ l₆ l₇) (turns 𝓣 l₀ l₁ l₂ l₃ l₄ l₅ l₆ l₇) (0, zero-le, begin (passesOf HasUnits size) ys)))))))))
 
 module _ {M : Type 1} (𝓤 : URA M) (H : Heap 𝓤) (A : Atoms 𝓤) (W : Given 𝓤 H A) (mem : Memory → SProp 𝓤) (run : Routine → Fun 𝓤) where
-  first-fit-walks : (𝓣 : Tables 𝓤 H) → Walks 𝓤 H A f.ended stayed (WpFn 𝓤 H (𝓣 .C) (𝓣 .Λ) code.function) (f.clauses 𝓤 H A mem run)
-  first-fit-walks 𝓣 = walked 𝓤 H A f.ended stayed (f.clauses 𝓤 H A mem run) (WpFn 𝓤 H (𝓣 .C) (𝓣 .Λ) code.function) (λ κs. (slice-vals, (uint-vals w32, tt))) (λ κs. (shr-slice-tells (named 0) (κs .0) T.the-row, (uint-tells w32, tt)))
+  first-fit-meets : (𝓣 : Tables 𝓤 H) → Meets 𝓤 H A f.signature (WpFn 𝓤 H (𝓣 .C) (𝓣 .Λ) code.function) (f.spec 𝓤 H A mem run)
+  first-fit-meets 𝓣 = walk-meets 𝓤 H A f.ended stayed W (goes-none-slice 𝓤 H A W 1 (0 ∷ []) tt (plain (λ _. T.the-row)) yes, (goes-none 𝓤 H A W 1 (λ _. u32) yes (λ κs x f. refl), tt)) (f.clauses 𝓤 H A mem run) (WpFn 𝓤 H (𝓣 .C) (𝓣 .Λ) code.function) (WpFn-mono 𝓤 H (W .laws) 𝓣 code.function)
+      (walked 𝓤 H A f.ended stayed (f.clauses 𝓤 H A mem run) (WpFn 𝓤 H (𝓣 .C) (𝓣 .Λ) code.function) (λ κs. (slice-vals, (uint-vals w32, tt))) (λ κs. (shr-slice-tells (named 0) (κs .0) T.the-row, (uint-tells w32, tt)))
       (λ κs qs bounds a g are. via 𝓤 _ (fst∗ 𝓤 _ (emp 𝓤))
-      (walk 𝓤 H A W mem run (κs .0) (qs .0) (a .0 .ptr .0) (a .0 .ptr .1) (a .0 .name) (a .0 .now) (a .1 .0) (are .1 .0 .1) (are .0 .0 .1) 𝓣))
-
-first-fit-meets : {M : Type 1} (𝓤 : URA M) (H : Heap 𝓤) (A : Atoms 𝓤) → Given 𝓤 H A → (mem : Memory → SProp 𝓤) (run : Routine → Fun 𝓤) (𝓣 : Tables 𝓤 H)
-    → Meets 𝓤 H A f.signature (WpFn 𝓤 H (𝓣 .C) (𝓣 .Λ) code.function) (f.spec 𝓤 H A mem run)
-first-fit-meets 𝓤 H A W mem run 𝓣 = walk-meets 𝓤 H A f.ended stayed W (goes-none-slice 𝓤 H A W 1 (0 ∷ []) tt (plain (λ _. T.the-row)) yes, (goes-none 𝓤 H A W 1 (λ _. u32) yes (λ κs x f. refl), tt)) (f.clauses 𝓤 H A mem run) (WpFn 𝓤 H (𝓣 .C) (𝓣 .Λ) code.function) (WpFn-mono 𝓤 H (W .laws) 𝓣 code.function) (first-fit-walks 𝓤 H A W mem run 𝓣)
+      (walk 𝓤 H A W mem run (κs .0) (qs .0) (a .0 .ptr .0) (a .0 .ptr .1) (a .0 .name) (a .0 .now) (a .1 .0) (are .1 .0 .1) (are .0 .0 .1) 𝓣)))
 
 pub first-fit-spec : {M : Type 1} → stated.statement M
 unfolding code.routine tablesOf

@@ -3,7 +3,7 @@
 --     Spot, At     the loop's invariant: i places are written. Each turn opens the borrow to read and to write, and closes it again, so that a turn begins and ends with the token and the borrow
 --     leaves       the loop is left, and the rest of the body runs.        turns      a turn from the invariant.        writes     its second half
 -- Assumes nothing.
-use Rattle.workspace.proofs.Prelude.{_≡_, refl, sym, ap, subst, ℕ, _+_, _-_, _≤_, _<_, _^_, zero-le, add-one-le, add-one-dec, WellFounded, InvImage·wf, List, [], _∷_, length, getD, take, set, length-set, Nat·lt-wfRel, T, ltb, ltb→lt, nltb→le, lit<, URA, fullShare, Ty, Body, named, mut, w64, tyInt, tyBool, tyUnit, tyPtr, tyRef, Val, vunit, vbool, vint, vptr, SProp, ent, emp, via, fst∗, snd∗, exE, Lft, GName, Share, ftrue, fat, froom, fdies, flft, fobs, fbor, Memory, Routine, Heap, Out, Env, afterSeq, afterBlock, afterTurn, Calls, Loops, Wp, atReturn, WpFn, Tables, Atoms, sem, Fun, fact, givenOf, tables, tablesOf, Given, Item, _⊛_, ⋆, runs, anyQ, atRet, Sq, _$_, _∵_, !, qed, by, move, keep, drop, split, join, rewrite, fsplit, fjoin, feqI, suffices, frame, done, whole, sub, look-in, look, init, store, store-raw, forget, stop, hop, fld, from, load, lit, unit-lit, of-opd, bin, and-then, no-more, assigns, assigns-last, land, first, skips, jumps, blocks, branches, returns, enter, alloc1, alloc0, params1, pass1, pass0, free1, free0, exec, Below, again, loops, FmC, fmOf, WpFn-mono, owns, Held, pureI, Is, shows, pointee, uint-makes, usize, RefT, sliceTy, sliceVal, MutSlice, Room, slice-vals, mut-slice-tells, at-slice, codedHoleys, heres, place-is, elem-out, elem-put, opens-slice, closes-slice, plain, nothing, owned, Vals, onEntry, Meets, tripleOf, Contract, Triple, ensured, lasts, entered, cited, says, Stays, stay-slice, stay-none, walkOf, goes-slice, goes-none, Walks, ends-at, walked, walk-meets, yes, ‵, elem-back, look-raw, lt-of-le-of-lt, _*_}
+use Rattle.workspace.proofs.Prelude.{_≡_, refl, sym, ap, subst, ℕ, _+_, _-_, _≤_, _<_, _^_, zero-le, add-one-le, add-one-dec, WellFounded, InvImage·wf, List, [], _∷_, length, getD, take, set, length-set, Nat·lt-wfRel, T, ltb, ltb→lt, nltb→le, lit<, URA, fullShare, Ty, Body, named, mut, w64, tyInt, tyBool, tyUnit, tyPtr, tyRef, Val, vunit, vbool, vint, vptr, SProp, ent, emp, via, fst∗, snd∗, exE, Lft, GName, Share, ftrue, fat, froom, fdies, flft, fobs, fbor, Memory, Routine, Heap, Out, Env, afterSeq, afterBlock, afterTurn, Calls, Loops, Wp, atReturn, WpFn, Tables, Atoms, sem, Fun, fact, givenOf, tables, tablesOf, Given, Item, _⊛_, ⋆, runs, anyQ, atRet, Sq, _$_, _∵_, !, qed, by, move, keep, drop, split, join, rewrite, fsplit, fjoin, feqI, suffices, frame, done, whole, sub, look-in, look, init, store, store-raw, forget, stop, hop, fld, from, load, lit, unit-lit, of-opd, bin, and-then, no-more, assigns, assigns-last, land, first, skips, jumps, blocks, branches, returns, enter, alloc1, alloc0, params1, pass1, pass0, free1, free0, exec, Below, again, loops, FmC, fmOf, WpFn-mono, owns, Held, pureI, Is, shows, pointee, uint-makes, usize, RefT, sliceTy, sliceVal, MutSlice, Room, slice-vals, mut-slice-tells, at-slice, codedHoleys, heres, place-is, elem-out, elem-put, opens-slice, closes-slice, plain, nothing, owned, Vals, onEntry, Meets, tripleOf, Contract, Triple, ensured, lasts, entered, cited, says, Stays, stay-slice, stay-none, walkOf, goes-slice, goes-none, ends-at, walked, walk-meets, yes, ‵, elem-back, look-raw, lt-of-le-of-lt, _*_}
 use denote.Struct.Laws as LL
 use Rattle.workspace.specs.declared.Stretch.{Stretch}
 use Rattle.workspace.specs.declared.Table.{Table}
@@ -237,14 +237,11 @@ module _ {M : Type 1} (𝓤 : URA M) (H : Heap 𝓤) (A : Atoms 𝓤) (W : Given
       pass1 ! (init ! 18 refl (tt, (tt, (record { fits = room .0 }, tt)))) $ pass1 ! (init ! 16 refl (LL.lawful U.the-type U′.the-laws 𝓤 H A W .typed t _ gt .0)) $ pass0 ! $ begins 𝓣 fm known l₀ l₁ l₂ l₃ l₄ l₅ l₆ l₇ l₈ l₉ l₁₀)))))))))))
 
 module _ {M : Type 1} (𝓤 : URA M) (H : Heap 𝓤) (A : Atoms 𝓤) (W : Given 𝓤 H A) (mem : Memory → SProp 𝓤) (run : Routine → Fun 𝓤) where
-  stored-walks : (𝓣 : Tables 𝓤 H) → Triple 𝓤 (𝓣 .C #workspace·place-after) (PlaceAfter 𝓤 H A mem run) → Walks 𝓤 H A f.ended stayed (WpFn 𝓤 H (𝓣 .C) (𝓣 .Λ) code.function) (f.clauses 𝓤 H A mem run)
-  stored-walks 𝓣 known = walked 𝓤 H A f.ended stayed (f.clauses 𝓤 H A mem run) (WpFn 𝓤 H (𝓣 .C) (𝓣 .Λ) code.function) (λ κs. (slice-vals, (LL.vals U.the-type U′.the-laws, tt))) (λ κs. (mut-slice-tells (named 0) (κs .0) T.the-row, (LL.tells U.the-type U′.the-laws, tt)))
+  stored-meets : (𝓣 : Tables 𝓤 H) → Triple 𝓤 (𝓣 .C #workspace·place-after) (PlaceAfter 𝓤 H A mem run) → Meets 𝓤 H A f.signature (WpFn 𝓤 H (𝓣 .C) (𝓣 .Λ) code.function) (f.spec 𝓤 H A mem run)
+  stored-meets 𝓣 known = walk-meets 𝓤 H A f.ended stayed W (goes-slice 𝓤 H A W 1 0 tt (plain (λ _. T.the-row)), (goes-none 𝓤 H A W 1 (λ _. U.the-row) yes (λ κs x f. refl), tt)) (f.clauses 𝓤 H A mem run) (WpFn 𝓤 H (𝓣 .C) (𝓣 .Λ) code.function) (WpFn-mono 𝓤 H (W .laws) 𝓣 code.function)
+      (walked 𝓤 H A f.ended stayed (f.clauses 𝓤 H A mem run) (WpFn 𝓤 H (𝓣 .C) (𝓣 .Λ) code.function) (λ κs. (slice-vals, (LL.vals U.the-type U′.the-laws, tt))) (λ κs. (mut-slice-tells (named 0) (κs .0) T.the-row, (LL.tells U.the-type U′.the-laws, tt)))
       (λ κs qs bounds a g are. via 𝓤 _ (fst∗ 𝓤 _ (emp 𝓤))
-      (walk 𝓤 H A W mem run (κs .0) (qs .0) (a .0 .ptr .0) (a .0 .ptr .1) (a .0 .name) (a .0 .now) (a .1 .0) (are .0 .0 .1) (are .1 .0) 𝓣 (fmOf 𝓤 H (W .laws) 𝓣) known))
-
-stored-meets : {M : Type 1} (𝓤 : URA M) (H : Heap 𝓤) (A : Atoms 𝓤) → Given 𝓤 H A → (mem : Memory → SProp 𝓤) (run : Routine → Fun 𝓤) (𝓣 : Tables 𝓤 H) → Triple 𝓤 (𝓣 .C #workspace·place-after) (PlaceAfter 𝓤 H A mem run)
-    → Meets 𝓤 H A f.signature (WpFn 𝓤 H (𝓣 .C) (𝓣 .Λ) code.function) (f.spec 𝓤 H A mem run)
-stored-meets 𝓤 H A W mem run 𝓣 known = walk-meets 𝓤 H A f.ended stayed W (goes-slice 𝓤 H A W 1 0 tt (plain (λ _. T.the-row)), (goes-none 𝓤 H A W 1 (λ _. U.the-row) yes (λ κs x f. refl), tt)) (f.clauses 𝓤 H A mem run) (WpFn 𝓤 H (𝓣 .C) (𝓣 .Λ) code.function) (WpFn-mono 𝓤 H (W .laws) 𝓣 code.function) (stored-walks 𝓤 H A W mem run 𝓣 known)
+      (walk 𝓤 H A W mem run (κs .0) (qs .0) (a .0 .ptr .0) (a .0 .ptr .1) (a .0 .name) (a .0 .now) (a .1 .0) (are .0 .0 .1) (are .1 .0) 𝓣 (fmOf 𝓤 H (W .laws) 𝓣) known)))
 
 pub stored-spec : {M : Type 1} → stated.statement M
 unfolding code.routine tablesOf
