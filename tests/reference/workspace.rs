@@ -6,11 +6,14 @@
 //!     workspace gen SEED COUNT KIND           prints COUNT operations; KIND is mix, damage or lengths
 //!
 //! Operations are lines, as the program `allot` takes them; `t M N` besides says that the tables lent from
-//! now on are the first M and N places.
+//! now on are the first M and N places. For a line that is no operation nothing is printed.
 use std::env;
 use std::io::{self, BufWriter, Read, Write};
 
 const AREA: u64 = 65536;
+
+/// The bytes of the longest line.
+const LONGEST: usize = 65535;
 
 #[derive(Clone, Copy, PartialEq)]
 struct Stretch {
@@ -155,37 +158,20 @@ impl Area {
         }
     }
 
-    /// Carries out one line.
-    fn carry_out(&mut self, line: &str) -> Answer {
-        let mut words = line.split(' ');
-        let letter = words.next().unwrap_or("");
-        let mut number = || words.next().and_then(|w| w.parse::<u32>().ok()).unwrap_or(0);
-        match letter {
-            "f" => self.fresh(),
-            "a" => {
-                let size = number();
-                self.request(size)
-            }
-            "r" => {
-                let start = number();
-                self.release(start)
-            }
-            "b" | "e" => {
-                let (place, start, length) = (number(), number(), number());
-                let table = if letter == "b" { &mut self.blocks } else { &mut self.free };
-                Area::put(table, place, Stretch { start, length });
-                refused(0)
-            }
-            "u" => {
-                self.used = (number() as u64, number() as u64);
-                refused(0)
-            }
-            "t" => {
-                self.lent = (number() as usize, number() as usize);
-                refused(0)
-            }
-            _ => refused(0),
+    /// Carries out one line; nothing if it is no operation.
+    fn carry_out(&mut self, line: &[u8]) -> Option<Answer> {
+        let (letter, numbers) = words(line)?;
+        match (letter, &numbers[..]) {
+            ("f", []) => return Some(self.fresh()),
+            ("a", [size]) => return Some(self.request(*size)),
+            ("r", [start]) => return Some(self.release(*start)),
+            ("b", &[place, start, length]) => Area::put(&mut self.blocks, place, Stretch { start, length }),
+            ("e", &[place, start, length]) => Area::put(&mut self.free, place, Stretch { start, length }),
+            ("u", [m, n]) => self.used = (*m as u64, *n as u64),
+            ("t", [m, n]) => self.lent = (*m as usize, *n as usize),
+            _ => return None,
         }
+        Some(refused(0))
     }
 
     fn print(&self, answer: &Answer, out: &mut impl Write) -> io::Result<()> {
@@ -198,6 +184,17 @@ impl Area {
         }
         writeln!(out)
     }
+}
+
+/// The first word of a line and the numbers behind it, each behind one space; nothing if a later word is not digits alone, or
+/// above 4294967295, or the line is too long.
+fn words(line: &[u8]) -> Option<(&str, Vec<u32>)> {
+    let text = std::str::from_utf8(line).ok().filter(|text| text.len() <= LONGEST)?;
+    let mut words = text.split(' ');
+    let first = words.next()?;
+    let numbers: Option<_> =
+        words.map(|w| if w.bytes().all(|b| b.is_ascii_digit()) { w.parse().ok() } else { None }).collect();
+    Some((first, numbers?))
 }
 
 /// Numbers that look random, the same for the same seed (xorshift).
@@ -273,7 +270,7 @@ fn generate(seed: u64, count: usize, kind: &str, out: &mut impl Write) -> io::Re
     let mut busy = true;
     while lines.len() < count {
         let mut say = |area: &mut Area, line: String| {
-            area.carry_out(&line);
+            area.carry_out(line.as_bytes());
             lines.push(line);
         };
         if dice.one_in(40) {
@@ -311,11 +308,13 @@ fn generate(seed: u64, count: usize, kind: &str, out: &mut impl Write) -> io::Re
 }
 
 fn run(mut area: Area, out: &mut impl Write) -> io::Result<()> {
-    let mut text = String::new();
-    io::stdin().read_to_string(&mut text)?;
-    text.lines().try_for_each(|line| {
-        let answer = area.carry_out(line);
-        area.print(&answer, out)
+    let mut text = Vec::new();
+    io::stdin().read_to_end(&mut text)?;
+    text.split_inclusive(|b| *b == b'\n').try_for_each(|line| {
+        match area.carry_out(line.strip_suffix(b"\n").unwrap_or(line)) {
+            Some(answer) => area.print(&answer, out),
+            None => Ok(()),
+        }
     })
 }
 

@@ -1,17 +1,16 @@
 // Text to records, line by line.
 use crate::errors;
-use crate::work::Step;
 use script::Line;
 use script::put_record;
 use script::read_line;
-use stream::window::Window;
-use text::least;
+use stream::line::Kind;
+use stream::line::Lines;
+use stream::line::behind;
+use stream::line::first;
+use stream::line::front;
 
-// The record of a line is put into out, unless the line is skipped. Of a line that cannot be read the number is told, and nothing is put.
-fn put_line(skips: bool, number: u64, line: &[u8], out: &mut [u8], at: usize) -> usize {
-    if skips {
-        return at;
-    }
+// The record of a line is put into out. Of a line that cannot be read the number is told, and nothing is put.
+fn put_line(number: u64, line: &[u8], out: &mut [u8], at: usize) -> usize {
     let said = read_line(line);
     if let Line::Unread = said {
         errors::unread(number, line);
@@ -19,28 +18,25 @@ fn put_line(skips: bool, number: u64, line: &[u8], out: &mut [u8], at: usize) ->
     put_record(said, out, at)
 }
 
-// One step, on what stands in the window. The last line may lack its line end. A line that fills the buffer is told, and skipped to its end.
-pub fn step(v: Window, skips: bool, number: u64, buf: &[u8], out: &mut [u8], waits: usize) -> Step {
-    let end = least(v.end, buf.len());
-    let at = least(v.at, end);
-    let stop = bytes::scan::find(buf, at, end, b'\n');
-    let ended = stop < end;
-    if ended | v.last {
-        return Step {
-            taken: true,
-            at: std::num::wrapping_add_usize(stop, 1),
-            place: put_line(skips, number, &buf[at..stop], out, waits),
-            unread: false,
-            more: ended,
-        };
-    }
-    let full = end - at == buf.len();
-    errors::too_long(full & !skips, number);
-    Step {
-        taken: full,
-        at: end,
-        place: waits,
-        unread: true,
-        more: true,
+// One turn, on what stands at the front of the window.
+fn turn(l: Lines, buf: &mut [u8], out: &mut [u8]) -> Lines {
+    let p = front(l, buf);
+    let kind = p.kind;
+    let Kind::Line = kind else {
+        return behind(l, p, l.flow.waits, buf, out);
+    };
+    let from = p.from;
+    let to = p.to;
+    let place = put_line(l.number, &buf[from..to], out, l.flow.waits);
+    behind(l, p, place, buf, out)
+}
+
+// All lines of standard input.
+pub fn run(buf: &mut [u8], out: &mut [u8]) {
+    let mut l = first();
+    let mut turns = u64::MAX;
+    while turns > 0 && l.flow.goes {
+        l = turn(l, buf, out);
+        turns -= 1;
     }
 }

@@ -1,2 +1,3 @@
--- The window on the input, and the flow of input and output.
+-- The window on the input, the flow of input and output, and lines.
 pub mod Windows
+pub mod Lines

@@ -57,3 +57,16 @@ pub fn fed(f: Flow, buf: &mut [u8], out: &[u8]) -> Flow
         goes: o.writes,
     }
 }
+
+// At its end: what waits is written.
+pub fn done(f: Flow, out: &[u8]) -> Flow
+    ensures { λ r. ⌜ r .window ≡ f .window ⌝ }
+{
+    let o = flushed(out, f.waits);
+    let window = f.window;
+    Flow {
+        window,
+        waits: o.waits,
+        goes: false,
+    }
+}

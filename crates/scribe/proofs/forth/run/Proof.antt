@@ -1,14 +1,14 @@
 use mathlib.Core.Path.{_≡_}
 use lib.ListN.{length}
 use borrow.Author.Needs.{needs}
-use Rattle.scribe.proofs.run.Statement.{statement}
-use Rattle.scribe.proofs.run.Tie as tie
+use Rattle.scribe.proofs.forth.run.Statement.{statement}
+use Rattle.scribe.proofs.forth.run.Tie as tie
 
 abbrev Inv-loop : tie.InvT-loop
-Inv-loop back buf₀ out₀ w₀ turns₀ buf out w turns = (length buf ≡ length buf₀) × (length out ≡ length out₀)
+Inv-loop buf₀ out₀ l₀ turns₀ buf out l turns = (length buf ≡ length buf₀) × (length out ≡ length out₀)
 
 abbrev μ-loop : tie.MeasureT-loop
-μ-loop back buf₀ out₀ w₀ turns₀ buf out w turns = turns
+μ-loop buf₀ out₀ l₀ turns₀ buf out l turns = turns
 
 pub run-spec : {M : Type 1} → statement M
 run-spec =
@@ -22,7 +22,9 @@ run-spec =
     (λ c. search needs)
     (λ c. search needs)
     (λ c. search needs)
-    (λ c κs. search needs)
+    (λ c. search needs)
+    (λ c. search needs)
+    (λ c. search needs)
     (λ c. search needs)
     (λ c. search needs)
     (λ c. search needs))
