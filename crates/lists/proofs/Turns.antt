@@ -9,7 +9,7 @@ use mathlib.Core.Bool.{Bool, true, false, _||_}
 use mathlib.Core.List.{List, [], _∷_, _++_, append-nil}
 use lib.ListN.{length, replicate, take, drop, getD, set, drop-of-length-le}
 use lib.Seq.{drop-cons, take-suc-set, take-all, length-take-le, append-snoc}
-use Rattle.lists.specs.Lists.{filter, insert}
+use Rattle.lists.specs.Lists.{insert}
 use Rattle.lists.specs.Line.{line, pad, padTo}
 use Rattle.lists.proofs.ListLaws.{clash}
 use Rattle.lists.proofs.LineLaws.{take-pad, length-padTo, padTo-full}
