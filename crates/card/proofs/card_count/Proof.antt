@@ -38,10 +38,4 @@ returns c =
 pub card-count-spec : {M : Type 1} → statement M
 card-count-spec =
     tie.close
-    (tie.spec
-    (λ c κs. search needs)
-    (λ c κs. search needs)
-    cast-put-one
-    (λ c κs. search needs)
-    (λ c. search needs)
-    returns)
+    (tie.spec (λ c κs. search needs) (λ c κs. search needs) cast-put-one (λ c κs. search needs) (λ c. search needs) returns)

@@ -31,13 +31,5 @@ returns-4 c =
 pub used-tasks-spec : {M : Type 1} → statement M
 used-tasks-spec =
     tie.close
-    (tie.spec
-    returns
-    (λ c. search needs)
-    cast-n
-    returns-2
-    (λ c. search needs)
-    (λ c. search needs)
-    (λ c κs. search needs)
-    returns-3
-    returns-4)
+    (tie.spec returns (λ c. search needs) cast-n returns-2 (λ c. search needs) (λ c. search needs) (λ c κs. search needs)
+    returns-3 returns-4)

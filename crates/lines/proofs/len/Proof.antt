@@ -38,13 +38,5 @@ returns-2 c =
 pub len-spec : {M : Type 1} → statement M
 len-spec =
     tie.close
-    (tie.spec
-    Inv-loop
-    μ-loop
-    (λ c. omega arith)
-    (λ c. search needs)
-    returns
-    (λ c. search needs)
-    (λ c. omega arith)
-    loop-again
+    (tie.spec Inv-loop μ-loop (λ c. omega arith) (λ c. search needs) returns (λ c. search needs) (λ c. omega arith) loop-again
     returns-2)

@@ -65,19 +65,5 @@ returns-9 c =
 pub read-body-spec : {M : Type 1} → statement M
 read-body-spec =
     tie.close
-    (tie.spec
-    shared-slice-read-t5
-    shared-slice-read-t7
-    read-delay-requires
-    read-call-requires
-    read-select-requires
-    read-advance-requires
-    returns
-    returns-2
-    returns-3
-    returns-4
-    returns-5
-    returns-6
-    returns-7
-    returns-8
-    returns-9)
+    (tie.spec shared-slice-read-t5 shared-slice-read-t7 read-delay-requires read-call-requires read-select-requires
+    read-advance-requires returns returns-2 returns-3 returns-4 returns-5 returns-6 returns-7 returns-8 returns-9)

@@ -10,10 +10,4 @@ returns c = let k = c .before .before in rw (rw (k .before .four-from .ensures) 
 pub read-call-spec : {M : Type 1} → statement M
 read-call-spec =
     tie.close
-    (tie.spec
-    (λ c. search needs)
-    (λ c κs. search needs)
-    (λ c κs. search needs)
-    (λ c. search needs)
-    (λ c. search needs)
-    returns)
+    (tie.spec (λ c. search needs) (λ c κs. search needs) (λ c κs. search needs) (λ c. search needs) (λ c. search needs) returns)

@@ -39,13 +39,5 @@ returns-4 c =
 pub read-record-spec : {M : Type 1} → statement M
 read-record-spec =
     tie.close
-    (tie.spec
-    returns
-    (λ c κs. search needs)
-    returns-2
-    (λ c. search needs)
-    bad-body-requires
-    returns-3
-    (λ c. search needs)
-    read-body-requires
-    returns-4)
+    (tie.spec returns (λ c κs. search needs) returns-2 (λ c. search needs) bad-body-requires returns-3 (λ c. search needs)
+    read-body-requires returns-4)

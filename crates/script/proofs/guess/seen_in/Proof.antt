@@ -39,14 +39,5 @@ returns c =
 pub seen-in-spec : {M : Type 1} → statement M
 seen-in-spec =
     tie.close
-    (tie.spec
-    Inv-loop
-    μ-loop
-    (λ c κs. search needs)
-    loop-holds
-    element-copy-out-heard
-    (λ c κs. search needs)
-    (λ c. omega arith)
-    (λ c. omega arith)
-    loop-again
-    returns)
+    (tie.spec Inv-loop μ-loop (λ c κs. search needs) loop-holds element-copy-out-heard (λ c κs. search needs) (λ c. omega arith)
+    (λ c. omega arith) loop-again returns)

@@ -36,13 +36,5 @@ returns c = let p = c .before .before in same-text (text (p .before .before .bef
 pub put-call-spec : {M : Type 1} → statement M
 put-call-spec =
     tie.close
-    (tie.spec
-    (λ c κs. search needs)
-    (λ c κs. search needs)
-    (λ c κs. search needs)
-    (λ c. search needs)
-    (λ c. search needs)
-    part-put-bytes-end
-    (λ c κs. search needs)
-    (λ c. search needs)
-    returns)
+    (tie.spec (λ c κs. search needs) (λ c κs. search needs) (λ c κs. search needs) (λ c. search needs) (λ c. search needs)
+    part-put-bytes-end (λ c κs. search needs) (λ c. search needs) returns)

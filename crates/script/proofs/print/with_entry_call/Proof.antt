@@ -20,8 +20,4 @@ returns c =
 pub with-entry-call-spec : {M : Type 1} → statement M
 with-entry-call-spec =
     tie.close
-    (tie.spec
-    (λ c κs. search needs)
-    (λ c κs. search needs)
-    (λ c κs. search needs)
-    returns)
+    (tie.spec (λ c κs. search needs) (λ c κs. search needs) (λ c κs. search needs) returns)

@@ -17,8 +17,4 @@ returns-2 c = rw (ne-eqb (c .before .before .args .set) 0 (c .before .if1 .left)
 pub with-open-spec : {M : Type 1} → statement M
 with-open-spec =
     tie.close
-    (tie.spec
-    (λ c κs. search needs)
-    returns
-    (λ c κs. search needs)
-    returns-2)
+    (tie.spec (λ c κs. search needs) returns (λ c κs. search needs) returns-2)

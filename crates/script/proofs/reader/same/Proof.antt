@@ -60,14 +60,5 @@ returns c =
 pub same-spec : {M : Type 1} → statement M
 same-spec =
     tie.close
-    (tie.spec
-    Inv-loop
-    μ-loop
-    (λ c κs. search needs)
-    loop-holds
-    element-copy-out-is-same
-    element-copy-out-is-same-2
-    add-i
-    loop-less
-    loop-again
-    returns)
+    (tie.spec Inv-loop μ-loop (λ c κs. search needs) loop-holds element-copy-out-is-same element-copy-out-is-same-2 add-i
+    loop-less loop-again returns)

@@ -47,15 +47,5 @@ returns-2 c =
 pub words-of-spec : {M : Type 1} → statement M
 words-of-spec =
     tie.close
-    (tie.spec
-    Inv-loop
-    μ-loop
-    (λ c κs. search needs)
-    loop-holds
-    (λ c. omega arith)
-    returns
-    (λ c κs. search needs)
-    (λ c. omega arith)
-    (λ c. omega arith)
-    loop-again
-    returns-2)
+    (tie.spec Inv-loop μ-loop (λ c κs. search needs) loop-holds (λ c. omega arith) returns (λ c κs. search needs)
+    (λ c. omega arith) (λ c. omega arith) loop-again returns-2)

@@ -24,15 +24,5 @@ returns c = put-grown (c .before .before .before .before .before .before .args .
 pub with-word-spec : {M : Type 1} → statement M
 with-word-spec =
     tie.close
-    (tie.spec
-    (λ c. search needs)
-    (λ c. search needs)
-    (λ c. search needs)
-    (λ c. search needs)
-    (λ c. search needs)
-    sub-put-bytes
-    part-put-bytes-start
-    part-put-bytes-end
-    (λ c. search needs)
-    (λ c κs. search needs)
-    returns)
+    (tie.spec (λ c. search needs) (λ c. search needs) (λ c. search needs) (λ c. search needs) (λ c. search needs) sub-put-bytes
+    part-put-bytes-start part-put-bytes-end (λ c. search needs) (λ c κs. search needs) returns)

@@ -82,15 +82,5 @@ returns-2 c =
 pub tiles-spec : {M : Type 1} → statement M
 tiles-spec =
     tie.close
-    (tie.spec
-    Inv-loop
-    μ-loop
-    loop-holds
-    (λ c κs. search needs)
-    (λ c κs. search needs)
-    reached-requires
-    returns
-    (λ c. search needs)
-    loop-less
-    loop-again
-    returns-2)
+    (tie.spec Inv-loop μ-loop loop-holds (λ c κs. search needs) (λ c κs. search needs) reached-requires returns
+    (λ c. search needs) loop-less loop-again returns-2)
