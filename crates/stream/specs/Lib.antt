@@ -1,3 +1,4 @@
--- The window on the input, the flow of input and output, and lines.
+-- The window on the input, output that is gathered, the flow of both, and lines.
 pub mod Windows
+pub mod Outputs
 pub mod Lines

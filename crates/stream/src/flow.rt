@@ -1,5 +1,7 @@
 // Input on its way to output: what a program keeps of both from turn to turn.
 ghost use mathlib.Core.Path.{_≡_};
+ghost use mathlib.Core.Bool.{false};
+ghost use Rattle.stream.specs.Outputs.{waitsBehind};
 ghost use Rattle.stream.specs.Windows.{noFlow, movedTo, Grown};
 use crate::output::drained;
 use crate::output::flushed;
@@ -28,7 +30,7 @@ pub fn begun() -> Flow
 
 // Behind what was taken of the input up to `at`, with output up to `place`. It goes on where that can be written.
 pub fn passed(f: Flow, at: usize, place: usize, out: &[u8]) -> Flow
-    ensures { λ r. ⌜ r .window ≡ movedTo (f .window) at ⌝ }
+    ensures { λ r. ⌜ (r .window ≡ movedTo (f .window) at) × (r .waits ≡ waitsBehind (now (out .entry)) place) ⌝ }
 {
     let w = f.window;
     let o = drained(out, place);
@@ -46,7 +48,7 @@ pub fn passed(f: Flow, at: usize, place: usize, out: &[u8]) -> Flow
 
 // With more input. What waits is written first, for whoever feeds it line by line.
 pub fn fed(f: Flow, buf: &mut [u8], out: &[u8]) -> Flow
-    ensures { λ r. ⌜ Grown (f .window) (now (buf .entry)) (r .window) (now (buf .exit)) ⌝ }
+    ensures { λ r. ⌜ Grown (f .window) (now (buf .entry)) (r .window) (now (buf .exit)) × (r .waits ≡ 0) ⌝ }
 {
     let o = flushed(out, f.waits);
     let w = f.window;
@@ -60,7 +62,7 @@ pub fn fed(f: Flow, buf: &mut [u8], out: &[u8]) -> Flow
 
 // At its end: what waits is written.
 pub fn done(f: Flow, out: &[u8]) -> Flow
-    ensures { λ r. ⌜ r .window ≡ f .window ⌝ }
+    ensures { λ r. ⌜ (r .window ≡ f .window) × (r .waits ≡ 0) × (r .goes ≡ false) ⌝ }
 {
     let o = flushed(out, f.waits);
     let window = f.window;

@@ -1,5 +1,8 @@
 // What is printed is gathered in a buffer, and written once that is nearly full or before more input is waited for.
 // Where it cannot be written, that is told on standard error, and the program ends.
+ghost use mathlib.Core.Path.{_≡_};
+ghost use mathlib.Core.Bool.{true, false};
+ghost use Rattle.stream.specs.Outputs.{isFull, waitsBehind};
 use libc::STDERR_FILENO;
 use libc::STDOUT_FILENO;
 use text::least;
@@ -23,7 +26,9 @@ fn tell_lost() {
 }
 
 // Writes all that waits.
-pub fn flushed(out: &[u8], waits: usize) -> Output {
+pub fn flushed(out: &[u8], waits: usize) -> Output
+    ensures { λ r. ⌜ r .waits ≡ 0 ⌝ }
+{
     let n = least(waits, out.len());
     let writes = io::write_all(STDOUT_FILENO, &out[0..n]);
     if !writes {
@@ -33,7 +38,10 @@ pub fn flushed(out: &[u8], waits: usize) -> Output {
 }
 
 // Writes all that waits where there is little room behind it.
-pub fn drained(out: &[u8], waits: usize) -> Output {
+pub fn drained(out: &[u8], waits: usize) -> Output
+    ensures { λ r. ⌜ r .waits ≡ waitsBehind (now (out .entry)) waits ⌝ }
+    ensures { λ r. ⌜ (isFull (now (out .entry)) waits ≡ false → r .writes ≡ true) ⌝ }
+{
     let n = least(waits, out.len());
     if out.len() - n < SPARE {
         return flushed(out, n);

@@ -10,7 +10,7 @@ returns : tie.Need-returns
 returns c =
     let a = c .before .before .before .before .args in
     let behind : c .before .before .wrapping-add-usize .result ≡ next (a .stop) = c .before .before .wrapping-add-usize .ensures in
-    ((c .wrapping-add-u64 .ensures, refl), c .before .passed .ensures ∙ ap (λ (at : ℕ). movedTo (a .l .flow .window) at) behind)
+    ((c .wrapping-add-u64 .ensures, refl), c .before .passed .ensures .0 ∙ ap (λ (at : ℕ). movedTo (a .l .flow .window) at) behind)
 
 pub ended-spec : {M : Type 1} → statement M
 ended-spec = tie.close (tie.spec (λ c κs. search needs) (λ c κs. search needs) (λ c κs. search needs) returns)
