@@ -1,6 +1,11 @@
 // Whole logs, from standard input to standard output: what stepper and replay share.
 ghost use Prim.Native.Nat.{_-_, _≤_, min};
 ghost use mathlib.Core.Path.{_≡_};
+ghost use Rattle.text.specs.Text.{putAt};
+ghost use Rattle.report.specs.Lines.{header};
+ghost use Rattle.session.specs.Turn.{turnOf, turnedOf};
+ghost use Rattle.logs.specs.Logs.{partOf, bytesIn, isLast, begunOf, Moved, Supplied, Onward};
+ghost use Rattle.logs.specs.Rests.{droppedOf, Skipped, numberAt, headOf, Headed};
 use calls::word;
 use report::put_header;
 use session::turns::Next;
@@ -44,7 +49,7 @@ fn less(left: u64, n: usize) -> u64
 
 // What stands of a log in the window on a buffer of n bytes; `last` where no more bytes of the log come.
 fn part(w: Window, left: u64, n: usize) -> Window
-    ensures { λ r. ⌜ (r .at ≤ r .end) × (r .end ≤ n) ⌝ }
+    ensures { λ r. ⌜ (r ≡ partOf w left n) × (r .at ≤ r .end) × (r .end ≤ n) ⌝ }
 {
     let end = least(w.end, n);
     let at = least(w.at, end);
@@ -57,7 +62,10 @@ fn part(w: Window, left: u64, n: usize) -> Window
 }
 
 // A log from its start: the header is printed.
-fn started(l: Log, out: &mut [u8]) -> Log {
+fn started(l: Log, out: &mut [u8]) -> Log
+    ensures { λ r. ⌜ r ≡ begunOf l (now (out .entry)) ⌝ }
+    ensures { λ r. ⌜ now (out .exit) ≡ putAt (now (out .entry)) (l .flow .waits) header ⌝ }
+{
     let window = l.flow.window;
     let flow = Flow {
         window,
@@ -73,7 +81,9 @@ fn started(l: Log, out: &mut [u8]) -> Log {
 }
 
 // The log behind a turn that took `count` bytes and put output up to `place`.
-fn advanced(l: Log, count: usize, place: usize, goes: bool, out: &[u8]) -> Log {
+fn advanced(l: Log, count: usize, place: usize, goes: bool, out: &[u8]) -> Log
+    ensures { λ r. ⌜ Moved l count place goes (now (out .entry)) r ⌝ }
+{
     let at = std::num::wrapping_add_usize(l.flow.window.at, count);
     let flow = passed(l.flow, at, place, out);
     Log {
@@ -85,7 +95,9 @@ fn advanced(l: Log, count: usize, place: usize, goes: bool, out: &[u8]) -> Log {
 }
 
 // The log with more input.
-fn supplied(l: Log, buf: &mut [u8], out: &[u8]) -> Log {
+fn supplied(l: Log, buf: &mut [u8], out: &[u8]) -> Log
+    ensures { λ r. ⌜ Supplied l (now (buf .entry)) r (now (buf .exit)) ⌝ }
+{
     let flow = fed(l.flow, buf, out);
     Log {
         flow,
@@ -96,7 +108,9 @@ fn supplied(l: Log, buf: &mut [u8], out: &[u8]) -> Log {
 }
 
 // The log behind a turn, by how it goes on.
-fn behind(l: Log, next: Next, count: usize, place: usize, buf: &mut [u8], out: &[u8]) -> Log {
+fn behind(l: Log, next: Next, count: usize, place: usize, buf: &mut [u8], out: &[u8]) -> Log
+    ensures { λ r. ⌜ Onward next l count place (now (out .entry)) (now (buf .entry)) r (now (buf .exit)) ⌝ }
+{
     match next {
         Next::Again => advanced(l, count, place, true, out),
         Next::More => supplied(l, buf, out),
@@ -105,7 +119,11 @@ fn behind(l: Log, next: Next, count: usize, place: usize, buf: &mut [u8], out: &
 }
 
 // One turn of the session, on the bytes of the log that stand in the window.
-fn run_turn(l: Log, s: Session, buf: &[u8], room: &mut [u8], out: &mut [u8]) -> Turned {
+fn run_turn(l: Log, s: Session, buf: &[u8], room: &mut [u8], out: &mut [u8]) -> Turned
+    ensures { λ r. ⌜ r ≡ turnedOf (turnOf s (bytesIn l (now (buf .entry))) (isLast l (now (buf .entry))) (now (room .entry))) (now (out .entry)) (l .flow .waits) ⌝ }
+    ensures { λ r. ⌜ now (room .exit) ≡ turnOf s (bytesIn l (now (buf .entry))) (isLast l (now (buf .entry))) (now (room .entry)) .room ⌝ }
+    ensures { λ r. ⌜ now (out .exit) ≡ putAt (now (out .entry)) (l .flow .waits) (turnOf s (bytesIn l (now (buf .entry))) (isLast l (now (buf .entry))) (now (room .entry)) .text) ⌝ }
+{
     let p = part(l.flow.window, l.left, buf.len());
     let at = p.at;
     let end = p.end;
@@ -152,7 +170,9 @@ pub struct Rest {
 }
 
 // Behind what stands of a log in the window on a buffer of n bytes.
-fn dropped(w: Window, left: u64, n: usize) -> Rest {
+fn dropped(w: Window, left: u64, n: usize) -> Rest
+    ensures { λ r. ⌜ r ≡ droppedOf w left n ⌝ }
+{
     let p = part(w, left, n);
     let window = Window {
         at: p.end,
@@ -167,7 +187,9 @@ fn dropped(w: Window, left: u64, n: usize) -> Rest {
 }
 
 // The window behind the rest of a log.
-fn skipped(w: Window, left: u64, buf: &mut [u8]) -> Window {
+fn skipped(w: Window, left: u64, buf: &mut [u8]) -> Window
+    ensures { λ r. ⌜ Skipped w left (now (buf .entry)) r (now (buf .exit)) ⌝ }
+{
     let mut s = dropped(w, left, buf.len());
     let mut turns = u64::MAX;
     while turns > 0 && s.goes {
@@ -179,7 +201,9 @@ fn skipped(w: Window, left: u64, buf: &mut [u8]) -> Window {
 }
 
 // The number in four bytes from a place on, 0 where there are fewer.
-fn number_at(b: &[u8], at: usize) -> u32 {
+fn number_at(b: &[u8], at: usize) -> u32
+    ensures { λ r. ⌜ r ≡ numberAt (now (b .entry)) at ⌝ }
+{
     if b.len() < 4 {
         return 0;
     }
@@ -190,7 +214,9 @@ fn number_at(b: &[u8], at: usize) -> u32 {
 }
 
 // The log whose head, a clock and a number of bytes, four bytes each, stands next in the window. Without a whole head there is none.
-fn next_in(f: Flow, buf: &[u8]) -> Log {
+fn next_in(f: Flow, buf: &[u8]) -> Log
+    ensures { λ r. ⌜ r ≡ headOf f (now (buf .entry)) ⌝ }
+{
     let w = f.window;
     let p = part(w, 8, buf.len());
     let at = p.at;
@@ -215,7 +241,9 @@ fn next_in(f: Flow, buf: &[u8]) -> Log {
 }
 
 // The next log behind this window, with this much output waiting.
-fn next_log(w: Window, f: Flow, buf: &mut [u8]) -> Log {
+fn next_log(w: Window, f: Flow, buf: &mut [u8]) -> Log
+    ensures { λ r. ⌜ Headed w f (now (buf .entry)) r (now (buf .exit)) ⌝ }
+{
     let window = headed(w, buf);
     let flow = Flow {
         window,

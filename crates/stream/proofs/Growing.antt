@@ -1,14 +1,14 @@
--- What stands unread stays, and grows at its end. Assumes nothing.
-use Prim.Native.Nat.{ℕ, _+_, _-_, min}
+-- What stands unread stays, and grows at its end; and what is taken of it is taken off its front. Assumes nothing.
+use Prim.Native.Nat.{ℕ, _+_, _-_, _≤_, min}
 use mathlib.Core.Path.{_≡_, sym, ap, _∙_}
 use mathlib.Core.Bool.{Bool}
 use mathlib.Core.List.{List, [], _++_, append-assoc, append-nil}
 use native.Mathlib.Omega.{arith}
 use lib.ListN.{length, take, drop, length-append, length-take, length-drop}
-use lib.Seq.{take-at, take-append-add}
+use lib.Seq.{take-at, take-append-add, drop-at, drop-drop, take-add, length-take-le}
 use borrow.Rule.Slice.PartMut.{putMid}
 use Rattle.stream.specs.declared.window.Window.{Window}
-use Rattle.stream.specs.Windows.{shifted, endIn, startIn, unreadIn, Grown}
+use Rattle.stream.specs.Windows.{movedTo, shifted, endIn, startIn, unreadIn, Grown}
 
 -- nothing came
 pub grown-none : (w : Window) (b : List ℕ) → Grown w b w b
@@ -47,3 +47,22 @@ grown-read w b b′ last n m z e f =
           ∙ ap (λ (k : ℕ). unreadIn (record { at = 0; end = k + m; last = z }) (u ++ x)) (sym long)
           ∙ window-on u x m z;
     }
+
+-- without their first k, the first k + m are the first m behind these
+drop-front : (k m : ℕ) (l : List ℕ) → k ≤ length l → drop k (take (k + m) l) ≡ take m (drop k l)
+drop-front k m l h = rw (take-add k m l) (drop-at (take k l) (take m (drop k l)) k (length-take-le k l h))
+
+module _ (w : Window) (b : List ℕ) where
+  -- as many stand unread as the window shows
+  pub unread-length : length (unreadIn w b) ≡ endIn w b - startIn w b
+  unread-length = simp (length-take, length-drop) (omega arith)
+
+  -- a window that goes on k bytes further shows what stood behind them
+  pub unread-behind : (k : ℕ) → k ≤ length (unreadIn w b) → unreadIn (movedTo w (startIn w b + k)) b ≡ drop k (unreadIn w b)
+  unread-behind k h =
+      let a = startIn w b in
+      let e = endIn w b in
+      let few : k ≤ e - a = omega (arith, unread-length) in
+      let from : min (a + k) e ≡ a + k = omega arith in
+      let many : e - a ≡ k + (e - (a + k)) = omega arith in
+      rw (from, many, drop-front k (e - (a + k)) (drop a b) (simp length-drop (omega arith)), drop-drop k a b)

@@ -1,3 +1,3 @@
 mod Shifts
-mod Growing
+pub mod Growing
 pub mod Unique
