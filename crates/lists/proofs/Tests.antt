@@ -23,3 +23,8 @@ and-second false b h = absurd (false≢true h)
 pub and-false : (a b : Bool) → (a && b) ≡ false → b ≡ true → a ≡ false
 and-false true b e h = sym h ∙ e
 and-false false b e h = refl
+
+-- an `and` with a part that is false, and with one that is true
+pub and-none : (a : Bool) → (a && false) ≡ false
+and-none true = refl
+and-none false = refl

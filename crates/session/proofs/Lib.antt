@@ -1,2 +1,3 @@
+mod Pieces
 pub mod TurnLaws
 pub mod Unique

@@ -1,0 +1,45 @@
+-- How the input is cut into pieces makes no difference. Assumes nothing.
+use Prim.Native.Nat.{ℕ, _≤_}
+use native.Mathlib.Omega.{arith}
+use mathlib.Core.Path.{_≡_, refl, sym, ap, _∙_}
+use mathlib.Core.Bool.{Bool, true, false}
+use mathlib.Core.List.{List, _++_}
+use lib.ListN.{length, length-append}
+use lib.Dec.{ltb}
+use borrow.Author.Tests.{le-ltb, ltb-false}
+use Rattle.lists.proofs.ListLaws.{by-bool}
+use Rattle.lists.proofs.Tests.{and-none}
+use Rattle.calls.specs.Reading.{readOf}
+use Rattle.calls.specs.declared.Read.{Read}
+use Rattle.calls.specs.declared.Read.the-variants.{Record, BadRecord, EndOfLog}
+use Rattle.calls.proofs.Behind.{accepted-ahead, ten-ahead}
+use Rattle.session.specs.Turn.{turnOf, turnBy, leaves}
+use Rattle.session.specs.declared.turns.Session.{Session}
+use Rattle.session.specs.declared.turns.Next.the-variants.{More}
+
+module _ (s : Session) (room : List ℕ) where
+  -- where nothing is taken, and no more bytes are asked for, ten bytes are there
+  ten-there : (n many : ℕ) → (leaves s n many false room .next ≡ More → ⊥) → 10 ≤ many
+  unfolding leaves
+  ten-there n many h = by-bool (ltb many 10) (λ e. absurd (h (simp e))) (λ e. ltb-false many 10 e)
+
+  -- and then their number, and whether more come, make no difference
+  leaves-ahead : (n many more : ℕ) (last : Bool) → 10 ≤ many → many ≤ more → leaves s n more last room ≡ leaves s n many false room
+  unfolding leaves
+  leaves-ahead n many more last h l = simp (le-ltb many 10 h, le-ltb more 10 (omega arith), and-none)
+
+  module _ (input rest : List ℕ) (last : Bool) where
+    -- a turn that asks for no more bytes, by what it has read
+    settled-by : (r : Read) → readOf input ≡ r → (turnBy s r (length input) false room .next ≡ More → ⊥)
+        → turnBy s (readOf (input ++ rest)) (length (input ++ rest)) last room ≡ turnBy s r (length input) false room
+    settled-by (Record c k) e h = rw (accepted-ahead input rest c k e)
+    settled-by BadRecord e h =
+        let t = ten-there 11 (length input) h in
+        rw (ten-ahead input rest t ∙ e) (leaves-ahead 11 (length input) (length (input ++ rest)) last t (omega (arith, length-append input rest)))
+    settled-by EndOfLog e h =
+        let t = ten-there 12 (length input) h in
+        rw (ten-ahead input rest t ∙ e) (leaves-ahead 12 (length input) (length (input ++ rest)) last t (omega (arith, length-append input rest)))
+
+    -- is the same whatever bytes come behind, and whether any do
+    pub settled : (turnOf s input false room .next ≡ More → ⊥) → turnOf s (input ++ rest) last room ≡ turnOf s input false room
+    settled h = settled-by (readOf input) refl h
