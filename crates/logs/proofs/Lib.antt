@@ -1,1 +1,1 @@
-mod LogLaws
+pub mod LogLaws

@@ -11,12 +11,12 @@ use lib.Dec.{leb}
 use borrow.Author.Tests.{le-leb, lt-leb, leb-true, leb-false}
 use Rattle.lists.proofs.ListLaws.{by-bool}
 use Rattle.calls.specs.Record.{fourFrom}
-use Rattle.stream.specs.Windows.{endIn, startIn, unreadIn, Grown}
+use Rattle.stream.specs.Windows.{movedTo, endIn, startIn, unreadIn, Grown}
 use Rattle.stream.specs.declared.window.Window.{Window}
 use Rattle.stream.proofs.Growing.{unread-length, unread-behind}
 use Rattle.logs.specs.declared.Log.{Log}
 use Rattle.logs.specs.declared.Rest.{Rest}
-use Rattle.logs.specs.Logs.{partOf, bytesIn, isLast}
+use Rattle.logs.specs.Logs.{partOf, bytesIn, isLast, placeBehind}
 use Rattle.logs.specs.Rests.{droppedOf, numberAt}
 
 -- the first of at most n are the first n of those
@@ -25,9 +25,9 @@ take-least n m l =
     by-bool (leb n m)
     (λ e. let h = leb-true n m e in let k : min m n ≡ n = omega arith in rw k (sym (take-take n m l h)))
     (λ e.
-      let h = leb-false n m e in
-      let k : min m n ≡ m = omega arith in
-      rw k (sym (take-all n (take m l) (omega (arith, length-take m l)))))
+    let h = leb-false n m e in
+    let k : min m n ≡ m = omega arith in
+    rw k (sym (take-all n (take m l) (omega (arith, length-take m l)))))
 
 -- as many as n are among m exactly where they are among the least of both
 least-leb : (n m : ℕ) → leb n (min m n) ≡ leb n m
@@ -52,6 +52,46 @@ module _ (l : Log) (b : List ℕ) where
       let m = endIn (l .flow .window) b - a in
       ap (λ (t : Bool). l .flow .window .last || t) (least-leb (l .left) m ∙ ap (λ (k : ℕ). leb (l .left) k) (sym (unread-length (l .flow .window) b)))
 
+-- ---- what is taken is taken off the front
+
+-- the least of two, by which it is
+least-first : (a b : ℕ) → a ≤ b → min a b ≡ a
+least-first a b h = omega arith
+
+least-second : (a b : ℕ) → b ≤ a → min a b ≡ b
+least-second a b h = omega arith
+
+-- a window that goes on behind k of its bytes shows those behind them: none is lost, and none comes twice
+pub unread-taken : (w : Window) (b : List ℕ) (k : ℕ) → k ≤ length (unreadIn w b) → unreadIn (movedTo w (placeBehind w k)) b ≡ drop k (unreadIn w b)
+unread-taken w b k h =
+    by-bool (leb (w .at) (endIn w b))
+    (λ q. inside (leb-true (w .at) (endIn w b) q) (cut (w .end) (length b)) (rw (unread-length w b) at h))
+    (λ q. outside (leb-false (w .at) (endIn w b) q) (cut (w .end) (length b)) (rw (unread-length w b) at h))
+  where
+    cut : (e n : ℕ) → min e n ≤ e
+    cut e n = omega arith
+
+    nothing : (a c : ℕ) → k ≤ a - c → c ≡ a → k ≡ 0
+    nothing a c f e = omega arith
+
+    under : (a m n y : ℕ) → a ≤ m → a ≤ n → a ≤ min m n + y
+    under a m n y h l = omega arith
+
+    inside : w .at ≤ endIn w b → endIn w b ≤ w .end → k ≤ endIn w b - startIn w b → unreadIn (movedTo w (placeBehind w k)) b ≡ drop k (unreadIn w b)
+    inside p c f =
+        let start : startIn w b ≡ w .at = least-first (w .at) (endIn w b) p in
+        let front : min (w .at) (w .end) ≡ w .at = least-first (w .at) (w .end) (omega arith) in
+        let few : k ≤ w .end - w .at = omega (arith, start) in
+        let place : placeBehind w k ≡ startIn w b + k = rw (front, least-first k (w .end - w .at) few, start) in
+        rw place (unread-behind w b k h)
+
+    outside : endIn w b < w .at → endIn w b ≤ w .end → k ≤ endIn w b - startIn w b → unreadIn (movedTo w (placeBehind w k)) b ≡ drop k (unreadIn w b)
+    outside p c f =
+        let start : startIn w b ≡ endIn w b = least-second (w .at) (endIn w b) (omega arith) in
+        let place : min (placeBehind w k) (endIn w b) ≡ endIn w b = least-second (placeBehind w k) (endIn w b) (under (endIn w b) (w .at) (w .end) (min k (w .end - min (w .at) (w .end))) (omega arith) c) in
+        let none = nothing (endIn w b) (startIn w b) f start in
+        rw (place, none, start)
+
 -- ---- the rest of a log
 
 -- without the first of at most n there is what is there without the first n
@@ -60,10 +100,10 @@ drop-least n l =
     by-bool (leb n (length l))
     (λ e. let h = leb-true n (length l) e in let k : min (length l) n ≡ n = omega arith in rw k)
     (λ e.
-      let h = leb-false n (length l) e in
-      let k : min (length l) n ≡ length l = omega arith in
-      let few : length l ≤ n = omega arith in
-      rw (k, drop-of-length-le l few) (drop-length l))
+    let h = leb-false n (length l) e in
+    let k : min (length l) n ≡ length l = omega arith in
+    let few : length l ≤ n = omega arith in
+    rw (k, drop-of-length-le l few) (drop-length l))
 
 -- n are dropped of x, and as many of y as x lacks
 drop-on : (n : ℕ) (x y : List ℕ) → drop (n - length x) (drop n x ++ y) ≡ drop n (x ++ y)

@@ -1,6 +1,6 @@
 -- Which bytes of a log a turn is given, and where the log goes on behind the turn.
 -- Assumes nothing.
-use Prim.Native.Nat.{ℕ, _+_, _-_, _%_, min}
+use Prim.Native.Nat.{ℕ, _+_, _-_, min}
 use mathlib.Core.Path.{_≡_}
 use mathlib.Core.Bool.{Bool, true, false, _&&_, _||_}
 use mathlib.Core.List.{List}
@@ -43,9 +43,13 @@ begunOf l out = record {
   goes = l .goes;
 }
 
+-- where a window goes on behind so many of its bytes: no further than its end
+abbrev pub placeBehind : Window → ℕ → ℕ
+placeBehind w count = let at = min (w .at) (w .end) in at + min count (w .end - at)
+
 -- so many bytes of it are taken, with output up to a place; it goes on if it is to and output can be written
 pub record Moved (l : Log) (count place : ℕ) (onward : Bool) (out : List ℕ) (r : Log) : Type 0 where
-  pub window : r .flow .window ≡ movedTo (l .flow .window) ((l .flow .window .at + count) % 18446744073709551616)
+  pub window : r .flow .window ≡ movedTo (l .flow .window) (placeBehind (l .flow .window) count)
   pub waits : r .flow .waits ≡ waitsBehind out place
   pub left : r .left ≡ l .left - count
   pub clock : r .clock ≡ l .clock

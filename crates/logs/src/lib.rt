@@ -4,7 +4,7 @@ ghost use mathlib.Core.Path.{_≡_};
 ghost use Rattle.text.specs.Text.{putAt};
 ghost use Rattle.report.specs.Lines.{header};
 ghost use Rattle.session.specs.Turn.{turnOf, turnedOf};
-ghost use Rattle.logs.specs.Logs.{partOf, bytesIn, isLast, begunOf, Moved, Supplied, Onward};
+ghost use Rattle.logs.specs.Logs.{partOf, bytesIn, isLast, begunOf, placeBehind, Moved, Supplied, Onward};
 ghost use Rattle.logs.specs.Rests.{droppedOf, Skipped, numberAt, headOf, Headed};
 use calls::word;
 use report::put_header;
@@ -80,11 +80,19 @@ fn started(l: Log, out: &mut [u8]) -> Log
     }
 }
 
+// Where the window goes on behind `count` of its bytes: no further than its end.
+fn place_behind(w: Window, count: usize) -> usize
+    ensures { λ r. ⌜ r ≡ placeBehind w count ⌝ }
+{
+    let at = least(w.at, w.end);
+    at + least(count, w.end - at)
+}
+
 // The log behind a turn that took `count` bytes and put output up to `place`.
 fn advanced(l: Log, count: usize, place: usize, goes: bool, out: &[u8]) -> Log
     ensures { λ r. ⌜ Moved l count place goes (now (out .entry)) r ⌝ }
 {
-    let at = std::num::wrapping_add_usize(l.flow.window.at, count);
+    let at = place_behind(l.flow.window, count);
     let flow = passed(l.flow, at, place, out);
     Log {
         flow,

@@ -8,7 +8,7 @@ returns : tie.Need-returns
 returns c =
     let p = c .before .before .passed .ensures in
     record {
-      window = rw (← c .before .before .before .wrapping-add-usize .ensures) (p .0);
+      window = rw (← c .before .before .before .place-behind .ensures) (p .0);
       waits = p .1;
       left = c .before .less .ensures;
       clock = refl;
