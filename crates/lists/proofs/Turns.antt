@@ -128,8 +128,15 @@ module _ {F : List ℕ → List ℕ} {a r : List ℕ} {j i : ℕ} (f : Filling F
         }
 
   -- nothing is left
-  pub fill-end : line (drop i a) ≡ [] → F [] ≡ [] → r ≡ pad (F (line a))
+  fill-end : line (drop i a) ≡ [] → F [] ≡ [] → r ≡ pad (F (line a))
   fill-end e z = sym (f .whole ∙ (rw (e, z) (filled r j (f .front))))
+
+  -- so it is at a blank, and behind the last place
+  pub fill-stop : length a ≡ 31 → i < 31 → getD a i 0 ≡ 0 → F [] ≡ [] → r ≡ pad (F (line a))
+  fill-stop long here blank z = fill-end (rest-blank a i (omega arith) blank) z
+
+  pub fill-over : length a ≡ 31 → 31 ≤ i → F [] ≡ [] → r ≡ pad (F (line a))
+  fill-over long past z = fill-end (rest-end a i (omega arith)) z
 
 -- ---- insertion before the first that passes the test, or at once where one before has passed
 
