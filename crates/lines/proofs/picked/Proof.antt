@@ -3,6 +3,7 @@ use borrow.Author.Needs.{needs}
 use borrow.Author.Tests.{eq-eqb, ne-eqb}
 use Prim.Native.Nat.{_-_}
 use mathlib.Core.Path.{_≡_, refl, sym, _∙_}
+use Rattle.lists.specs.Line.{line}
 use Rattle.lists.specs.Marks.{withMark}
 use Rattle.lists.proofs.Tests.{ways}
 use Rattle.lists.proofs.Parts.{need, When, Taken, Left}
@@ -11,7 +12,7 @@ use Rattle.lines.proofs.picked.Statement.{statement}
 use Rattle.lines.proofs.picked.Tie as tie
 
 abbrev Inv-loop : tie.InvT-loop
-Inv-loop marks k a r₀ j₀ i₀ r j i = Filling (withMark marks k) a r j i
+Inv-loop marks k a r₀ j₀ i₀ r j i = Filling (withMark marks k (line a)) (withMark marks k) a r j i
 
 abbrev μ-loop : tie.MeasureT-loop
 μ-loop marks k a r₀ j₀ i₀ r j i = 31 - i

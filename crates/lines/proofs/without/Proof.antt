@@ -4,6 +4,7 @@ use borrow.Author.Tests.{eq-eqb, ne-eqb}
 use Prim.Native.Nat.{_-_}
 use mathlib.Core.Path.{refl}
 use lib.ListN.{getD}
+use Rattle.lists.specs.Line.{line}
 use Rattle.lists.specs.Lists.{remove}
 use Rattle.lists.proofs.Tests.{ways}
 use Rattle.lists.proofs.Parts.{need, When, Taken, Left}
@@ -12,7 +13,7 @@ use Rattle.lines.proofs.without.Statement.{statement}
 use Rattle.lines.proofs.without.Tie as tie
 
 abbrev Inv-loop : tie.InvT-loop
-Inv-loop t a r₀ j₀ i₀ r j i = Filling (remove t) a r j i
+Inv-loop t a r₀ j₀ i₀ r j i = Filling (remove t (line a)) (remove t) a r j i
 
 abbrev μ-loop : tie.MeasureT-loop
 μ-loop t a r₀ j₀ i₀ r j i = 31 - i

@@ -4,6 +4,7 @@ use Prim.Native.Nat.{_-_}
 use mathlib.Core.Path.{_≡_, refl, sym, ap, _∙_}
 use mathlib.Core.Bool.{Bool, true, false}
 use lib.ListN.{length, getD}
+use Rattle.lists.specs.Line.{line}
 use Rattle.lists.specs.Lists.{filter}
 use Rattle.lists.proofs.Tests.{ways}
 use Rattle.lists.proofs.Parts.{need, When, Taken, Left}
@@ -17,7 +18,7 @@ use Rattle.table.proofs.queues.picked.Tie as tie
 
 abbrev Inv-loop : tie.InvT-loop
 Inv-loop q s a r₀ j₀ i₀ r j i =
-    Filling (filter (passesOf (view s) q)) a r j i × (length (s .tasks) ≡ 31)
+    Filling (filter (passesOf (view s) q) (line a)) (filter (passesOf (view s) q)) a r j i × (length (s .tasks) ≡ 31)
 
 abbrev μ-loop : tie.MeasureT-loop
 μ-loop q s a r₀ j₀ i₀ r j i = 31 - i
