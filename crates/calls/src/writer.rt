@@ -10,6 +10,7 @@ use super::Written;
 use super::durations::duration_bits;
 use super::modes::mode_of_call;
 use super::modes::mode_of_select;
+use super::numbers::SHORT_ROOM;
 
 // Puts bytes at the start of room, or nothing where room is too short.
 fn put(bytes: &[u8], room: &mut [u8]) -> Written
@@ -18,7 +19,7 @@ fn put(bytes: &[u8], room: &mut [u8]) -> Written
 {
     if room.len() < bytes.len() {
         return Written {
-            refusal: 1,
+            refusal: SHORT_ROOM,
             count: 0,
         };
     }

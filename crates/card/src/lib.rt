@@ -13,10 +13,14 @@ ghost use Rattle.card.specs.Answers.{cardStep, stateAfter, answerBytes, 
 ghost use Rattle.codec.specs.Layout.{stateIn, stored};
 use calls::Call;
 use calls::Read;
+use calls::numbers::BAD_RECORD;
+use calls::numbers::END_OF_LOG;
+use calls::numbers::SHORT_ROOM;
 use codec::put_at;
 use codec::state_in;
 use codec::store;
 use rules::Answer;
+use rules::numbers::BAD_STATE;
 
 // 1 for yes, 0 for no.
 fn flag(yes: bool) -> u8
@@ -32,7 +36,7 @@ pub extern "C" fn card_empty(state: &mut [u8], clock: u32) -> u8
     ensures { λ _. ⌜ now (state .exit) ≡ stored (pack (empty clock)) (now (state .entry)) ⌝ }
 {
     if state.len() < 439 {
-        return 1;
+        return SHORT_ROOM;
     }
     let s = supervisor::empty(clock);
     store(s, state);
@@ -88,8 +92,8 @@ fn take_record(state: &mut [u8], record: &[u8], room: &mut [u8]) -> Answer
     let read = calls::read_record(record);
     match read {
         Read::Record { call, count: _ } => take_call(state, call, room),
-        Read::BadRecord => unread(11),
-        Read::EndOfLog => unread(12),
+        Read::BadRecord => unread(BAD_RECORD),
+        Read::EndOfLog => unread(END_OF_LOG),
     }
 }
 
@@ -127,7 +131,7 @@ pub extern "C" fn card_step(
     ensures { λ r. ⌜ now (answer .exit) ≡ ifRoom 7 (now (answer .entry)) (now (answer .entry)) (answerBytes (answerOf (cardStep (now (state .entry)) (now («record» .entry)) (length (now (room .entry))))) ++ drop 7 (now (answer .entry))) ⌝ }
 {
     if answer.len() < 7 {
-        return 1;
+        return SHORT_ROOM;
     }
     let taken = take_record(state, record, room);
     put_answer(answer, taken);
@@ -140,7 +144,7 @@ fn put_one(answer: &mut [u8], refusal: u8, value: u8) -> u8
     ensures { λ _. ⌜ now (answer .exit) ≡ oneAfter (now (answer .entry)) value ⌝ }
 {
     if answer.len() < 1 {
-        return 1;
+        return SHORT_ROOM;
     }
     answer[0] = value;
     refusal
@@ -178,6 +182,6 @@ pub extern "C" fn card_running(state: &[u8], answer: &mut [u8]) -> u8
     if supervisor::sound(s) {
         put_one(answer, 0, supervisor::running(s))
     } else {
-        put_one(answer, 2, 0)
+        put_one(answer, BAD_STATE, 0)
     }
 }

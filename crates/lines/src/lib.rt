@@ -106,9 +106,6 @@ pub fn last_of(a: [u8; 31]) -> u8
     if n == 0 {
         return 0;
     }
-    if n > 31 {
-        return 0;
-    }
     a[n - 1]
 }
 

@@ -46,7 +46,7 @@ unfolding pad
 length-filled r j e = ap length e ∙ length-padTo 31 (take j r)
 
 -- an array of zeros has none yet
-pub fill-none : replicate 31 0 ≡ pad (take 0 (replicate 31 0))
+fill-none : replicate 31 0 ≡ pad (take 0 (replicate 31 0))
 unfolding pad padTo
 fill-none = refl
 
@@ -69,10 +69,6 @@ fill-front r j x ys l e =
 pub filled : (r : List ℕ) (j : ℕ) → r ≡ pad (take j r) → pad (take j r ++ []) ≡ r
 filled r j e = ap pad (append-nil (take j r)) ∙ sym e
 
--- the last store
-pub fill-last : (r : List ℕ) (j x : ℕ) → j < 31 → r ≡ pad (take j r) → set r j x ≡ pad (take j r ++ (x ∷ []))
-fill-last r j x l e = sym (filled (set r j x) (j + 1) (fill r j x l e)) ∙ ap pad (fill-front r j x [] l e)
-
 -- there is no room left
 pub filled-up : (r : List ℕ) (j : ℕ) (ys : List ℕ) → 31 ≤ j → r ≡ pad (take j r) → pad (take j r ++ ys) ≡ r
 unfolding pad
@@ -92,32 +88,32 @@ laid-out r j xs l e n = e ∙ ap pad (sym (laid r j xs l e n))
 
 -- ---- a line that is laid out afresh, place after place
 
--- of the line in a, i places are looked at; r holds the j entries that F keeps of them, and what it keeps of the rest is to come behind them
-pub record Filling (F : List ℕ → List ℕ) (a r : List ℕ) (j i : ℕ) : Type 0 where
+-- of the line in a, i places are looked at; r holds j entries, and behind them is to come what F makes of the rest of the line: W in all
+pub record Filling (W : List ℕ) (F : List ℕ → List ℕ) (a r : List ℕ) (j i : ℕ) : Type 0 where
   pub looked : i ≤ 31
   pub kept : j ≤ i
   pub front : r ≡ pad (take j r)
-  pub whole : pad (F (line a)) ≡ pad (take j r ++ F (line (drop i a)))
+  pub whole : pad W ≡ pad (take j r ++ F (line (drop i a)))
 
 -- at first there is nothing
-pub fill-start : {F : List ℕ → List ℕ} {a : List ℕ} → Filling F a (replicate 31 0) 0 0
+pub fill-start : {F : List ℕ → List ℕ} {a : List ℕ} → Filling (F (line a)) F a (replicate 31 0) 0 0
 fill-start = record { looked = omega arith; kept = omega arith; front = fill-none; whole = refl }
 
-module _ {F : List ℕ → List ℕ} {a r : List ℕ} {j i : ℕ} (f : Filling F a r j i) where
-  -- a turn that keeps the number at place i, and one that does not
+module _ {W : List ℕ} {F : List ℕ → List ℕ} {a r : List ℕ} {j i : ℕ} (f : Filling W F a r j i) where
+  -- a turn at a number that puts x down, after which G is to be made of the rest; and one that puts nothing down
   module _ (long : length a ≡ 31) (here : i < 31) (entry : getD a i 0 ≡ 0 → ⊥) where
-    pub fill-keep : F (getD a i 0 ∷ line (drop (i + 1) a)) ≡ getD a i 0 ∷ F (line (drop (i + 1) a)) → Filling F a (set r j (getD a i 0)) (j + 1) (i + 1)
-    fill-keep e =
+    pub fill-keep : {G : List ℕ → List ℕ} {x : ℕ} → F (getD a i 0 ∷ line (drop (i + 1) a)) ≡ x ∷ G (line (drop (i + 1) a)) → Filling W G a (set r j x) (j + 1) (i + 1)
+    fill-keep {G} {x} e =
         let few = f .kept in
         let room : j < 31 = omega arith in
         record {
           looked = omega arith;
           kept = omega arith;
-          front = fill r j (getD a i 0) room (f .front);
-          whole = f .whole ∙ (rw (rest-entry a i (omega arith) entry, e) (ap pad (sym (fill-front r j (getD a i 0) (F (line (drop (i + 1) a))) room (f .front)))));
+          front = fill r j x room (f .front);
+          whole = f .whole ∙ (rw (rest-entry a i (omega arith) entry, e) (ap pad (sym (fill-front r j x (G (line (drop (i + 1) a))) room (f .front)))));
         }
 
-    pub fill-skip : F (getD a i 0 ∷ line (drop (i + 1) a)) ≡ F (line (drop (i + 1) a)) → Filling F a r j (i + 1)
+    pub fill-skip : F (getD a i 0 ∷ line (drop (i + 1) a)) ≡ F (line (drop (i + 1) a)) → Filling W F a r j (i + 1)
     fill-skip e =
         let few = f .kept in
         record {
@@ -128,8 +124,27 @@ module _ {F : List ℕ → List ℕ} {a r : List ℕ} {j i : ℕ} (f : Filling F
         }
 
   -- nothing is left
-  pub fill-end : line (drop i a) ≡ [] → F [] ≡ [] → r ≡ pad (F (line a))
+  fill-end : line (drop i a) ≡ [] → F [] ≡ [] → r ≡ pad W
   fill-end e z = sym (f .whole ∙ (rw (e, z) (filled r j (f .front))))
+
+  -- so it is at a blank, and behind the last place
+  pub fill-stop : length a ≡ 31 → i < 31 → getD a i 0 ≡ 0 → F [] ≡ [] → r ≡ pad W
+  fill-stop long here blank z = fill-end (rest-blank a i (omega arith) blank) z
+
+  pub fill-over : length a ≡ 31 → 31 ≤ i → F [] ≡ [] → r ≡ pad W
+  fill-over long past z = fill-end (rest-end a i (omega arith)) z
+
+  -- at a blank, x is put down behind all others
+  pub fill-last : {x : ℕ} → length a ≡ 31 → i < 31 → getD a i 0 ≡ 0 → F [] ≡ x ∷ [] → set r j x ≡ pad W
+  fill-last {x} long here blank z =
+      let few = f .kept in
+      let room : j < 31 = omega arith in
+      let behind = ap pad (sym (fill-front r j x [] room (f .front))) ∙ filled (set r j x) (j + 1) (fill r j x room (f .front)) in
+      sym (f .whole ∙ (rw (rest-blank a i (omega arith) blank, z) behind))
+
+  -- there is no room left
+  pub fill-full : 31 ≤ j → r ≡ pad W
+  fill-full h = sym (f .whole ∙ filled-up r j (F (line (drop i a))) h (f .front))
 
 -- ---- insertion before the first that passes the test, or at once where one before has passed
 
@@ -138,12 +153,12 @@ insert-front : (f : ℕ → Bool) (t : ℕ) (xs : List ℕ) → insert (λ x. tr
 insert-front f t [] = refl
 insert-front f t (x ∷ xs) = refl
 
-module _ (f : ℕ → Bool) (r : List ℕ) (i t x : ℕ) (xs ys : List ℕ) (room : i < 31) (laid : r ≡ pad (take i r)) (q : xs ≡ x ∷ ys) where
-  -- one turn of insertion where x or one before it passes: t takes its place, and x goes in behind
-  pub insert-here : (b n : Bool) → n ≡ (b || f x) → n ≡ true → pad (take i r ++ insert (λ y. b || f y) t xs) ≡ pad (take (i + 1) (set r i t) ++ insert (λ y. n || f y) x ys)
-  insert-here b n e h = rw (q, sym e ∙ h, h, insert-front f x ys, fill-front r i t (x ∷ ys) room laid)
+module _ (f : ℕ → Bool) (t x : ℕ) (ys : List ℕ) where
+  -- x or one before it passes: t takes its place, and x goes in behind
+  pub insert-here : (b n : Bool) → n ≡ (b || f x) → n ≡ true → insert (λ y. b || f y) t (x ∷ ys) ≡ t ∷ insert (λ y. n || f y) x ys
+  insert-here b n e h = rw (sym e ∙ h, h, insert-front f x ys)
 
-  -- one turn of insertion where none has passed yet: x stays, and t goes in further on
-  pub insert-on : (b n : Bool) → n ≡ (b || f x) → n ≡ false → pad (take i r ++ insert (λ y. b || f y) t xs) ≡ pad (take (i + 1) (set r i x) ++ insert (λ y. n || f y) t ys)
+  -- none has passed yet: x stays, and t goes in further on
+  pub insert-on : (b n : Bool) → n ≡ (b || f x) → n ≡ false → insert (λ y. b || f y) t (x ∷ ys) ≡ x ∷ insert (λ y. n || f y) t ys
   insert-on true n e h = clash e h
-  insert-on false n e h = rw (q, sym e ∙ h, h, fill-front r i x (insert f t ys) room laid)
+  insert-on false n e h = rw (sym e ∙ h, h)

@@ -1,4 +1,5 @@
-// The state of the supervisor, the calls and the answers: types only. All else stands in specs/.
+// The state of the supervisor, the calls and the answers: types and numbers. All else stands in specs/.
+pub mod numbers;
 
 pub enum Timer {
     Off,

@@ -5,13 +5,11 @@ ghost use Rattle.text.specs.Text.{putAt};
 ghost use Rattle.session.specs.Turn.{refusedAnswer, turnOf, turnedOf, took, leaves};
 use calls::Call;
 use calls::Read;
+use calls::numbers::BAD_RECORD;
+use calls::numbers::END_OF_LOG;
 use report::put_line;
 use rules::Answer;
 use rules::Supervisor;
-
-const BAD_RECORD: u8 = 11;
-
-const END_OF_LOG: u8 = 12;
 
 // A log on its way: the supervisor, and the number of the next line.
 pub struct Session {

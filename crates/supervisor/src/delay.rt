@@ -7,13 +7,13 @@ ghost use Rattle.supervisor.specs.Taken.{Stands, takenOf};
 use super::answers::Taken;
 use super::answers::answered;
 use super::answers::refused_by;
-use super::numbers::ELAPSED;
-use super::numbers::NO_TASK;
-use super::numbers::WAITS;
 use calls::ticks;
 use rules::Place;
 use rules::Supervisor;
 use rules::Timer;
+use rules::numbers::ELAPSED;
+use rules::numbers::NO_TASK;
+use rules::numbers::WAITS;
 use table::dispatch::running;
 use table::moves::moved;
 

@@ -8,7 +8,6 @@ mod delay;
 mod end;
 mod ended;
 mod finish;
-mod numbers;
 mod select;
 
 ghost use Prim.Native.Nat.{_≤_};
@@ -22,13 +21,13 @@ ghost use Rattle.rules.specs.Whole.{steppedOf, view, pack, soundWhole, stepWhol
 ghost use Rattle.supervisor.specs.Taken.{Stands, takenOf, endedBy};
 use answers::Taken;
 use calls::Call;
-use numbers::BAD_STATE;
-use numbers::SHORT_ROOM;
+use calls::numbers::SHORT_ROOM;
 use rules::Answer;
 use rules::Count;
 use rules::Known;
 use rules::Stepped;
 use rules::Supervisor;
+use rules::numbers::BAD_STATE;
 use soundness::is_sound;
 use table::place::is_between;
 use table::place::is_completed;

@@ -8,6 +8,9 @@ ghost use Rattle.rules.specs.State.{isReady, isQueued, isHeld, isCompleted, par
 ghost use Rattle.rules.specs.Step.{expiry};
 use rules::Place;
 use rules::Timer;
+use rules::numbers::CALL_EXPIRED;
+use rules::numbers::DELAY_TAKEN;
+use rules::numbers::ELAPSED;
 
 pub fn is_ready(p: Place) -> bool
     ensures { λ r. ⌜ r ≡ isReady p ⌝ }
@@ -70,9 +73,9 @@ pub fn expiry_of(p: Place) -> u8
     ensures { λ r. ⌜ r ≡ expiry p ⌝ }
 {
     match p {
-        Place::Delayed => 1,
-        Place::Queued(_) => 3,
-        Place::Accepting(_) => 6,
+        Place::Delayed => ELAPSED,
+        Place::Queued(_) => CALL_EXPIRED,
+        Place::Accepting(_) => DELAY_TAKEN,
         _ => 0,
     }
 }

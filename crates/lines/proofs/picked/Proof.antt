@@ -3,24 +3,22 @@ use borrow.Author.Needs.{needs}
 use borrow.Author.Tests.{eq-eqb, ne-eqb}
 use Prim.Native.Nat.{_-_}
 use mathlib.Core.Path.{_≡_, refl, sym, _∙_}
-use lib.ListN.{length}
+use Rattle.lists.specs.Line.{line}
 use Rattle.lists.specs.Marks.{withMark}
 use Rattle.lists.proofs.Tests.{ways}
 use Rattle.lists.proofs.Parts.{need, When, Taken, Left}
-use Rattle.lists.proofs.Turns.{rest-blank, rest-end, Filling, fill-start, fill-keep, fill-skip, fill-end}
+use Rattle.lists.proofs.Turns.{Filling, fill-start, fill-keep, fill-skip, fill-stop, fill-over}
 use Rattle.lines.proofs.picked.Statement.{statement}
 use Rattle.lines.proofs.picked.Tie as tie
 
 abbrev Inv-loop : tie.InvT-loop
-Inv-loop marks k a r₀ j₀ i₀ r j i = Filling (withMark marks k) a r j i
+Inv-loop marks k a r₀ j₀ i₀ r j i = Filling (withMark marks k (line a)) (withMark marks k) a r j i
 
 abbrev μ-loop : tie.MeasureT-loop
 μ-loop marks k a r₀ j₀ i₀ r j i = 31 - i
 
 returns : tie.Need-returns Inv-loop μ-loop
-returns c =
-    let s = c .before .before .loop in
-    fill-end (s .inv) (rest-blank (c .before .before .before .args .t1) (s .i) (search needs) (c .if1 .taken)) refl
+returns c = fill-stop (c .before .before .loop .inv) (search needs) (search needs) (c .if1 .taken) refl
 
 -- one with the mark comes behind those so far
 picks : When (need (tie.Need-loop-again Inv-loop μ-loop)) (λ c. Taken (c .if2 .came))
@@ -41,10 +39,7 @@ loop-again : tie.Need-loop-again Inv-loop μ-loop
 loop-again c = ways (c .if2 .came) (picks c) (passes c)
 
 returns-2 : tie.Need-returns-2 Inv-loop μ-loop
-returns-2 c =
-    let s = c .before .loop in
-    let l : length (c .before .before .args .t1) ≡ 31 = search needs in
-    fill-end (s .inv) (rest-end (c .before .before .args .t1) (s .i) (omega arith)) refl
+returns-2 c = fill-over (c .before .loop .inv) (search needs) (omega arith) refl
 
 pub picked-spec : {M : Type 1} → statement M
 picked-spec =

@@ -2,25 +2,24 @@ use native.Mathlib.Omega.{arith}
 use borrow.Author.Needs.{needs}
 use borrow.Author.Tests.{eq-eqb, ne-eqb}
 use Prim.Native.Nat.{_-_}
-use mathlib.Core.Path.{_≡_, refl}
-use lib.ListN.{length, getD}
+use mathlib.Core.Path.{refl}
+use lib.ListN.{getD}
+use Rattle.lists.specs.Line.{line}
 use Rattle.lists.specs.Lists.{remove}
 use Rattle.lists.proofs.Tests.{ways}
 use Rattle.lists.proofs.Parts.{need, When, Taken, Left}
-use Rattle.lists.proofs.Turns.{rest-blank, rest-end, Filling, fill-start, fill-keep, fill-skip, fill-end}
+use Rattle.lists.proofs.Turns.{Filling, fill-start, fill-keep, fill-skip, fill-stop, fill-over}
 use Rattle.lines.proofs.without.Statement.{statement}
 use Rattle.lines.proofs.without.Tie as tie
 
 abbrev Inv-loop : tie.InvT-loop
-Inv-loop t a r₀ j₀ i₀ r j i = Filling (remove t) a r j i
+Inv-loop t a r₀ j₀ i₀ r j i = Filling (remove t (line a)) (remove t) a r j i
 
 abbrev μ-loop : tie.MeasureT-loop
 μ-loop t a r₀ j₀ i₀ r j i = 31 - i
 
 returns : tie.Need-returns Inv-loop μ-loop
-returns c =
-    let s = c .before .before .loop in
-    fill-end (s .inv) (rest-blank (c .before .before .before .args .t1) (s .i) (search needs) (c .if1 .taken)) refl
+returns c = fill-stop (c .before .before .loop .inv) (search needs) (search needs) (c .if1 .taken) refl
 
 -- one other than t stays: it comes behind those so far
 stays : When (need (tie.Need-loop-again Inv-loop μ-loop)) (λ c. Taken (c .if2 .came))
@@ -40,10 +39,7 @@ loop-again : tie.Need-loop-again Inv-loop μ-loop
 loop-again c = ways (c .if2 .came) (stays c) (leaves c)
 
 returns-2 : tie.Need-returns-2 Inv-loop μ-loop
-returns-2 c =
-    let s = c .before .loop in
-    let l : length (c .before .before .args .t1) ≡ 31 = search needs in
-    fill-end (s .inv) (rest-end (c .before .before .args .t1) (s .i) (omega arith)) refl
+returns-2 c = fill-over (c .before .loop .inv) (search needs) (omega arith) refl
 
 pub without-spec : {M : Type 1} → statement M
 without-spec =

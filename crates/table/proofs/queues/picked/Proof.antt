@@ -4,10 +4,11 @@ use Prim.Native.Nat.{_-_}
 use mathlib.Core.Path.{_≡_, refl, sym, ap, _∙_}
 use mathlib.Core.Bool.{Bool, true, false}
 use lib.ListN.{length, getD}
+use Rattle.lists.specs.Line.{line}
 use Rattle.lists.specs.Lists.{filter}
 use Rattle.lists.proofs.Tests.{ways}
 use Rattle.lists.proofs.Parts.{need, When, Taken, Left}
-use Rattle.lists.proofs.Turns.{rest-blank, rest-end, Filling, fill-start, fill-keep, fill-skip, fill-end}
+use Rattle.lists.proofs.Turns.{Filling, fill-start, fill-keep, fill-skip, fill-stop, fill-over}
 use Rattle.rules.specs.Whole.{view}
 use Rattle.rules.specs.declared.Task.{Task}
 use Rattle.table.specs.Moved.{isPicked, passesOf}
@@ -17,7 +18,7 @@ use Rattle.table.proofs.queues.picked.Tie as tie
 
 abbrev Inv-loop : tie.InvT-loop
 Inv-loop q s a r₀ j₀ i₀ r j i =
-    Filling (filter (passesOf (view s) q)) a r j i × (length (s .tasks) ≡ 31)
+    Filling (filter (passesOf (view s) q) (line a)) (filter (passesOf (view s) q)) a r j i × (length (s .tasks) ≡ 31)
 
 abbrev μ-loop : tie.MeasureT-loop
 μ-loop q s a r₀ j₀ i₀ r j i = 31 - i
@@ -26,9 +27,7 @@ loop-holds : tie.Need-loop-holds Inv-loop μ-loop
 loop-holds c = (fill-start, search (needs, mapped-long))
 
 returns : tie.Need-returns Inv-loop μ-loop
-returns c =
-    let l = c .before .before .loop in
-    fill-end (l .inv .0) (rest-blank (c .before .before .before .args .t2) (l .i) (search needs) (c .if1 .taken)) refl
+returns c = fill-stop (c .before .before .loop .inv .0) (search needs) (search needs) (c .if1 .taken) refl
 
 -- the test of the task at place i, and what the code says of it
 abbrev test : tie.After-passes Inv-loop μ-loop → Bool
@@ -58,10 +57,7 @@ loop-again c =
     ways (c .if2 .came) (λ w. picks c (w, e ∙ w .0 .taken)) (λ w. leaves-out c (w, e ∙ w .0 .left))
 
 returns-2 : tie.Need-returns-2 Inv-loop μ-loop
-returns-2 c =
-    let l = c .before .loop in
-    let k : length (c .before .before .args .t2) ≡ 31 = search needs in
-    fill-end (l .inv .0) (rest-end (c .before .before .args .t2) (l .i) (omega arith)) refl
+returns-2 c = fill-over (c .before .loop .inv .0) (search needs) (omega arith) refl
 
 pub picked-spec : {M : Type 1} → statement M
 picked-spec =

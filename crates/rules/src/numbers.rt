@@ -1,6 +1,4 @@
-// The numbers of the refusals (10 is retired) and of the results.
-pub const SHORT_ROOM: u8 = 1;
-
+// The numbers of the refusals of a step and of its results. SHORT_ROOM, which is the writer's too, stands in `calls`; 10 is retired.
 pub const BAD_STATE: u8 = 2;
 
 pub const BAD_FIELD: u8 = 3;
