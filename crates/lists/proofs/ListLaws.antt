@@ -3,9 +3,9 @@
 use Prim.Native.Nat.{ℕ, zero, suc, _+_, _≤_, _<_}
 use mathlib.Core.Path.{_≡_, refl, sym, _∙_, ap, subst}
 use mathlib.Core.Bool.{Bool, true, false, not, _&&_, true≢false}
-use mathlib.Core.List.{List, [], _∷_, _++_}
+use mathlib.Core.List.{List, [], _∷_, _++_, map}
 use native.Mathlib.Omega.{arith}
-use lib.ListN.{length}
+use lib.ListN.{length, length-map}
 use lib.Dec.{T, eqb, ltb, leb, leb→le, le→leb}
 use borrow.Author.Tests.{eqb-true, eqb-false, eq-eqb, ne-eqb, ltb-true, ltb-false}
 use Rattle.lists.specs.Lists.{if_then_else_, bit, filter, remove, insert, count, every, inOrder, downFrom}
@@ -16,6 +16,11 @@ use Rattle.lists.specs.Lists.{if_then_else_, bit, filter, remove, insert
 pub is-true : (b : Bool) → T b → b ≡ true
 is-true true h = refl
 is-true false h = absurd h
+
+-- a test that fails is false
+pub is-false : (b : Bool) → T (not b) → b ≡ false
+is-false true h = absurd h
+is-false false h = refl
 
 -- a test that is true passes
 pub true-T : {b : Bool} → b ≡ true → T b
@@ -167,6 +172,10 @@ ordered-insert k g t (x ∷ xs) h o =
     (λ e. (λ y j. by-eq t y (λ q. omega (arith, ltb-false (k t) (k x) (sym gx ∙ e), ap k q)) (λ n. o .0 y (omega (arith, rw (ne-eqb t y n) at (count-insert g t y xs)))), ih))
 
 -- ── how long ──
+
+-- a list is as long as the list of what is made of each: so it is with an array of structs, of whose elements the toolchain says more than their number
+pub mapped-long : {A B : Type 0} (f : A → B) (l : List A) (n : ℕ) → length (map f l) ≡ n → length l ≡ n
+mapped-long f l n h = sym (length-map l f) ∙ h
 
 -- a list is as long as what is left without t, and t as often as it stands there
 pub length-remove : (t : ℕ) (l : List ℕ) → length l ≡ length (remove t l) + count t l

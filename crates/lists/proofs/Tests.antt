@@ -1,13 +1,25 @@
--- The way that control came, and both parts of an `and` (ListLaws has the laws of single tests).
+-- The way that control came; both parts of an `and`, of an `or`; what a contradiction gives (ListLaws has the laws of single tests).
+-- The laws that only compute, as that of an `and` with `false`, are the library's: and-true, and-false, and-assoc of mathlib.Core.Bool.
 -- Assumes nothing.
+use Prim.Native.Nat.{ℕ}
 use mathlib.Core.Path.{_≡_, refl, sym, _∙_}
 use mathlib.Core.Logic.{_⊎_, inl, inr}
-use mathlib.Core.Bool.{Bool, true, false, _&&_, false≢true}
+use mathlib.Core.Bool.{Bool, true, false, _&&_, _||_, true≢false, false≢true}
+use native.Mathlib.Omega.{arith}
+use mir.Val.{boolByte}
+use Rattle.lists.specs.Lists.{bit}
 
 -- by cases on the way that control came: the sum first, so that antt knows each way's facts
 pub ways : {A B G : Type 0} → A ⊎ B → (A → G) → (B → G) → G
 ways (inl a) f g = f a
 ways (inr b) f g = g b
+
+-- where 0 is 1, and where true is false, anything holds
+pub no : {A : Type 0} → _≡_ {A = ℕ} 0 1 → A
+no e = absurd (omega arith)
+
+pub differ {ℓ} : {A : Type ℓ} → true ≡ false → A
+differ e = absurd (true≢false e)
 
 -- the first part of an `and` that is true
 pub and-first : (a b : Bool) → (a && b) ≡ true → a ≡ true
@@ -19,12 +31,39 @@ pub and-second : (a b : Bool) → (a && b) ≡ true → b ≡ true
 and-second true b h = h
 and-second false b h = absurd (false≢true h)
 
--- the second part of an `and` that is false is true: the first is false
-pub and-false : (a b : Bool) → (a && b) ≡ false → b ≡ true → a ≡ false
-and-false true b e h = sym h ∙ e
-and-false false b e h = refl
+-- both parts make an `and`
+pub and-both : {a b : Bool} → a ≡ true → b ≡ true → (a && b) ≡ true
+and-both p q = λ i. p i && q i
 
--- an `and` with a part that is false, and with one that is true
+-- the second part of an `and` that is false is true: the first is false
+pub and-fails : (a b : Bool) → (a && b) ≡ false → b ≡ true → a ≡ false
+and-fails true b e h = sym h ∙ e
+and-fails false b e h = refl
+
 pub and-none : (a : Bool) → (a && false) ≡ false
 and-none true = refl
 and-none false = refl
+
+-- the first part of an `or` that is false
+pub or-first : (a b : Bool) → (a || b) ≡ false → a ≡ false
+or-first true b h = h
+or-first false b h = refl
+
+-- the second part of an `or` that is false
+pub or-second : (a b : Bool) → (a || b) ≡ false → b ≡ false
+or-second true b h = differ h
+or-second false b h = h
+
+-- the first part makes an `or`
+pub or-left : (a b : Bool) → a ≡ true → (a || b) ≡ true
+or-left a b h = λ i. h i || b
+
+-- the second part makes an `or`
+pub or-right : (a b : Bool) → b ≡ true → (a || b) ≡ true
+or-right true b h = refl
+or-right false b h = h
+
+-- a test as a number: the machine's byte is the definitions' bit
+pub byte-bit : (b : Bool) → boolByte b ≡ bit b
+byte-bit true = refl
+byte-bit false = refl

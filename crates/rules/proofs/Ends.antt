@@ -14,12 +14,13 @@ use Rattle.rules.specs.State.{State, placeOf}
 use Rattle.rules.specs.Runs.{Ask, Given, isWaiting, begun, reasons, ended}
 use Rattle.rules.specs.OverRuns.{EndsOnce, WereWaiting, FewEnds}
 use Rattle.rules.specs.declared.Item.{Item}
+use Rattle.lists.proofs.Tests.{no}
 use Rattle.lists.proofs.ListLaws.{by-bool, at-most}
 use Rattle.rules.proofs.Invariant.{Sound}
 use Rattle.rules.proofs.Members.{there}
 use Rattle.rules.proofs.StateRuns.{entry, logOf}
 use Rattle.rules.proofs.Fate.{untouched, awake, began, began-held, taken, ran-out, accepted, served, given-up}
-use Rattle.rules.proofs.OverRuns.{StepFate, not-taken, was-taken, step-fate, step-sound, timed-waits-place, counted, no}
+use Rattle.rules.proofs.OverRuns.{StepFate, not-taken, was-taken, step-fate, step-sound, timed-waits-place, counted}
 
 -- a wait of u ended: one, u was waiting before, and is not afterwards
 pub record Ended (s : State) (u : ℕ) (r : Given) : Type 0 where

@@ -28,7 +28,7 @@ use Rattle.calls.specs.declared.SelectMode.the-variants as S
 use Rattle.calls.specs.declared.Call as C
 use Rattle.calls.specs.declared.Call.the-variants.{Create, Delay, Call, Select, End, Finish, Tick, Advance}
 use Rattle.lists.proofs.ListLaws.{by-bool, by-test}
-use Rattle.lists.proofs.Tests.{and-first, and-second}
+use Rattle.lists.proofs.Tests.{no, and-first, and-second}
 use Rattle.rules.proofs.Invariant.{Fits, Sound}
 use Rattle.rules.proofs.Members.{timed-there}
 use Rattle.rules.proofs.StepSound.{call-sound, ticks-small}
@@ -189,9 +189,6 @@ pub six-reasons : (s : State) (a : Ask) → Sound s → SixReasons (entry s a)
 six-reasons s a h = all-reasons (entry s a .out .ended) (step-reasons s a h)
 
 -- ── a held caller ──
-
-pub no : {A : Type 0} → _≡_ {A = ℕ} 0 1 → A
-no e = absurd (omega arith)
 
 pub held-step : (s : State) (a : Ask) (c : ℕ) (m : Meeting) → Sound s → placeOf s c ≡ Held m → Stays c m (entry s a) ⊎ Released c m (entry s a)
 held-step s a c mt h q = go (entry s a .out) refl (step-fate s a c h)

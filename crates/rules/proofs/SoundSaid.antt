@@ -21,13 +21,13 @@ use Rattle.rules.specs.declared.Meeting.{Meeting}
 use Rattle.rules.specs.declared.Place.{Place}
 use Rattle.rules.specs.declared.Place.the-variants.{Blank, Ready, Delayed, Queued, Held, Accepting, Completed}
 use Rattle.rules.specs.declared.Supervisor.{Supervisor}
+use Rattle.lists.proofs.Tests.{no}
 use Rattle.lists.proofs.ListLaws.{clash, by-bool, and-l, and-r, both, is-true, true-T, count-filter-yes, count-filter-no, ordered-of, in-order}
 use Rattle.rules.proofs.Invariant.{Calls, Fits, InTime, Sound}
 use Rattle.rules.proofs.Members.{of-queue, of-held, queued-good, timed-there, there}
 use Rattle.rules.proofs.Passes.{in-time}
 use Rattle.rules.proofs.SoundTest.{sound-test, sound-props}
 use Rattle.rules.proofs.Fate.{accepts-is}
-use Rattle.rules.proofs.OverRuns.{no}
 use Rattle.rules.proofs.WholeLaws.{blank-is, parts}
 
 -- ── members ──

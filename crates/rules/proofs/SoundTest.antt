@@ -1,7 +1,7 @@
 -- The test `sound` passes exactly where the propositions hold.
 -- Assumes nothing.
 use Prim.Native.Nat.{ℕ, zero, suc, _+_, _≤_, _<_, _^_}
-use mathlib.Core.Path.{_≡_, refl, subst}
+use mathlib.Core.Path.{_≡_, refl}
 use mathlib.Core.Bool.{Bool, true, false, not, _&&_, _||_}
 use mathlib.Core.List.{List, _++_}
 use native.Mathlib.Omega.{arith}
@@ -15,7 +15,7 @@ use Rattle.rules.specs.declared.Timer.{Timer}
 use Rattle.rules.specs.declared.Timer.the-variants.{Off, Due}
 use Rattle.rules.specs.declared.Place.{Place}
 use Rattle.rules.specs.declared.Place.the-variants.{Blank, Ready, Delayed, Queued, Held, Accepting, Completed}
-use Rattle.lists.proofs.ListLaws.{clash, by-eq, by-bool, and-l, and-r, both, not-T, is-true, true-T, every-at, every-of, count-append, in-order, ordered-of}
+use Rattle.lists.proofs.ListLaws.{clash, by-eq, by-bool, and-l, and-r, both, not-T, is-true, is-false, true-T, every-at, every-of, count-append, in-order, ordered-of}
 use Rattle.rules.proofs.Invariant.{Calls, Fits, InTime, Good, Sound}
 use Rattle.rules.proofs.Members.{nth-beyond}
 
@@ -102,16 +102,13 @@ sound-test s h = is-true (sound s)
 
 -- ── from the test to the propositions ──
 
-not-is : {b : Bool} → T (not b) → b ≡ false
-not-is {b = b} h = by-bool b (λ e. absurd (subst (λ (c : Bool). T (not c)) e h)) (λ e. e)
-
 calls-of : (g : Task) (e : ℕ) → T (calls g e) → Calls g e
 calls-of g e h =
     let a = and-l (ltb 0 e && leb e (g .entries)) (not (isCompleted (g .place))) h in
     record {
       low = ltb→lt 0 e (and-l (ltb 0 e) (leb e (g .entries)) a);
       high = leb→le e (g .entries) (and-r (ltb 0 e) (leb e (g .entries)) a);
-      alive = not-is (and-r (ltb 0 e && leb e (g .entries)) (not (isCompleted (g .place))) h);
+      alive = is-false _ (and-r (ltb 0 e && leb e (g .entries)) (not (isCompleted (g .place))) h);
     }
 
 or-of : (o : ℕ) (b : Bool) → T (ltb 0 o || b) → o ≡ 0 → b ≡ true
@@ -119,12 +116,12 @@ or-of o b h z = is-true b (rw z at h)
 
 fits-of : (me g : Task) (p : Place) (w : Timer) → T (fits me g p w) → Fits me g p w
 fits-of me g Blank w h = h
-fits-of me g Ready w h = not-is h
+fits-of me g Ready w h = is-false _ h
 fits-of me g Delayed w h = is-true (hasTime w) h
-fits-of me g (Queued q) w h = (calls-of g (q .entry) (and-l (calls g (q .entry)) _ h), not-is (and-r (calls g (q .entry)) _ h))
-fits-of me g (Held m) w h = (calls-of g (m .entry) (and-l (calls g (m .entry)) _ h), not-is (and-r (calls g (m .entry)) _ h))
+fits-of me g (Queued q) w h = (calls-of g (q .entry) (and-l (calls g (q .entry)) _ h), is-false _ (and-r (calls g (q .entry)) _ h))
+fits-of me g (Held m) w h = (calls-of g (m .entry) (and-l (calls g (m .entry)) _ h), is-false _ (and-r (calls g (m .entry)) _ h))
 fits-of me g (Accepting o) w h = (ltb→lt (o .opens) (2 ^ (me .entries)) (and-l (ltb (o .opens) (2 ^ (me .entries))) _ h), or-of (o .opens) (hasTime w) (and-r (ltb (o .opens) (2 ^ (me .entries))) (ltb 0 (o .opens) || hasTime w) h))
-fits-of me g Completed w h = not-is h
+fits-of me g Completed w h = is-false _ h
 
 time-of : (now : ℕ) (w : Timer) → T (timeInRange now w) → InTime now w
 time-of now Off h = tt

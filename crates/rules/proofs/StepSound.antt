@@ -28,7 +28,7 @@ use Rattle.calls.specs.declared.SelectMode.the-variants as S
 use Rattle.calls.specs.declared.Call as C
 use Rattle.calls.specs.declared.Call.the-variants.{Create, Delay, Call, Select, End, Finish, Tick, Advance}
 use Rattle.lists.proofs.ListLaws.{by-eq, by-test, and-l, and-r, true-T, count-append, count-filter-yes, ordered-cong}
-use Rattle.lists.proofs.Tests.{and-second, and-false}
+use Rattle.lists.proofs.Tests.{and-second, and-fails}
 use Rattle.rules.proofs.Invariant.{Calls, InTime, Sound}
 use Rattle.rules.proofs.Members.{WaitsOn, in-filter, first-member, some-length, in-queue, of-queue, queued-good, queued-there, of-held, in-held, held-there, last-in, timed-there, bit-true, Runs, runs}
 use Rattle.rules.proofs.AddLaws.{add-sound}
@@ -133,7 +133,7 @@ select-kept s t o m h r = by-test Kept (leb (2 ^ (taskOf s t .entries)) o) (λ _
         let e = q .entry in
         let c : Calls (taskOf s t) e = rw g at (queued-good s u q h y) in
         let i : 0 < count u (queue s t e) = rw g at (in-queue s u q h y) in
-        and-false (opens o e) (ltb 0 (length (queue s t e))) (none-open s t o 8 1 z (omega arith) e (c .low) (omega (arith, c .high, h .good t (r .low) (r .high) .numbers .few)))
+        and-fails (opens o e) (ltb 0 (length (queue s t e))) (none-open s t o 8 1 z (omega arith) e (c .low) (omega (arith, c .high, h .good t (r .low) (r .high) .numbers .few)))
         (lt-ltb 0 (length (queue s t e)) (some-length u (queue s t e) i))
 
     go : (n : ℕ) → openEntry s t o ≡ n → o < 2 ^ (taskOf s t .entries) → Kept (selectAt s t o m n)

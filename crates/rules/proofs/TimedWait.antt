@@ -3,7 +3,7 @@
 use Prim.Native.Nat.{ℕ, zero, suc, _+_, _≤_, _<_}
 use mathlib.Core.Path.{_≡_, refl, sym, _∙_, ap}
 use mathlib.Core.Logic.{_↔_, _⊎_, inl, inr}
-use mathlib.Core.Bool.{Bool, true, false, _&&_, _||_}
+use mathlib.Core.Bool.{true, false, _&&_}
 use mathlib.Core.List.{List, [], _∷_}
 use native.Mathlib.Omega.{arith}
 use lib.ListN.{length}
@@ -24,7 +24,7 @@ use Rattle.rules.specs.declared.Place.the-variants.{Delayed, Queued, Hel
 use Rattle.calls.specs.declared.Call as C
 use Rattle.calls.specs.declared.Call.the-variants.{Create, Delay, Call, Select, End, Finish, Tick, Advance}
 use Rattle.lists.proofs.ListLaws.{clash, by-bool}
-use Rattle.lists.proofs.Tests.{and-first, and-second}
+use Rattle.lists.proofs.Tests.{no, and-first, and-second, or-first, or-second, or-left, or-right}
 use Rattle.rules.proofs.Invariant.{InTime, Sound}
 use Rattle.rules.proofs.Members.{timed-there}
 use Rattle.rules.proofs.StepSound.{call-sound}
@@ -33,7 +33,7 @@ use Rattle.rules.specs.State.{isCompleted}
 use Rattle.rules.proofs.StepSound.{left-after}
 use Rattle.rules.proofs.Passes.{left-later, later-is}
 use Rattle.rules.proofs.Fate.{clockAfter, clock-of, lasts, finished}
-use Rattle.rules.proofs.OverRuns.{StepFate, not-taken, was-taken, step-fate, step-sound, reach-sound, held-step, number-pos, no, duration-small}
+use Rattle.rules.proofs.OverRuns.{StepFate, not-taken, was-taken, step-fate, step-sound, reach-sound, held-step, number-pos, duration-small}
 
 -- ── a timed wait that goes on ──
 
@@ -170,13 +170,6 @@ pub data Course (s : State) (mid : List Ask) (t : ℕ) (p : Place) (due k d : �
   over : (engaged t (logOf s mid) ≡ true) ⊎ ((completed (partnerOf p) (logOf s mid) ≡ true) ⊎ (d ≤ k + tickCount (logOf s mid)))
       → ((mt : Meeting) × (placeOf (reach s mid) t ≡ Held mt)) ⊎ (0 < ended t (logOf s mid)) → Course s mid t p due k d
 
-or-true : (a b : Bool) → a ≡ true → (a || b) ≡ true
-or-true a b e = rw e
-
-or-right : (a b : Bool) → b ≡ true → (a || b) ≡ true
-or-right true b e = refl
-or-right false b e = e
-
 course : (mid : List Ask) (s : State) (t : ℕ) (p : Place) (due k d : ℕ) → Sound s → Timely p → Pending s t p due k d → Course s mid t p due k d
 course [] s t p due k d h y w = still (record { place = w .place; timer = w .timer; ticks = omega (arith, w .ticks) }) refl refl refl
 course (a ∷ rest) s t p due k d h y w =
@@ -207,13 +200,13 @@ course (a ∷ rest) s t p due k d h y w =
             how : ((mt : Meeting) × (placeOf (reach s1 rest) t ≡ Held mt)) ⊎ (0 < ended t log) → ((mt : Meeting) × (placeOf (reach s1 rest) t ≡ Held mt)) ⊎ (0 < ended t (x ∷ log))
             how (inl q) = inl q
             how (inr q) = inr (omega arith)
-    go (meets n en mt q r) f = over (inl (or-true (engages t x) (engaged t log) en)) (how (held-run rest s1 t mt (step-sound s a h) q))
+    go (meets n en mt q r) f = over (inl (or-left (engages t x) (engaged t log) en)) (how (held-run rest s1 t mt (step-sound s a h) q))
       where
         how : (placeOf (reach s1 rest) t ≡ Held mt) ⊎ (0 < ended t log) → ((mt : Meeting) × (placeOf (reach s1 rest) t ≡ Held mt)) ⊎ (0 < ended t (x ∷ log))
         how (inl z) = inl (mt, z)
         how (inr z) = inr (omega arith)
-    go (is-met n en r) f = over (inl (or-true (engages t x) (engaged t log) en)) (inr (rw r (omega arith)))
-    go (fails n co r) f = over (inr (inl (or-true (completes (partnerOf p) x) (completed (partnerOf p) log) co))) (inr (rw r (omega arith)))
+    go (is-met n en r) f = over (inl (or-left (engages t x) (engaged t log) en)) (inr (rw r (omega arith)))
+    go (fails n co r) f = over (inr (inl (or-left (completes (partnerOf p) x) (completed (partnerOf p) log) co))) (inr (rw r (omega arith)))
     go (expires n m r) f = over (inr (inr (omega (arith, m)))) (inr (rw r (omega arith)))
 
 -- ── the theorem ──
@@ -231,14 +224,6 @@ timely s (Advance n) e = no (cc)
 timer-in : (now d : ℕ) → 0 < d → timerIn now d ≡ Due (after now d)
 timer-in now zero h = absurd (omega arith)
 timer-in now (suc d) h = refl
-
-or-l : (a b : Bool) → (a || b) ≡ false → a ≡ false
-or-l true b e = e
-or-l false b e = refl
-
-or-r : (a b : Bool) → (a || b) ≡ false → b ≡ false
-or-r true b e = no (cc)
-or-r false b e = e
 
 -- a held caller's wait does not end by time
 held-ends : (s : State) (b : Ask) (t : ℕ) (mt : Meeting) (r : ℕ) → Sound s → placeOf s t ≡ Held mt → eqb r SERVED ≡ false → reasons t (entry s b .out .ended) ≡ r ∷ [] → ⊥
@@ -287,7 +272,7 @@ module _ (x : Entry) (mid : List Ask) (b : Ask) (t : ℕ) (h : Sound (x .out .st
 
       back : TimeReached t (duration (x .call)) x log y → EndsByTime t (x .call) log y
       back z =
-          no (let u = or-l (isHeld (placeOf (x .out .state) t)) (has ACCEPTED (reasons t (x .out .ended))) (or-l (engages t x) (engaged t log) (z .free)) in
+          no (let u = or-first (isHeld (placeOf (x .out .state) t)) (has ACCEPTED (reasons t (x .out .ended))) (or-first (engages t x) (engaged t log) (z .free)) in
           let v : isHeld (placeOf (x .out .state) t) ≡ true = rw q in cc)
 
   -- the wait began with its time
@@ -305,7 +290,7 @@ module _ (x : Entry) (mid : List Ask) (b : Ask) (t : ℕ) (h : Sound (x .out .st
         go (expires f g r) = record { later = omega (arith, f); reached = omega (arith, g); free = rw (fresh) m; alive = rw (← pa) n }
 
     back : TimeReached t (duration (x .call)) x log y → Course (x .out .state) mid t p due 0 (duration (x .call)) → EndsByTime t (x .call) log y
-    back z (over (inl q) _) = no (let k = or-r (engages t x) (engaged t log) (z .free) in cc)
+    back z (over (inl q) _) = no (let k = or-second (engages t x) (engaged t log) (z .free) in cc)
     back z (over (inr (inl q)) _) = no (let k = z .alive in cc)
     back z (over (inr (inr q)) _) = absurd (omega (arith, q, z .later))
     back z (still u o m n) = go (next s2 b t p due (0 + tickCount log) (duration (x .call)) h2 timed u)

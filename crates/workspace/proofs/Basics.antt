@@ -1,30 +1,14 @@
 -- What tests tell.
 -- Assumes nothing.
 use mathlib.Core.Path.{_≡_, refl, sym}
-use Prim.Native.Nat.{ℕ}
-use native.Mathlib.Omega.{arith}
 use mathlib.Core.Bool.{Bool, true, false, _&&_}
 use Rattle.lists.proofs.Tests.{and-first, and-second}
-
-pub no : {A : Type 0} → _≡_ {A = ℕ} 0 1 → A
-no e = absurd (omega arith)
 
 -- two tests that pass alike
 pub same-test : (a b : Bool) → (a ≡ true → b ≡ true) → (b ≡ true → a ≡ true) → a ≡ b
 same-test true b f g = sym (f refl)
 same-test false true f g = g refl
 same-test false false f g = refl
-
-pub both : {a b : Bool} → a ≡ true → b ≡ true → a && b ≡ true
-both p q = λ i. p i && q i
-
-pub and-true : (b : Bool) → b && true ≡ b
-and-true true = refl
-and-true false = refl
-
-pub and-false : (b : Bool) → b && false ≡ false
-and-false true = refl
-and-false false = refl
 
 -- seven tests that all pass
 pub split7 : (a b c d e f g : Bool) → a && b && c && d && e && f && g ≡ true → (a ≡ true) × (b ≡ true) × (c ≡ true) × (d ≡ true) × (e ≡ true) × (f ≡ true) × (g ≡ true)

@@ -4,7 +4,7 @@ use mathlib.Core.Path.{_≡_, refl, sym, _∙_, ap, subst}
 use Prim.Native.Nat.{ℕ, zero, suc, _+_, _-_, _<_, _≤_}
 use native.Mathlib.Nat.{not-suc-le-zero, le-of-suc-le-suc}
 use native.Mathlib.Omega.{arith}
-use mathlib.Core.Bool.{Bool, true, false, true≢false, not, _&&_}
+use mathlib.Core.Bool.{Bool, true, false, true≢false, not, _&&_, and-true, and-false}
 use mathlib.Core.List.{List, [], _∷_}
 use lib.ListN.{length, getD, drop}
 use native.Mathlib.Numerals.{add-one}
@@ -16,9 +16,8 @@ use Rattle.lists.specs.Lists.{if_then_else_}
 use Rattle.workspace.specs.Rules.{units, stretch, none}
 use Rattle.workspace.specs.Check.{beginsAt, begins, ends, first, rest, tiled, reachOf}
 use Rattle.workspace.proofs.Pieces.{Piece, taken, spare, blocksFrom, freeFrom, measure, Good, Sound, Within, blocks-within}
-use Rattle.lists.proofs.Tests.{and-first, and-second}
+use Rattle.lists.proofs.Tests.{no, and-first, and-second}
 use Rattle.lists.proofs.ListLaws.{by-bool}
-use Rattle.workspace.proofs.Basics.{no, and-true, and-false}
 
 -- the pieces of tables that lie end to end from a on
 pub record Cut (after : Bool) (a : ℕ) (bs fs : List Stretch) : Type 0 where

@@ -12,8 +12,8 @@ use Rattle.workspace.specs.declared.Stretch.{Stretch}
 use Rattle.lists.specs.Lists.{if_then_else_}
 use Rattle.workspace.specs.Rules.{stretch, end}
 use Rattle.workspace.specs.Operations.{startsAt, lengthAt, without, joined}
+use Rattle.lists.proofs.Tests.{no}
 use Rattle.lists.proofs.ListLaws.{by-bool}
-use Rattle.workspace.proofs.Basics.{no}
 use Rattle.workspace.proofs.Pieces.{Piece, taken, spare, blocksFrom, freeFrom, measure, Good, Sound, Within, free-within}
 
 -- ---- a release: the piece that starts at c becomes free, and free neighbours are joined

@@ -17,9 +17,8 @@ use Rattle.workspace.specs.Operations.{joined}
 use Rattle.workspace.specs.declared.Test.the-variants.{StartsBehind}
 use Rattle.workspace.specs.Places.{placeOf, passesOf, insertAt}
 use Rattle.workspace.specs.Steps.{touchesLow, touchesHigh, wholeAs, give, giveBack, countBack}
-use Rattle.lists.proofs.Tests.{ways}
+use Rattle.lists.proofs.Tests.{ways, no}
 use Rattle.lists.proofs.ListLaws.{by-bool}
-use Rattle.workspace.proofs.Basics.{no}
 use Rattle.workspace.proofs.Words.{Chain}
 use Rattle.workspace.proofs.Padded.{pad, push, pad-snoc}
 

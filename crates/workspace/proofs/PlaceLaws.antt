@@ -5,22 +5,20 @@ use Prim.Native.Nat.{ℕ, zero, suc, _+_, _-_, _<_, _≤_, min, zero-le}
 use native.Mathlib.Nat.{not-suc-le-zero, le-of-suc-le-suc}
 use native.Mathlib.Omega.{arith}
 use native.Mathlib.Numerals.{add-one}
-use mathlib.Core.Bool.{Bool, true, false, _&&_, _||_}
-use mathlib.Core.List.{List, [], _∷_, _++_, map}
-use lib.ListN.{length, getD, set, take, drop, replicate, length-map, drop-of-length-le}
+use mathlib.Core.Bool.{Bool, true, false, _&&_, _||_, and-true}
+use mathlib.Core.List.{List, [], _∷_, _++_}
+use lib.ListN.{length, getD, set, take, drop, replicate, drop-of-length-le}
 use lib.Seq.{take-all, drop-cons}
 use lib.Dec.{ltb}
 use borrow.Author.Tests.{ltb-true, ltb-false, lt-ltb, le-ltb}
 use Rattle.workspace.specs.declared.Stretch.{Stretch}
 use Rattle.lists.proofs.ListLaws.{by-bool}
-use Rattle.workspace.proofs.Basics.{and-true}
 use Rattle.lists.specs.Lists.{if_then_else_, every}
 use Rattle.workspace.specs.Rules.{none, isNone}
 use Rattle.workspace.specs.Places.{placeOf, over, removeAt, insertAt}
 use Rattle.workspace.specs.Seen.{tableOf, noteOf}
-
-pub mapped-long : {A B : Type 0} (f : A → B) (l : List A) (n : ℕ) → length (map f l) ≡ n → length l ≡ n
-mapped-long f l n e = sym (length-map l f) ∙ e
+-- handed on: who asks for a place asks how many there are
+pub use Rattle.lists.proofs.ListLaws.{mapped-long}
 
 pub over-nil : {A : Type 0} (xs : List A) → over xs [] ≡ xs
 over-nil [] = refl

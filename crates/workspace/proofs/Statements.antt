@@ -22,14 +22,13 @@ use Rattle.lists.specs.Lists.{if_then_else_, every}
 use Rattle.workspace.specs.Rules.{units, stretch, none, isNone, end, isKept, hasPlaces}
 use Rattle.workspace.specs.Operations.{placed, fits, fitStart, cut, startsAt, lengthAt, without, joined, refused, took, freshOf, requestOf, releaseOf, tableAfter, BAD-STATE, NO-SPACE}
 use Rattle.workspace.specs.Runs.{Area, isSound, Op, ask, give, outcomeOf, after, stepOf, runOf, freshArea, refusalOf, valueOf, givesAll}
-use Rattle.lists.proofs.Tests.{and-first, and-second}
+use Rattle.lists.proofs.Tests.{no, and-first, and-second, and-both as both}
 use Rattle.lists.proofs.ListLaws.{by-bool}
-use Rattle.workspace.proofs.Basics.{no, both}
 use Rattle.workspace.proofs.Pieces.{Piece, taken, spare, blocksFrom, freeFrom, measure, Good, Sound, suffice, fresh-sound}
 use Rattle.workspace.proofs.Taking.{request-sound}
 use Rattle.workspace.proofs.Giving.{release-sound}
 use Rattle.workspace.proofs.Words.{kept-sound}
-use Rattle.workspace.proofs.Padded.{table-is, placed-length, without-length}
+use Rattle.workspace.proofs.Padded.{table-is, none-unused, placed-length, without-length}
 use Rattle.workspace.proofs.SeenLaws.{replicate-length}
 use Rattle.workspace.proofs.Found.{block-long}
 use Rattle.workspace.proofs.Standing.{Stands, bs, fs, kept-stands, stands-kept, count-blocks, count-free, at-most-31, few}
@@ -42,10 +41,6 @@ take-front (x ∷ xs) m = ap (λ (l : List Stretch). x ∷ l) (take-front xs m)
 drop-front : (l m : List Stretch) → drop (length l) (l ++ m) ≡ m
 drop-front [] m = refl
 drop-front (x ∷ xs) m = drop-front xs m
-
-nones : (n : ℕ) → every isNone (replicate n none) ≡ true
-nones zero = refl
-nones (suc n) = nones n
 
 after-length : (table l : List Stretch) → length l ≤ length table → length (tableAfter table l) ≡ length table
 after-length table l h =
@@ -64,8 +59,8 @@ took-stands b f bl fl pb pf hb s =
       free-places = omega (arith, ef, pf);
       few-blocks = hb;
       few-free = omega (arith, ef, hf, pf);
-      unused-blocks = ap (every isNone) (drop-front bl (replicate (length b - length bl) none)) ∙ nones (length b - length bl);
-      unused-free = ap (every isNone) (drop-front fl (replicate (length f - length fl) none)) ∙ nones (length f - length fl);
+      unused-blocks = ap (every isNone) (drop-front bl (replicate (length b - length bl) none)) ∙ none-unused (length b - length bl);
+      unused-free = ap (every isNone) (drop-front fl (replicate (length f - length fl) none)) ∙ none-unused (length f - length fl);
       sound = subst (λ (l : List Stretch). Sound l (take (length fl) (tableAfter f fl))) (sym (take-front bl (replicate (length b - length bl) none))) (subst (Sound bl) (sym (take-front fl (replicate (length f - length fl) none))) s);
     }
 

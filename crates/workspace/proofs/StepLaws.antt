@@ -10,9 +10,8 @@ use lib.Dec.{leb, ltb, eqb}
 use mir.Val.{boolByte}
 use borrow.Author.Tests.{leb-true, ltb-true, lt-ltb, le-ltb, ne-eqb}
 use Rattle.lists.specs.Lists.{if_then_else_, bit, every}
-use Rattle.lists.proofs.Tests.{and-first, and-second}
+use Rattle.lists.proofs.Tests.{no, and-first, and-second, byte-bit}
 use Rattle.lists.proofs.ListLaws.{by-bool}
-use Rattle.workspace.proofs.Basics.{no}
 use Rattle.workspace.specs.declared.Stretch.{Stretch}
 use Rattle.workspace.specs.declared.Used.{Used}
 use Rattle.workspace.specs.declared.Look.{Look}
@@ -45,10 +44,6 @@ unfolding keepsSeen
 counted s u e = in-range s u (and-first (isCounted s u) (every isNone (drop (u .blocks) (s .blocks)) && every isNone (drop (u .free) (s .free)) && tiled 64 false 0 (take (u .blocks) (s .blocks)) (take (u .free) (s .free))) e)
 
 -- ── a test as a number ──
-
-byte-bit : (b : Bool) → boolByte b ≡ bit b
-byte-bit true = refl
-byte-bit false = refl
 
 pub byte-most : (b : Bool) (n : ℕ) → 0 < n → boolByte b ≤ n
 byte-most true n h = h

@@ -2,7 +2,7 @@
 --     kept-sound       by counting: the stretches cannot overlap and their lengths add up to the area, so the next one always starts where the last one ends
 --     sound-kept       piece by piece
 -- Assumes nothing.
-use mathlib.Core.Path.{_≡_, refl, sym, _∙_, ap}
+use mathlib.Core.Path.{_≡_, refl, sym, _∙_}
 use Prim.Native.Nat.{ℕ, zero, suc, _+_, _<_, _≤_}
 use native.Mathlib.Nat.{le-trans, le-refl}
 use native.Mathlib.Omega.{arith}
@@ -15,9 +15,9 @@ use borrow.Author.Tests.{ltb-true, leb-true, leb-false, eqb-true, eqb-false, lt-
 use Rattle.workspace.specs.declared.Stretch.{Stretch}
 use Rattle.lists.specs.Lists.{every, bit}
 use Rattle.workspace.specs.Rules.{pairs, units, stretch, end, total, isBefore, isLong, isInside, isApart, isLoose, isKept}
-use Rattle.lists.proofs.Tests.{ways, and-first, and-second}
+use Rattle.lists.proofs.Tests.{ways, no, and-first, and-second, and-both as both, or-first, or-left, or-right}
 use Rattle.lists.proofs.ListLaws.{by-bool}
-use Rattle.workspace.proofs.Basics.{no, both, split7}
+use Rattle.workspace.proofs.Basics.{split7}
 use Rattle.workspace.proofs.Pieces.{Piece, taken, spare, blocksFrom, freeFrom, measure, Good, Sound, Within, adds-up, wider, blocks-within, free-within}
 use Rattle.workspace.proofs.CheckLaws.{Cut}
 
@@ -93,10 +93,6 @@ pub either : (a b : Bool) → a || b ≡ true → (a ≡ true) ⊎ (b ≡ true)
 either true b e = inl refl
 either false b e = inr e
 
-or-false : (a b : Bool) → a || b ≡ false → a ≡ false
-or-false true b e = e
-or-false false b e = refl
-
 -- two that never overlap, in address order
 in-turn : (s t : Stretch) → isLong t ≡ true → isBefore s t ≡ true → isApart s t ≡ true → end s ≤ t .start
 in-turn s t l e f =
@@ -121,7 +117,7 @@ in-order l = pairs-follow isBefore isApart (behind 0) (λ s t e f g. let h : end
 loosely : (s t : Stretch) → behind 0 s t ≡ true → isLoose s t ≡ true → behind 1 s t ≡ true
 loosely s t e f =
     let h : end s + 0 ≤ t .start = leb-true (end s + 0) (t .start) e in
-    let d : end s ≡ t .start → ⊥ = eqb-false (end s) (t .start) (or-false (eqb (end s) (t .start)) (eqb (end t) (s .start)) (not-true (eqb (end s) (t .start) || eqb (end t) (s .start)) f)) in
+    let d : end s ≡ t .start → ⊥ = eqb-false (end s) (t .start) (or-first (eqb (end s) (t .start)) (eqb (end t) (s .start)) (not-true (eqb (end s) (t .start) || eqb (end t) (s .start)) f)) in
     by-bool (leb (end s + 1) (t .start)) (λ k. k) (λ k. let l : t .start < end s + 1 = leb-false (end s + 1) (t .start) k in absurd (d (omega (arith, h, l))))
 
 not-touching : (l : List Stretch) → pairs (behind 0) l ≡ true → pairs isLoose l ≡ true → All isLong l → pairs (behind 1) l ≡ true
@@ -325,13 +321,6 @@ pieces-free-long after a (spare n ∷ ps) g = both (lt-ltb 0 n (g .0)) (pieces-f
 -- two that lie one behind the other
 before-if : (s t : Stretch) → 0 < s .length → end s ≤ t .start → isBefore s t ≡ true
 before-if s t l h = lt-ltb (s .start) (t .start) (omega (arith, l, h))
-
-or-left : (a b : Bool) → a ≡ true → a || b ≡ true
-or-left a b e = ap (λ (c : Bool). c || b) e
-
-or-right : (a b : Bool) → b ≡ true → a || b ≡ true
-or-right true b e = refl
-or-right false b e = e
 
 apart-if : (s t : Stretch) → end s ≤ t .start → isApart s t ≡ true
 apart-if s t h = or-left (leb (end s) (t .start)) (leb (end t) (s .start)) (le-leb (end s) (t .start) h)
