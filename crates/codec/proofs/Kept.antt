@@ -1,13 +1,13 @@
 -- A state put into bytes is read back as that state, whatever bytes follow; bytes that are no encoding are no sound state. Assumes nothing.
 use Prim.Native.Nat.{ℕ, _+_, _/_, _%_, _≤_}
 use mathlib.Core.Path.{_≡_, refl, ap, subst, _∙_}
-use mathlib.Core.Bool.{Bool, true, false, _&&_}
+use mathlib.Core.Bool.{true, false}
 use mathlib.Core.List.{List, [], _∷_, _++_, append-assoc}
 use native.Mathlib.Omega.{arith}
 use borrow.Author.Tests.{le-leb}
 use lib.ListN.{length, take, drop, length-append}
 use lib.Seq.{take-at, drop-at}
-use lib.Dec.{leb}
+use Rattle.lists.proofs.Tests.{and-both}
 use Rattle.calls.specs.Duration.{four, bytesOf}
 use Rattle.rules.specs.Whole.{soundWhole}
 use Rattle.rules.specs.declared.Task.{Task}
@@ -42,16 +42,12 @@ timer-back : (w : Timer) → (timerFrom (timerTag w) (due w) ≡ w) × (isTimer 
 timer-back Off = (refl, refl)
 timer-back (Due d) = (ap Due (four-back d), refl)
 
-both : (a b : Bool) → a ≡ true → b ≡ true → a && b ≡ true
-both true b e h = h
-both false b e h = e
-
 task-back : (x : Task) (more : List ℕ) → (taskFrom (taskBytes x ++ more) ≡ x) × (isTask (taskBytes x ++ more) ≡ true)
 task-back x more =
     let p = place-back (x .place) in
     let w = timer-back (x .timer) in
     let from : taskFrom (taskBytes x ++ more) ≡ x = λ i. record { priority = x .priority; entries = x .entries; place = p .0 i; timer = w .0 i } in
-    (from, both (isPlace (placeTag (x .place)) (placeFirst (x .place)) (entryOf (x .place))) (isTimer (timerTag (x .timer)) (due (x .timer))) (p .1) (w .1))
+    (from, and-both (p .1) (w .1))
 
 tasks-back : (l : List Task) (more : List ℕ) → (tasksFrom (length l) (tasksBytes l ++ more) ≡ l) × (areTasks (length l) (tasksBytes l ++ more) ≡ true)
 unfolding tasksFrom areTasks
@@ -60,7 +56,7 @@ tasks-back (x ∷ xs) more =
     let ih = tasks-back xs more in
     let t = task-back x (tasksBytes xs ++ more) in
     let from : tasksFrom (length (x ∷ xs)) (tasksBytes (x ∷ xs) ++ more) ≡ x ∷ xs = λ i. t .0 i ∷ ih .0 i in
-    (from, both (isTask (taskBytes x ++ (tasksBytes xs ++ more))) (areTasks (length xs) (tasksBytes xs ++ more)) (t .1) (ih .1))
+    (from, and-both (t .1) (ih .1))
 
 -- ── a state ──
 
@@ -147,7 +143,7 @@ module _ (s : Supervisor) (z : Sized s) (rest : List ℕ) where
   pub encoded : isEncoding (encode s ++ rest) ≡ true
   unfolding isEncoding encode
   encoded =
-      both (leb 439 (length (encode s ++ rest))) (areTasks 31 (drop 5 (encode s ++ rest)))
+      and-both
       (le-leb 439 (length (encode s ++ rest)) (at-least (length (encode s ++ rest)) 439 (length rest) (found .long)))
       (ap (areTasks 31) (found .tasks) ∙ tasks-there .1)
 

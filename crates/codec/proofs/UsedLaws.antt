@@ -1,7 +1,7 @@
 -- The tasks of the table that are not read are blank: their bytes are 0. So a loop over the others reads the state. Assumes nothing.
 use Prim.Native.Nat.{ℕ, zero, suc, _+_, _-_, _*_, _<_, _≤_}
 use mathlib.Core.Path.{_≡_, refl, sym, ap, subst, _∙_}
-use mathlib.Core.Bool.{Bool, true, false, _&&_}
+use mathlib.Core.Bool.{Bool, true, false, _&&_, and-true, and-assoc}
 use mathlib.Core.List.{List, [], _∷_, _++_, append-nil}
 use native.Mathlib.Omega.{arith}
 use borrow.Author.Tests.{eqb-true, ltb-true, ltb-false, lt-ltb, le-ltb}
@@ -18,10 +18,6 @@ use Rattle.rules.specs.declared.Supervisor.{Supervisor}
 use Rattle.codec.specs.Layout.{isTask, taskFrom, areTasks, tasksFrom, decode, lost, stateIn}
 use Rattle.codec.specs.Used.{areZero, tableFrom, usedTasks, withTasks, bareIn}
 use Rattle.codec.proofs.CodecLaws.{turns, all-turns, rest-cons, are-turn, from-turn, are-next, from-next, state-short, state-tested}
-
-and-true : (a : Bool) → (a && true) ≡ a
-and-true true = refl
-and-true false = refl
 
 -- ── bytes that are 0 ──
 
@@ -199,16 +195,12 @@ reading-start b n s e =
     let filled = subst (Filled b n 0) (sym (bare-tasks b)) (filled-start b n) in
     subst (λ (s : Supervisor). Reading b n 0 s true) (sym e) (ap (λ (k : ℕ). areTasks k (drop 5 b)) (all-turns n), refl, filled)
 
-and-three : (a b c : Bool) → (a && (b && c)) ≡ ((a && b) && c)
-and-three true b c = refl
-and-three false b c = refl
-
 pub reading-next : (b : List ℕ) (n i : ℕ) (s : Supervisor) (good right : Bool) (x : Task) → i < n → n ≤ 31 → right ≡ isTask (drop (5 + i * 10) b) → x ≡ taskFrom (drop (5 + i * 10) b)
     → Reading b n i s good → Reading b n (i + 1) (withTasks s (set (s .tasks) i x)) (good && right)
 reading-next b n i s good right x h k e q r =
     let more = areTasks (n - (i + 1)) (drop (5 + (i + 1) * 10) b) in
     let one = are-next b n i h ∙ ap (λ (t : Bool). t && more) (sym e) in
-    let all = sym (and-three good right more) ∙ ap (λ (t : Bool). good && t) (sym one) ∙ r .0 in
+    let all = and-assoc good right more ∙ ap (λ (t : Bool). good && t) (sym one) ∙ r .0 in
     (all, ap (λ (s′ : Supervisor). withTasks s′ (set (s .tasks) i x)) (r .1), filled-next b n i (s .tasks) x h k q (r .2))
 
 module _ (b : List ℕ) (s : Supervisor) (good : Bool) (r : Reading b (usedTasks b) (usedTasks b) s good) where

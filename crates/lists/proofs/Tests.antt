@@ -40,10 +40,6 @@ pub and-fails : (a b : Bool) → (a && b) ≡ false → b ≡ true → a ≡ fal
 and-fails true b e h = sym h ∙ e
 and-fails false b e h = refl
 
-pub and-none : (a : Bool) → (a && false) ≡ false
-and-none true = refl
-and-none false = refl
-
 -- the first part of an `or` that is false
 pub or-first : (a b : Bool) → (a || b) ≡ false → a ≡ false
 or-first true b h = h

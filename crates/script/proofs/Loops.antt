@@ -2,7 +2,7 @@
 -- Assumes nothing.
 use Prim.Native.Nat.{ℕ, suc, _+_, _-_, _/_, _%_, _≤_, _<_, min}
 use mathlib.Core.Path.{_≡_, refl, ap, _∙_}
-use mathlib.Core.Bool.{Bool, true, false, cond, _&&_}
+use mathlib.Core.Bool.{Bool, true, false, cond, _&&_, and-false}
 use mathlib.Core.List.{List, [], _∷_, _++_}
 use native.Mathlib.Omega.{arith}
 use lib.Dec.{eqb, ltb}
@@ -49,10 +49,6 @@ no-part line inside i h = rw (drop-of-length-le line {i = i} h) refl
 
 alike-done : (a b : List ℕ) (i : ℕ) → length a ≤ i → length b ≤ i → alike (drop i a) (drop i b) ≡ true
 alike-done a b i h g = rw (drop-of-length-le a {i = i} h, drop-of-length-le b {i = i} g) refl
-
-and-false : (b : Bool) → (b && false) ≡ false
-and-false true = refl
-and-false false = refl
 
 unlike : (a b : List ℕ) → (length a ≡ length b → ⊥) → alike a b ≡ false
 unlike [] [] n = absurd (n refl)

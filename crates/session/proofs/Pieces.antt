@@ -1,14 +1,13 @@
 -- How the input is cut into pieces makes no difference. Assumes nothing.
 use Prim.Native.Nat.{ℕ, _≤_}
 use native.Mathlib.Omega.{arith}
-use mathlib.Core.Path.{_≡_, refl, sym, ap, _∙_}
-use mathlib.Core.Bool.{Bool, true, false}
+use mathlib.Core.Path.{_≡_, refl, _∙_}
+use mathlib.Core.Bool.{Bool, false, and-false}
 use mathlib.Core.List.{List, _++_}
 use lib.ListN.{length, length-append}
 use lib.Dec.{ltb}
 use borrow.Author.Tests.{le-ltb, ltb-false}
 use Rattle.lists.proofs.ListLaws.{by-bool}
-use Rattle.lists.proofs.Tests.{and-none}
 use Rattle.calls.specs.Reading.{readOf}
 use Rattle.calls.specs.declared.Read.{Read}
 use Rattle.calls.specs.declared.Read.the-variants.{Record, BadRecord, EndOfLog}
@@ -26,7 +25,7 @@ module _ (s : Session) (room : List ℕ) where
   -- and then their number, and whether more come, make no difference
   leaves-ahead : (n many more : ℕ) (last : Bool) → 10 ≤ many → many ≤ more → leaves s n more last room ≡ leaves s n many false room
   unfolding leaves
-  leaves-ahead n many more last h l = simp (le-ltb many 10 h, le-ltb more 10 (omega arith), and-none)
+  leaves-ahead n many more last h l = simp (le-ltb many 10 h, le-ltb more 10 (omega arith), and-false)
 
   module _ (input rest : List ℕ) (last : Bool) where
     -- a turn that asks for no more bytes, by what it has read

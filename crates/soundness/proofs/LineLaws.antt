@@ -2,7 +2,7 @@
 -- Assumes nothing.
 use Prim.Native.Nat.{ℕ, zero, suc, _+_, _-_, _^_, _≤_, _<_}
 use mathlib.Core.Path.{_≡_, refl, sym, ap, _∙_}
-use mathlib.Core.Bool.{Bool, true, false, _&&_}
+use mathlib.Core.Bool.{Bool, true, false, _&&_, and-false, and-assoc}
 use mathlib.Core.List.{List, [], _∷_}
 use native.Mathlib.Omega.{arith}
 use lib.Dec.{eqb, ltb, leb}
@@ -16,8 +16,7 @@ use Rattle.rules.specs.Whole.{view}
 use Rattle.rules.specs.declared.Supervisor.{Supervisor}
 use Rattle.soundness.specs.Marks.{Marks, Whole, noMarks, hasMark, nextMark, withoutMark, isNone}
 use Rattle.soundness.specs.Check.{Line, Ready, Callers, Held, Delays, belongs, marked, markedIn, walked, holdsIn, anyOrder}
-use Rattle.soundness.proofs.TaskLaws.{named, and-last, and-none, named-is}
-use Rattle.soundness.proofs.Turns.{and-both}
+use Rattle.soundness.proofs.TaskLaws.{named, and-last, named-is}
 use Rattle.soundness.proofs.MarkLaws.{next-whole, next-low, below, without-whole, has-none, has-first, has-next, has-without, none-has, has-all}
 
 -- ── what the rules ask of a line ──
@@ -151,7 +150,7 @@ emptied-is n m (x ∷ xs) l w h =
     rw (e, k) (ih (without-whole m x w) (onward low e) ∙ ap (λ (b : Bool). every (named n) xs && b) (met n m x xs w low e)))
     (λ e. rw e
     (by-bool (named n x)
-    (λ k. rw (unmet n m x xs k e) (sym (and-none (named n x && every (named n) xs))))
+    (λ k. rw (unmet n m x xs k e) (sym (and-false (named n x && every (named n) xs))))
     (λ k. rw k)))
   where
     onward : x < 32 → hasMark m x ≡ true → Within n (withoutMark m x)
@@ -176,8 +175,8 @@ walked-is k m a (suc n ∷ xs) =
   where
     together : (h o t e s : Bool) {w : Bool} → w ≡ ((t && e) && s) → ((h && o) && w) ≡ ((t && (h && e)) && (o && s))
     together true true t e s q = q
-    together true false t e s q = sym (and-none (t && e))
-    together false o t e s q = ap (λ (b : Bool). b && (o && s)) (sym (and-none t))
+    together true false t e s q = sym (and-false (t && e))
+    together false o t e s q = ap (λ (b : Bool). b && (o && s)) (sym (and-false t))
 
 in-any-order : (l : List ℕ) → ascending anyOrder 0 l ≡ true
 in-any-order [] = refl
@@ -191,7 +190,7 @@ line-is n f a l =
     (emptied-is n (wanted f n) (line a) l (next-whole _ false) (λ t e. and-first (named n t) (f t) (sym (has-wanted f n t l) ∙ e))
     ∙ ap (λ (b : Bool). every (named n) (line a) && b)
     (every-same _ _ n (λ t p q. ap (λ (b : Bool). eqb (count t (line a)) (bit b)) (passing t p q))))
-    ∙ and-both (tidy a) (every (named n) (line a)) (every (λ t. eqb (count t (line a)) (bit (f t))) (downFrom n))
+    ∙ sym (and-assoc (tidy a) (every (named n) (line a)) (every (λ t. eqb (count t (line a)) (bit (f t))) (downFrom n)))
   where
     passing : (t : ℕ) → 0 < t → t ≤ n → hasMark (wanted f n) t ≡ f t
     passing t p q = has-wanted f n t l ∙ ap (λ (b : Bool). b && f t) (named-is n t p q)

@@ -126,10 +126,6 @@ has-high m t h l = rw (div-eq-of-lt (high l))
 
 -- ── the machine's forms ──
 
-pub byte-bit : (b : Bool) → boolByte b ≡ bit b
-byte-bit true = refl
-byte-bit false = refl
-
 pub bit-low : (b : Bool) → boolByte b ≤ 1
 bit-low true = omega arith
 bit-low false = omega arith

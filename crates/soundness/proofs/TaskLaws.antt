@@ -31,10 +31,6 @@ pub and-last : (a b : Bool) → b ≡ true → (a && b) ≡ a
 and-last true b e = e
 and-last false b e = refl
 
-pub and-none : (a : Bool) → (a && false) ≡ false
-and-none true = refl
-and-none false = refl
-
 pub not-leb : (a b : ℕ) → not (leb a b) ≡ ltb b a
 not-leb a b = by-bool (leb a b) (λ e. rw (e, le-ltb b a (leb-true a b e))) (λ e. rw (e, lt-ltb b a (leb-false a b e)))
 

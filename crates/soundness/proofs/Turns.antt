@@ -2,7 +2,7 @@
 -- Assumes nothing.
 use Prim.Native.Nat.{ℕ, zero, suc, _+_, _-_, _≤_, _<_}
 use mathlib.Core.Path.{_≡_, refl, sym, ap, _∙_}
-use mathlib.Core.Bool.{Bool, true, false, _&&_}
+use mathlib.Core.Bool.{Bool, true, false, _&&_, and-assoc}
 use mathlib.Core.List.{List, [], _∷_}
 use native.Mathlib.Omega.{arith}
 use native.Mathlib.Numerals.{add-one, unary-clauses}
@@ -42,13 +42,9 @@ mark-on f m n t b h eb en = ap (marked f m) (down-on t h) ∙ (λ i. marked f (s
 
 -- ── tests that are taken together ──
 
-pub and-both : (a b c : Bool) → (a && (b && c)) ≡ ((a && b) && c)
-and-both true b c = refl
-and-both false b c = refl
-
 -- a turn: what is found of the next, and the rest
 pub and-turn : (a b c d e : Bool) → b ≡ c → d ≡ (c && e) → (a && d) ≡ ((a && b) && e)
-and-turn a b c d e p q = ap (λ (x : Bool). a && x) (q ∙ ap (λ (x : Bool). x && e) (sym p)) ∙ and-both a b e
+and-turn a b c d e p q = ap (λ (x : Bool). a && x) (q ∙ ap (λ (x : Bool). x && e) (sym p)) ∙ sym (and-assoc a b e)
 
 -- ── a line ──
 
@@ -77,7 +73,7 @@ or-none (suc a) b =
 
 -- the places from j on, where those from i to j are `seen` together
 pub blank-on : (l : List ℕ) (j seen : ℕ) → j < length l → (eqb seen 0 && blanks (drop j l)) ≡ (eqb (bitOr seen (getD l j 0)) 0 && blanks (drop (j + 1) l))
-blank-on l j seen h = rw (add-one j, drop-cons l j 0 h, or-none seen (getD l j 0)) (and-both (eqb seen 0) (eqb (getD l j 0) 0) (blanks (drop (suc j) l)))
+blank-on l j seen h = rw (add-one j, drop-cons l j 0 h, or-none seen (getD l j 0)) (sym (and-assoc (eqb seen 0) (eqb (getD l j 0) 0) (blanks (drop (suc j) l))))
 
 pub blank-end : (l : List ℕ) (j seen : ℕ) → length l ≤ j → (eqb seen 0 && blanks (drop j l)) ≡ eqb seen 0
 blank-end l j seen h = rw (drop-of-length-le l h) (and-last (eqb seen 0) true refl)

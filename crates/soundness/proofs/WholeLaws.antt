@@ -2,7 +2,7 @@
 -- Assumes nothing.
 use Prim.Native.Nat.{ℕ, _≤_, _<_}
 use mathlib.Core.Path.{_≡_, refl, sym, ap, _∙_}
-use mathlib.Core.Bool.{Bool, true, false, _&&_}
+use mathlib.Core.Bool.{Bool, true, false, _&&_, and-false}
 use mathlib.Core.List.{List, [], _∷_, _++_}
 use native.Mathlib.Omega.{arith}
 use lib.Dec.{eqb, leb}
@@ -18,7 +18,7 @@ use Rattle.rules.specs.Whole.{view, unused, soundWhole}
 use Rattle.rules.specs.declared.Supervisor.{Supervisor}
 use Rattle.soundness.specs.declared.Told.{Told}
 use Rattle.soundness.specs.Check.{Line, Ready, Callers, Held, Delays, goodIn, leftOf, belongs, toldOf, holdsIn, anyOrder}
-use Rattle.soundness.proofs.TaskLaws.{named, and-none}
+use Rattle.soundness.proofs.TaskLaws.{named}
 use Rattle.soundness.proofs.LineLaws.{arrayOf, lineHas, ascending, holds-is, stands-is}
 
 -- ── order: each at most the next is each at most all behind ──
@@ -45,7 +45,7 @@ module _ (k : ℕ → ℕ) where
       step e =
           by-bool (above (k x) xs)
           (λ y. rw (y, lower a (k x) xs (leb-true a (k x) e) y))
-          (λ y. rw y (sym (and-none (above a xs))))
+          (λ y. rw y (sym (and-false (above a xs))))
 
   above-zero : (l : List ℕ) → above 0 l ≡ true
   above-zero [] = refl
@@ -64,7 +64,7 @@ every-both : (f g : ℕ → Bool) (l : List ℕ) → every (λ t. f t && g t) l 
 every-both f g [] = refl
 every-both f g (x ∷ xs) =
     let ih = every-both f g xs in
-    by-bool (f x) (λ e. by-bool (g x) (λ y. rw (e, y, ih)) (λ y. rw (e, y) (sym (and-none (every f xs))))) (λ e. rw e)
+    by-bool (f x) (λ e. by-bool (g x) (λ y. rw (e, y, ih)) (λ y. rw (e, y) (sym (and-false (every f xs))))) (λ e. rw e)
 
 -- task t stands in the line as often as it should
 abbrev right : Supervisor → Line → ℕ → Bool
@@ -89,19 +89,19 @@ regroup u t1 t2 t3 t4 g c1 c2 c3 c4 n1 n2 n3 n4 o = go u t1 t2 t3 t4 g c1 c2 c3 
   where
     go : (u t1 t2 t3 t4 g c1 c2 c3 c4 n1 n2 n3 n4 : Bool) → (((u && g) && ((((t1 && n1) && c1) && ((t2 && n2) && c2)) && ((t3 && n3) && c3))) && (((t4 && n4) && c4) && o)) ≡ (((((u && t1) && t2) && t3) && t4) && ((((((g && c1) && c2) && c3) && c4) && (((n1 && n2) && n3) && n4)) && o))
     go false t1 t2 t3 t4 g c1 c2 c3 c4 n1 n2 n3 n4 = refl
-    go true false t2 t3 t4 g c1 c2 c3 c4 n1 n2 n3 n4 = simp and-none
-    go true true false t3 t4 g c1 c2 c3 c4 n1 n2 n3 n4 = simp and-none
-    go true true true false t4 g c1 c2 c3 c4 n1 n2 n3 n4 = simp and-none
-    go true true true true false g c1 c2 c3 c4 n1 n2 n3 n4 = simp and-none
-    go true true true true true false c1 c2 c3 c4 n1 n2 n3 n4 = simp and-none
-    go true true true true true true false c2 c3 c4 n1 n2 n3 n4 = simp and-none
-    go true true true true true true true false c3 c4 n1 n2 n3 n4 = simp and-none
-    go true true true true true true true true false c4 n1 n2 n3 n4 = simp and-none
-    go true true true true true true true true true false n1 n2 n3 n4 = simp and-none
-    go true true true true true true true true true true false n2 n3 n4 = simp and-none
-    go true true true true true true true true true true true false n3 n4 = simp and-none
-    go true true true true true true true true true true true true false n4 = simp and-none
-    go true true true true true true true true true true true true true false = simp and-none
+    go true false t2 t3 t4 g c1 c2 c3 c4 n1 n2 n3 n4 = simp and-false
+    go true true false t3 t4 g c1 c2 c3 c4 n1 n2 n3 n4 = simp and-false
+    go true true true false t4 g c1 c2 c3 c4 n1 n2 n3 n4 = simp and-false
+    go true true true true false g c1 c2 c3 c4 n1 n2 n3 n4 = simp and-false
+    go true true true true true false c1 c2 c3 c4 n1 n2 n3 n4 = simp and-false
+    go true true true true true true false c2 c3 c4 n1 n2 n3 n4 = simp and-false
+    go true true true true true true true false c3 c4 n1 n2 n3 n4 = simp and-false
+    go true true true true true true true true false c4 n1 n2 n3 n4 = simp and-false
+    go true true true true true true true true true false n1 n2 n3 n4 = simp and-false
+    go true true true true true true true true true true false n2 n3 n4 = simp and-false
+    go true true true true true true true true true true true false n3 n4 = simp and-false
+    go true true true true true true true true true true true true false n4 = simp and-false
+    go true true true true true true true true true true true true true false = simp and-false
     go true true true true true true true true true true true true true true = refl
 
 pub unsound-many : (s : Supervisor) → 31 < s .created → false ≡ soundWhole s

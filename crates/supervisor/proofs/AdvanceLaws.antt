@@ -17,6 +17,7 @@ use Rattle.rules.specs.declared.Supervisor.{Supervisor}
 use Rattle.rules.specs.declared.Timer.{Timer}
 use Rattle.rules.specs.declared.Timer.the-variants.{Off, Due}
 use Rattle.calls.specs.declared.Call.the-variants.{Tick, Advance}
+use Rattle.lists.proofs.Tests.{byte-bit}
 use Rattle.lists.proofs.ListLaws.{clash, count-filter-le}
 use Rattle.rules.proofs.Invariant.{Sound}
 use Rattle.rules.proofs.Members.{bit-le, in-filter, timed-there}
@@ -26,7 +27,6 @@ use Rattle.table.specs.declared.queues.Test.the-variants.{DueWithin}
 use Rattle.supervisor.specs.Taken.{Stands, EachOnce, WokenAs, takenOf, endedBy, passing}
 use Rattle.supervisor.specs.declared.answers.Taken.{Taken}
 use Rattle.supervisor.proofs.AnswerLaws.{list-answers}
-use Rattle.supervisor.proofs.FinishLaws.{byte-bit}
 use Rattle.supervisor.proofs.MoveLaws.{picked-line, long-delays}
 
 -- ── those whose time comes ──

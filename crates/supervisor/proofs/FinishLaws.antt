@@ -2,7 +2,7 @@
 -- Assumes nothing.
 use Prim.Native.Nat.{ℕ, zero, suc, _+_, _-_, _≤_, _<_}
 use mathlib.Core.Path.{_≡_, refl, sym, ap, _∙_}
-use mathlib.Core.Bool.{Bool, true, false}
+use mathlib.Core.Bool.{true}
 use mir.Val.{boolByte}
 use mathlib.Core.List.{List, [], _∷_, _++_, append-assoc, append-nil, tail-eq-of-cons-eq}
 use native.Mathlib.Omega.{arith}
@@ -13,7 +13,7 @@ use lib.Seq.{drop-cons}
 use borrow.Author.Tests.{ltb-true, lt-ltb, le-ltb, ltb-false, eq-eqb, ne-eqb, eqb-true}
 use Rattle.lists.proofs.LineLaws.{line-line, line-append, line-pad}
 use Rattle.lists.specs.Line.{line, pad, padTo}
-use Rattle.lists.specs.Lists.{if_then_else_, bit, filter, count}
+use Rattle.lists.specs.Lists.{if_then_else_, filter, count}
 use Rattle.lists.specs.Marks.{noMarks, markOf, marked, withMark}
 use Rattle.lists.proofs.MarkLaws.{filter-same, mark-in, marked-length}
 use Rattle.rules.specs.State.{State, move, running, waitsOn, queue, holds, heldBy, wakeAll}
@@ -26,6 +26,7 @@ use Rattle.rules.specs.declared.Timer.the-variants.{Off}
 use Rattle.calls.specs.declared.Call.the-variants.{Finish}
 use Rattle.rules.proofs.Invariant.{Sound}
 use Rattle.rules.proofs.Members.{queued-there, nth-beyond}
+use Rattle.lists.proofs.Tests.{byte-bit}
 use Rattle.lists.proofs.ListLaws.{by-bool, by-test}
 use Rattle.rules.proofs.StepSound.{of-queuedFrom, wakeAll-sound, wakeAll-length}
 use Rattle.rules.proofs.WholeLaws.{at-most, no-zero}
@@ -55,10 +56,6 @@ pub pad-none : (xs : List ℕ) → pad (xs ++ []) ≡ pad xs
 pad-none xs = ap pad (append-nil xs)
 
 -- ---- how many have a mark
-
-pub byte-bit : (b : Bool) → boolByte b ≡ bit b
-byte-bit true = refl
-byte-bit false = refl
 
 -- the mark at place i, and the rest
 pub times-turn : (k : ℕ) (m : List ℕ) (i : ℕ) → i < length m → count k (drop i m) ≡ boolByte (eqb (getD m i 0) k) + count k (drop (i + 1) m)

@@ -3,11 +3,11 @@
 use Prim.Native.Nat.{ℕ, zero, suc, _-_, _≤_, _<_}
 use mathlib.Core.Path.{_≡_, refl, sym, ap, _∙_}
 use mathlib.Core.Bool.{Bool, true, false, _&&_}
-use mathlib.Core.List.{List, [], _∷_, _++_, map}
+use mathlib.Core.List.{List, [], _∷_, _++_}
 use native.Mathlib.Numerals.{unary-clauses}
 use native.Mathlib.Omega.{arith}
 use lib.Dec.{eqb, ltb, leb}
-use lib.ListN.{length, getD, set, take, length-map}
+use lib.ListN.{length, getD, set, take}
 use lib.Seq.{getD-take, set-out, set-getD}
 use borrow.Author.Tests.{ltb-true, ltb-false, leb-true, leb-false}
 use Rattle.lists.specs.Line.{line, pad}
@@ -115,9 +115,6 @@ put-back ts t x l =
 -- the struct with other tasks
 abbrev with-tasks : Supervisor → List Task → Supervisor
 with-tasks s ts = record { clock = s .clock; created = s .created; tasks = ts; ready = s .ready; callers = s .callers; held = s .held; delays = s .delays }
-
-pub mapped-long : {X Y : Type 0} (f : X → Y) (l : List X) (n : ℕ) → length (map f l) ≡ n → length l ≡ n
-mapped-long f l n h = sym (length-map l f) ∙ h
 
 -- ---- the move, from what its parts answer
 

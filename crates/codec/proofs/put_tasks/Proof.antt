@@ -4,7 +4,7 @@ use Prim.Native.Nat.{_+_, _-_, _*_, _≤_, _<_, ℕ}
 use mathlib.Core.Path.{_≡_, refl, sym, ap, _∙_}
 use mathlib.Core.List.{List}
 use lib.ListN.{length, getD, drop}
-use Rattle.table.proofs.LeafLaws.{mapped-long}
+use Rattle.lists.proofs.ListLaws.{mapped-long}
 use Rattle.rules.specs.State.{blank}
 use Rattle.codec.specs.Layout.{taskBytes, tasksBytes, putAt, placedAt}
 use Rattle.codec.proofs.CodecLaws.{rest-cons, put-turn, put-end, put-length, placed-fits}

@@ -3,7 +3,7 @@ use Prim.Native.Nat.{_≤_}
 use mathlib.Core.Path.{_≡_}
 use lib.ListN.{length}
 use denote.Ref.{now}
-use Rattle.table.proofs.LeafLaws.{mapped-long}
+use Rattle.lists.proofs.ListLaws.{mapped-long}
 use Rattle.codec.specs.Layout.{placedLines}
 use Rattle.codec.proofs.CodecLaws.{stored-short, stored-long}
 use borrow.Author.Needs.{needs}

@@ -4,9 +4,9 @@ use Prim.Native.Nat.{_-_}
 use mathlib.Core.Path.{_≡_, refl, sym, _∙_}
 use lib.ListN.{length, drop}
 use Rattle.lists.specs.Lists.{every}
+use Rattle.lists.proofs.ListLaws.{mapped-long}
 use Rattle.rules.specs.State.{blank}
 use Rattle.rules.specs.Whole.{unused}
-use Rattle.table.proofs.LeafLaws.{mapped-long}
 use Rattle.soundness.proofs.Turns.{every-pass, every-fail, every-done}
 use Rattle.soundness.proofs.all_unused.Statement.{statement}
 use Rattle.soundness.proofs.all_unused.Tie as tie

@@ -9,10 +9,11 @@ use mathlib.Core.List.{[]}
 use lib.ListN.{length, getD}
 use Rattle.lists.specs.Lists.{every, downFrom}
 use Rattle.lists.proofs.Tests.{ways}
+use Rattle.lists.proofs.ListLaws.{mapped-long}
 use Rattle.rules.specs.State.{blank, taskOf}
 use Rattle.rules.specs.Whole.{view}
 use Rattle.rules.specs.declared.Supervisor.{Supervisor}
-use Rattle.table.proofs.LeafLaws.{mapped-long, task-in}
+use Rattle.table.proofs.LeafLaws.{task-in}
 use Rattle.soundness.specs.Check.{Line, Ready, Callers, Held, Delays, belongs, goodIn, marked}
 use Rattle.soundness.specs.Marks.{noMarks, nextMark}
 use Rattle.soundness.proofs.TaskLaws.{and-last, named-range, called-one, called-none, good-is}

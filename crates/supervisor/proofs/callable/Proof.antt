@@ -1,7 +1,7 @@
 use borrow.Author.Needs.{needs}
 use mathlib.Core.Path.{_≡_, _∙_, sym}
 use lib.ListN.{length}
-use Rattle.table.proofs.LeafLaws.{mapped-long}
+use Rattle.lists.proofs.ListLaws.{mapped-long}
 use Rattle.supervisor.proofs.TopLaws.{callable-is}
 use Rattle.rules.specs.Questions.{callableWhole}
 use Rattle.supervisor.proofs.callable.Statement.{statement}

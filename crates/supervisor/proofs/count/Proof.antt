@@ -4,7 +4,7 @@ use mathlib.Core.Path.{_≡_, _∙_, ap, sym}
 use lib.ListN.{length}
 use Rattle.rules.specs.Questions.{countWhole}
 use Rattle.table.specs.declared.queues.Test.the-variants.{QueuedOn}
-use Rattle.table.proofs.LeafLaws.{mapped-long}
+use Rattle.lists.proofs.ListLaws.{mapped-long}
 use Rattle.supervisor.proofs.MoveLaws.{picked-line}
 use Rattle.supervisor.proofs.count.Statement.{statement}
 use Rattle.supervisor.proofs.count.Tie as tie

@@ -7,9 +7,9 @@ use mathlib.Core.Bool.{true, false}
 use borrow.Author.Tests.{not-true, not-false, ltb-false}
 use Rattle.rules.specs.Step.{takeCall, roomAfter}
 use Rattle.rules.specs.Whole.{Whole, view, soundWhole, done, stepWhole, answerOf}
-use Rattle.table.proofs.LeafLaws.{mapped-long}
 use Rattle.supervisor.specs.Taken.{Stands}
 use Rattle.lists.proofs.Parts.{need, Answer, Field}
+use Rattle.lists.proofs.ListLaws.{mapped-long}
 use Rattle.supervisor.proofs.TopLaws.{answer-is, by-whole, ended-is, kept, stands-of, state-is, step-short, step-sound, step-unsound}
 use Rattle.supervisor.proofs.step.Statement.{statement}
 use Rattle.supervisor.proofs.step.Tie as tie

@@ -1,7 +1,8 @@
 use native.Mathlib.Omega.{arith}
 use borrow.Author.Needs.{needs}
 use Rattle.soundness.specs.Marks.{nextMark}
-use Rattle.soundness.proofs.MarkLaws.{byte-bit, bit-low}
+use Rattle.lists.proofs.Tests.{byte-bit}
+use Rattle.soundness.proofs.MarkLaws.{bit-low}
 use Rattle.soundness.proofs.marks.next.Statement.{statement}
 use Rattle.soundness.proofs.marks.next.Tie as tie
 

@@ -7,7 +7,8 @@ use mathlib.Core.Path.{_≡_, sym, _∙_, ap}
 use lib.Dec.{leb}
 use lib.ListN.{length, drop, getD}
 use Rattle.rules.specs.Whole.{view}
-use Rattle.table.proofs.LeafLaws.{mapped-long, left-at}
+use Rattle.lists.proofs.ListLaws.{mapped-long}
+use Rattle.table.proofs.LeafLaws.{left-at}
 use Rattle.soundness.specs.Check.{leftOf, holdsIn, walked}
 use Rattle.soundness.specs.Marks.{withoutMark}
 use Rattle.soundness.proofs.Turns.{walk-blank, walk-on, walk-end}

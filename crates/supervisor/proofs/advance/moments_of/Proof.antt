@@ -8,9 +8,10 @@ use lib.ListN.{length, drop, getD}
 use mir.Val.{boolByte}
 use Rattle.lists.specs.Line.{line}
 use Rattle.lists.proofs.Turns.{rest-blank, rest-entry, rest-end}
+use Rattle.lists.proofs.ListLaws.{mapped-long}
 use Rattle.rules.specs.Advance.{changes}
 use Rattle.table.specs.Moved.{leftOf}
-use Rattle.table.proofs.LeafLaws.{mapped-long, left-at}
+use Rattle.table.proofs.LeafLaws.{left-at}
 use Rattle.supervisor.proofs.AdvanceLaws.{one-more, moments-on, moments-end}
 use Rattle.supervisor.proofs.advance.moments_of.Statement.{statement}
 use Rattle.supervisor.proofs.advance.moments_of.Tie as tie

@@ -9,9 +9,10 @@ use Rattle.lists.specs.Marks.{noMarks, marked}
 use Rattle.lists.proofs.Tests.{ways}
 use Rattle.lists.proofs.Turns.{rest-blank, rest-entry, rest-end}
 use Rattle.lists.proofs.MarkLaws.{mark-on, mark-off}
+use Rattle.lists.proofs.ListLaws.{mapped-long}
 use Rattle.rules.specs.Whole.{view}
 use Rattle.rules.specs.declared.Task.{Task}
-use Rattle.table.proofs.LeafLaws.{mapped-long, shown-at}
+use Rattle.table.proofs.LeafLaws.{shown-at}
 use Rattle.supervisor.specs.Lowest.{openCall, callOf}
 use Rattle.supervisor.proofs.callers.entries_called.Statement.{statement}
 use Rattle.supervisor.proofs.callers.entries_called.Tie as tie

@@ -5,9 +5,10 @@ use mathlib.Core.Path.{_≡_, refl, sym, ap, _∙_}
 use lib.ListN.{drop, length, getD}
 use Rattle.lists.specs.Line.{line}
 use Rattle.lists.proofs.Turns.{rest-blank, rest-entry, rest-end}
+use Rattle.lists.proofs.ListLaws.{mapped-long}
 use Rattle.rules.specs.Whole.{view}
 use Rattle.rules.specs.declared.Task.{Task}
-use Rattle.table.proofs.LeafLaws.{mapped-long, shown-at}
+use Rattle.table.proofs.LeafLaws.{shown-at}
 use Rattle.supervisor.specs.Lowest.{openCall, callOf, nobody, lowestOf}
 use Rattle.supervisor.proofs.LowestLaws.{lower-turn}
 use Rattle.supervisor.proofs.callers.lowest.Statement.{statement}

@@ -8,9 +8,9 @@ use lib.ListN.{length, length-take}
 use Rattle.lists.specs.Line.{line, pad, padTo}
 use Rattle.lists.specs.Marks.{markOf, withMark}
 use Rattle.lists.proofs.LineLaws.{line-line, line-picked}
+use Rattle.lists.proofs.ListLaws.{mapped-long}
 use Rattle.rules.specs.Step.{queuedOn}
 use Rattle.rules.specs.Whole.{view}
-use Rattle.table.proofs.LeafLaws.{mapped-long}
 use Rattle.supervisor.proofs.FinishLaws.{byMarks, queued-laid, queued-turn, queued-end, marks-queued}
 use Rattle.supervisor.proofs.callers.queued_on.Statement.{statement}
 use Rattle.supervisor.proofs.callers.queued_on.Tie as tie

@@ -7,7 +7,7 @@ use mathlib.Core.Path.{_≡_}
 use lib.Dec.{eqb}
 use lib.ListN.{drop, length, getD}
 use Rattle.lists.specs.Lists.{count}
-use Rattle.table.proofs.LeafLaws.{mapped-long}
+use Rattle.lists.proofs.ListLaws.{mapped-long}
 use Rattle.supervisor.proofs.FinishLaws.{times-turn, times-done, times-short}
 use Rattle.supervisor.proofs.callers.times.Statement.{statement}
 use Rattle.supervisor.proofs.callers.times.Tie as tie

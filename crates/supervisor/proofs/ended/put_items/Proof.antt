@@ -6,9 +6,10 @@ use mathlib.Core.List.{_∷_}
 use lib.ListN.{length, drop, getD, length-take, length-drop}
 use Rattle.lists.specs.Line.{line}
 use Rattle.lists.proofs.Turns.{rest-blank, rest-entry, rest-end}
+use Rattle.lists.proofs.ListLaws.{mapped-long}
 use Rattle.rules.specs.Whole.{view}
 use Rattle.rules.specs.declared.Task.{Task}
-use Rattle.table.proofs.LeafLaws.{mapped-long, shown-at}
+use Rattle.table.proofs.LeafLaws.{shown-at}
 use Rattle.supervisor.specs.Taken.{itemAt, itemOf}
 use Rattle.supervisor.proofs.RoomLaws.{Going, going-start, going-on, going-end}
 use Rattle.supervisor.proofs.ended.put_items.Statement.{statement}

@@ -6,10 +6,10 @@ use lib.ListN.{drop, length, getD}
 use Rattle.lists.specs.Line.{line}
 use Rattle.lists.proofs.Tests.{ways}
 use Rattle.lists.proofs.Turns.{rest-blank, rest-entry, rest-end}
+use Rattle.lists.proofs.ListLaws.{mapped-long}
 use Rattle.rules.specs.State.{running, priorityOf}
 use Rattle.rules.specs.Whole.{view}
 use Rattle.table.specs.Best.{bestOf, lastOf}
-use Rattle.table.proofs.LeafLaws.{mapped-long}
 use Rattle.table.proofs.Levels.{one-pass-running, last-low, best-turn, best-skip}
 use Rattle.table.proofs.dispatch.running.Statement.{statement}
 use Rattle.table.proofs.dispatch.running.Tie as tie

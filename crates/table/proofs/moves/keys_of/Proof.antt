@@ -9,8 +9,9 @@ use Rattle.lists.specs.Marks.{noMarks, marked}
 use Rattle.lists.proofs.Tests.{ways}
 use Rattle.lists.proofs.Turns.{rest-blank, rest-entry, rest-end}
 use Rattle.lists.proofs.MarkLaws.{mark-on, mark-off}
+use Rattle.lists.proofs.ListLaws.{mapped-long}
 use Rattle.table.specs.Moved.{leftOf}
-use Rattle.table.proofs.LeafLaws.{mapped-long, left-at}
+use Rattle.table.proofs.LeafLaws.{left-at}
 use Rattle.table.proofs.moves.keys_of.Statement.{statement}
 use Rattle.table.proofs.moves.keys_of.Tie as tie
 

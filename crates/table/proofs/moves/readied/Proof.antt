@@ -6,9 +6,10 @@ use mathlib.Core.Path.{_≡_, refl, sym, _∙_}
 use lib.ListN.{drop, getD, length, length-set}
 use Rattle.lists.specs.Line.{line}
 use Rattle.lists.proofs.Turns.{rest-blank, rest-entry, rest-end}
+use Rattle.lists.proofs.ListLaws.{mapped-long}
 use Rattle.rules.specs.declared.Task.{Task}
 use Rattle.table.specs.Moved.{readiedOf}
-use Rattle.table.proofs.LeafLaws.{mapped-long, readied-put, readied-on}
+use Rattle.table.proofs.LeafLaws.{readied-put, readied-on}
 use Rattle.table.proofs.moves.readied.Statement.{statement}
 use Rattle.table.proofs.moves.readied.Tie as tie
 

@@ -1,7 +1,8 @@
 use borrow.Author.Needs.{needs}
 use mathlib.Core.Path.{_≡_, _∙_}
 use lib.ListN.{length}
-use Rattle.table.proofs.LeafLaws.{retime-due, mapped-long}
+use Rattle.lists.proofs.ListLaws.{mapped-long}
+use Rattle.table.proofs.LeafLaws.{retime-due}
 use Rattle.table.proofs.moves.retimed.Statement.{statement}
 use Rattle.table.proofs.moves.retimed.Tie as tie
 

@@ -4,7 +4,8 @@ use mathlib.Core.List.{_++_}
 use lib.ListN.{length}
 use Rattle.lists.specs.Line.{line, pad}
 use Rattle.lists.specs.Marks.{withMark}
-use Rattle.table.proofs.LeafLaws.{woken-law, mapped-long}
+use Rattle.lists.proofs.ListLaws.{mapped-long}
+use Rattle.table.proofs.LeafLaws.{woken-law}
 use Rattle.table.proofs.moves.woken.Statement.{statement}
 use Rattle.table.proofs.moves.woken.Tie as tie
 

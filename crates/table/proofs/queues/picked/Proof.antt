@@ -9,10 +9,11 @@ use Rattle.lists.specs.Lists.{filter}
 use Rattle.lists.proofs.Tests.{ways}
 use Rattle.lists.proofs.Parts.{need, When, Taken, Left}
 use Rattle.lists.proofs.Turns.{Filling, fill-start, fill-keep, fill-skip, fill-stop, fill-over}
+use Rattle.lists.proofs.ListLaws.{mapped-long}
 use Rattle.rules.specs.Whole.{view}
 use Rattle.rules.specs.declared.Task.{Task}
 use Rattle.table.specs.Moved.{isPicked, passesOf}
-use Rattle.table.proofs.LeafLaws.{mapped-long, shown-at}
+use Rattle.table.proofs.LeafLaws.{shown-at}
 use Rattle.table.proofs.queues.picked.Statement.{statement}
 use Rattle.table.proofs.queues.picked.Tie as tie
 

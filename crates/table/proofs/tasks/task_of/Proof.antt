@@ -3,7 +3,8 @@ use mathlib.Core.Path.{_≡_}
 use lib.ListN.{length, getD}
 use Rattle.rules.specs.State.{blank}
 use Rattle.table.specs.Numbers.{indexOf, shownOf}
-use Rattle.table.proofs.LeafLaws.{shown-at, mapped-long}
+use Rattle.lists.proofs.ListLaws.{mapped-long}
+use Rattle.table.proofs.LeafLaws.{shown-at}
 use Rattle.table.proofs.tasks.task_of.Statement.{statement}
 use Rattle.table.proofs.tasks.task_of.Tie as tie
 

@@ -4,7 +4,8 @@ use Prim.Native.Nat.{_≤_}
 use mathlib.Core.Path.{_≡_, refl, sym, _∙_}
 use lib.ListN.{length}
 use Rattle.lists.proofs.Parts.{need, Field}
-use Rattle.table.proofs.LeafLaws.{number-range, set-in, with-out, mapped-long}
+use Rattle.lists.proofs.ListLaws.{mapped-long}
+use Rattle.table.proofs.LeafLaws.{number-range, set-in, with-out}
 use Rattle.table.proofs.tasks.with_task.Statement.{statement}
 use Rattle.table.proofs.tasks.with_task.Tie as tie
 
