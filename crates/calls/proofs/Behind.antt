@@ -8,6 +8,7 @@ use borrow.Author.Tests.{le-ltb, eqb-true}
 use lib.Dec.{eqb}
 use lib.ListN.{length, length-append, List·getD-append}
 use Rattle.lists.specs.Lists.{if_then_else_}
+use Rattle.lists.proofs.Tests.{differ}
 use Rattle.lists.proofs.ListLaws.{by-bool}
 use Rattle.calls.specs.Duration.{signed}
 use Rattle.calls.specs.Record.{byte, fourFrom, tagOf, isUnknown, lengthOf}
@@ -16,8 +17,7 @@ use Rattle.calls.specs.Parts.{badFrame, badBody, bodyRead}
 use Rattle.calls.specs.declared.Call as C
 use Rattle.calls.specs.declared.Call.the-variants.{Delay, Advance}
 use Rattle.calls.specs.declared.Read.the-variants.{Record, BadRecord}
-use Rattle.calls.proofs.Signed.{differ}
-use Rattle.calls.proofs.Frame.{frame-is, found, unknown-above}
+use Rattle.calls.proofs.Frame.{frame-is, found, above-eight}
 use Rattle.calls.proofs.Round.{accepted-as}
 
 module _ (s rest : List ℕ) where
@@ -53,9 +53,6 @@ module _ (s rest : List ℕ) where
   call-here (suc (suc (suc (suc (suc (suc (suc zero))))))) u h = refl
   call-here (suc (suc (suc (suc (suc (suc (suc (suc zero)))))))) u h = ap Advance (four-here 3 (omega arith))
   call-here (suc (suc (suc (suc (suc (suc (suc (suc (suc t))))))))) u h = differ (sym (above-eight t) ∙ u)
-    where
-      above-eight : (t : ℕ) → isUnknown (suc (suc (suc (suc (suc (suc (suc (suc (suc t))))))))) ≡ true
-      above-eight t = unknown-above (suc (suc (suc (suc (suc (suc (suc (suc (suc t))))))))) (omega arith)
 
   module _ (fits : 3 + lengthOf (tagOf s) ≤ length s) where
     -- tag, length and number of bytes

@@ -11,6 +11,7 @@ use Rattle.calls.specs.declared.Call as C
 use Rattle.calls.specs.declared.Call.the-variants.{Create, Delay, Call, Select, End, Finish, Tick, Advance}
 use Rattle.calls.specs.declared.writer.Packet.{Packet}
 
+-- the longest record has ten bytes
 pub at-most-ten : (c : C.Call) → length (encode c) ≤ 10
 at-most-ten (Create p n) = omega arith
 at-most-ten (Delay d) = omega arith

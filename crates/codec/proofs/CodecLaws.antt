@@ -4,6 +4,7 @@ use mathlib.Core.Path.{_≡_, refl, sym, ap, _∙_}
 use mathlib.Core.Bool.{Bool, true, false, _&&_}
 use mathlib.Core.List.{List, [], _∷_, _++_, append-assoc, append-nil}
 use native.Mathlib.Numerals.{add-one}
+use native.Mathlib.Nat.{add-zero, zero-add}
 use native.Mathlib.Omega.{arith}
 use lib.ListN.{length, replicate, getD, set, take, drop, take-append-drop, length-append, length-take, length-drop, drop-of-length-le}
 use lib.Seq.{take-at, drop-at, drop-drop, take-all, take-suc-set, append-snoc, drop-cons, take-length}
@@ -54,10 +55,7 @@ module _ (b : List ℕ) (k : ℕ) (x : List ℕ) (h : k + length x ≤ length b)
       (simp append-assoc)
 
 pub put-none : (b : List ℕ) (k : ℕ) → putAt b k [] ≡ b
-put-none b k = rw (plus-zero k) (take-append-drop k b)
-  where
-    plus-zero : (k : ℕ) → k + 0 ≡ k
-    plus-zero k = omega arith
+put-none b k = rw (add-zero k) (take-append-drop k b)
 
 -- the next piece of those put from the start
 pub put-next : (b pre piece : List ℕ) (at : ℕ) → length pre ≡ at → at ≤ length b → putAt (putAt b 0 pre) at piece ≡ putAt b 0 (pre ++ piece)
@@ -136,9 +134,6 @@ pub placed-not : (b : List ℕ) (k : ℕ) (x : List ℕ) → length b < k + leng
 unfolding placedAt
 placed-not b k x h = rw (lt-leb (k + length x) (length b) h)
 
-zero-plus : (n : ℕ) → 0 + n ≡ n
-zero-plus n = omega arith
-
 -- the pieces of a state, one behind the other from the start
 pub placed-next : (b pre piece : List ℕ) (at : ℕ) → length pre ≡ at → at + length piece ≤ length b → placedAt (putAt b 0 pre) at piece ≡ putAt b 0 (pre ++ piece)
 placed-next b pre piece at e h =
@@ -161,7 +156,7 @@ module _ (b head tasks ready callers held delays : List ℕ) (h₀ : length head
       let e₂ = ap (λ (r : List ℕ). placedAt r 315 ready) e₁ ∙ placed-next b p₁ ready 315 l₁ (omega arith) in
       let e₃ = ap (λ (r : List ℕ). placedAt r 346 callers) e₂ ∙ placed-next b p₂ callers 346 l₂ (omega arith) in
       let e₄ = ap (λ (r : List ℕ). placedAt r 377 held) e₃ ∙ placed-next b p₃ held 377 l₃ (omega arith) in
-      let last : putAt b 0 (p₄ ++ delays) ≡ (p₄ ++ delays) ++ drop 439 b = rw (zero-plus (length (p₄ ++ delays)), l₅) in
+      let last : putAt b 0 (p₄ ++ delays) ≡ (p₄ ++ delays) ++ drop 439 b = rw (zero-add (length (p₄ ++ delays)), l₅) in
       ap (λ (r : List ℕ). placedAt r 408 delays) e₄ ∙ placed-next b p₄ delays 408 l₄ (omega arith) ∙ last
 
 -- what putting a state leaves

@@ -3,21 +3,19 @@ use Prim.Native.Nat.{ℕ, zero, suc, _+_, _*_, _/_, _%_, _≤_}
 use mathlib.Core.Path.{_≡_, refl, sym, ap, _∙_}
 use mathlib.Core.Bool.{true, false, _&&_}
 use mathlib.Core.List.{List, [], _∷_, _++_}
+use native.Mathlib.Nat.{zero-add}
 use native.Mathlib.Omega.{arith}
 use borrow.Author.Tests.{eqb-true, ne-eqb, lt-leb, leb-true}
 use lib.ListN.{length, take, drop, length-drop}
 use lib.Seq.{take-append-add, getD-drop}
 use lib.Dec.{eqb, leb}
 use Rattle.lists.proofs.ListLaws.{by-bool}
-use Rattle.lists.proofs.Tests.{and-first, and-second}
+use Rattle.lists.proofs.Tests.{differ, and-first, and-second}
 use Rattle.calls.specs.Duration.{bytesOf}
 use Rattle.calls.specs.Record.{byte, fourFrom}
 use Rattle.calls.specs.Range.{Bytes}
 use Rattle.rules.specs.State.{entryOf}
 use Rattle.codec.specs.Layout.{placeTag, placeFirst, timerTag, timerDue, taskBytes, tasksBytes, encode, isPlace, isTimer, placeFrom, timerFrom, isTask, taskFrom, areTasks, tasksFrom, isEncoding, decode}
-
-differ : {X : Type 0} → true ≡ false → X
-differ e = let z : _≡_ {A = ℕ} 0 1 = cc in absurd (omega arith)
 
 -- ── a task ──
 
@@ -97,10 +95,7 @@ tasks-exact (suc n) b all h e =
 
 -- a start of m + n bytes is one of m, and n behind it
 start : (m n : ℕ) (b : List ℕ) → m ≤ length b → take (m + n) b ≡ take m b ++ take n (drop m b)
-start zero n b h = ap (λ (k : ℕ). take k b) (zero-plus n)
-  where
-    zero-plus : (n : ℕ) → 0 + n ≡ n
-    zero-plus n = omega arith
+start zero n b h = ap (λ (k : ℕ). take k b) (zero-add n)
 start (suc m) n [] h = absurd (omega arith)
 start (suc m) n (x ∷ b) h =
     let k : suc m + n ≡ suc (m + n) = omega arith in

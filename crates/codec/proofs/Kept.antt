@@ -9,6 +9,7 @@ use lib.ListN.{length, take, drop, length-append}
 use lib.Seq.{take-at, drop-at}
 use Rattle.lists.proofs.Tests.{and-both}
 use Rattle.calls.specs.Duration.{four, bytesOf}
+use Rattle.calls.proofs.Round.{four-back}
 use Rattle.rules.specs.Whole.{soundWhole}
 use Rattle.rules.specs.declared.Task.{Task}
 use Rattle.rules.specs.declared.Timer.{Timer}
@@ -21,9 +22,6 @@ use Rattle.codec.specs.Layout.{placeTag, placeFirst, timerTag, timerDue,
 use Rattle.codec.proofs.CodecLaws.{if-true, if-false, tasks-long}
 
 -- ── a task ──
-
-four-back : (n : ℕ) → four (n / 16777216) (n / 65536 % 256) (n / 256 % 256) (n % 256) ≡ n
-four-back n = omega arith
 
 place-back : (p : Place) → (placeFrom (placeTag p) (placeFirst p) (entryOf p) ≡ p) × (isPlace (placeTag p) (placeFirst p) (entryOf p) ≡ true)
 place-back Blank = (refl, refl)

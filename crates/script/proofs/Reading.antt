@@ -14,7 +14,7 @@ use Rattle.calls.specs.Record.{encode}
 use Rattle.calls.specs.Writing.{writtenOf, roomAfter}
 use Rattle.calls.specs.declared.Written.{Written}
 use Rattle.calls.specs.declared.Call as C
-use Rattle.calls.specs.declared.Call.the-variants.{Create, Delay, Call, Select, End, Finish, Tick, Advance}
+use Rattle.calls.proofs.Packets.{at-most-ten}
 use Rattle.script.specs.CallText.{textOf}
 use Rattle.script.specs.Rows.{textIn, cut, Grown}
 use Rattle.script.specs.Says.{Fits, Says}
@@ -28,21 +28,11 @@ use Rattle.script.proofs.Shape.{text-short}
 
 -- ── the record of a call ──
 
-encode-short : (c : C.Call) → length (encode c) ≤ 10
-encode-short (Create p n) = omega arith
-encode-short (Delay d) = omega arith
-encode-short (Call t e m) = omega arith
-encode-short (Select o m) = omega arith
-encode-short End = omega arith
-encode-short Finish = omega arith
-encode-short Tick = omega arith
-encode-short (Advance n) = omega arith
-
 -- what is taken of ten bytes that a record was written into is the record
 pub record-taken : (c : C.Call) (room after : List ℕ) (w : Written) (n : ℕ) → length room ≡ 10 → w ≡ writtenOf (encode c) room
     → after ≡ roomAfter (encode c) room → n ≡ min (w .count) 10 → take (n - 0) after ≡ encode c
 record-taken c room after w n h p q m =
-    let s = encode-short c in
+    let s = at-most-ten c in
     let f = le-ltb (length room) (length (encode c)) (omega arith) in
     let p′ : w .count ≡ length (encode c) = ap (λ (w : Written). w .count) p ∙ rw f refl in
     let k : length (encode c) ≡ n - 0 = omega arith in

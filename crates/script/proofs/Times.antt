@@ -12,7 +12,7 @@ use mir.Syntax.{w32}
 use mir.Val.{SFits, toZ, ofZ}
 use mir.Facts.{toZ-neg, toZ-pos}
 use Rattle.calls.specs.Duration.{ticks}
-use Rattle.calls.proofs.Signed.{differ}
+use Rattle.lists.proofs.Tests.{differ}
 use Rattle.text.specs.Text.{decimal}
 use Rattle.script.specs.CallText.{spaced, spacedTime}
 
