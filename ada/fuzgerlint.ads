@@ -1,7 +1,7 @@
 --  Fuzgerlint for Ada: a tasking supervisor whose state lies in bytes that the caller lends.
 --
---  Link target/staticlib/libcard.a (x86-64). Every function takes every input; include/fuzgerlint.h says what each does and lists the
---  refusal numbers. The bytes of an array are passed as the address of its first byte and their number.
+--  Link target/staticlib/libcard.a (x86-64). Every function takes every input; include/fuzgerlint.h says what each does, and what the
+--  fields of a call record are. The bytes of an array are passed as the address of its first byte and their number.
 
 with Interfaces;
 with Interfaces.C;
@@ -16,6 +16,45 @@ package Fuzgerlint is
    State_Length  : constant := 439;
    Room_Length   : constant := 124;
    Answer_Length : constant := 7;
+
+   --  Tags of call records
+
+   Tag_Create  : constant Byte := 1;
+   Tag_Delay   : constant Byte := 2;
+   Tag_Call    : constant Byte := 3;
+   Tag_Select  : constant Byte := 4;
+   Tag_End     : constant Byte := 5;
+   Tag_Finish  : constant Byte := 6;
+   Tag_Tick    : constant Byte := 7;
+   Tag_Advance : constant Byte := 8;
+
+   --  Results, of an answer and of an ended wait
+
+   Result_Waits         : constant Byte := 0;
+   Result_Elapsed       : constant Byte := 1;
+   Result_Served        : constant Byte := 2;
+   Result_Call_Expired  : constant Byte := 3;
+   Result_Tasking_Error : constant Byte := 4;
+   Result_Accepted      : constant Byte := 5;
+   Result_Delay_Taken   : constant Byte := 6;
+   Result_Else_Taken    : constant Byte := 7;
+   Result_Not_Now       : constant Byte := 8;
+   Result_Program_Error : constant Byte := 9;
+   Result_Done          : constant Byte := 10;
+
+   --  Refusals; 10 is retired
+
+   Refusal_Short_Room    : constant Byte := 1;
+   Refusal_Bad_State     : constant Byte := 2;
+   Refusal_Bad_Field     : constant Byte := 3;
+   Refusal_No_Task       : constant Byte := 4;
+   Refusal_No_Target     : constant Byte := 5;
+   Refusal_No_Entry      : constant Byte := 6;
+   Refusal_Not_Serving   : constant Byte := 7;
+   Refusal_Still_Serving : constant Byte := 8;
+   Refusal_Full          : constant Byte := 9;
+   Refusal_Bad_Record    : constant Byte := 11;
+   Refusal_End_Of_Log    : constant Byte := 12;
 
    function Empty
      (State : System.Address; State_Length : Interfaces.C.size_t; Clock : Interfaces.Unsigned_32) return Byte;

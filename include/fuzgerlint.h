@@ -1,10 +1,8 @@
 /* Fuzgerlint for C: an Ada 83 tasking supervisor whose state lies in bytes that the caller lends.
  *
  * Link target/staticlib/libcard.a (x86-64). Every function takes every input. A slice is a pointer and a number of bytes; the slices of
- * one call must not overlap. Each function but card_sound answers a refusal number, 0 for none:
- *   1 SHORT_ROOM   2 BAD_STATE   3 BAD_FIELD   4 NO_TASK   5 NO_TARGET   6 NO_ENTRY   7 NOT_SERVING   8 STILL_SERVING   9 FULL
- *   10 (retired)  11 BAD_RECORD  12 END_OF_LOG
- * A refused call changes nothing but the answer. Bytes behind those named here are left as they are.
+ * one call must not overlap. Each function but card_sound answers a refusal number, 0 for none. A refused call changes nothing but the
+ * answer. Bytes behind those named here are left as they are.
  */
 #ifndef FUZGERLINT_H
 #define FUZGERLINT_H
@@ -20,6 +18,55 @@ enum {
     CARD_STATE = 439, /* bytes of a state: clock 4, created 1, 31 tasks of 10, lines ready, callers, held, delays of 31 */
     CARD_ROOM = 124,  /* bytes of room for ended waits: 31 items of task, result, entry, partner */
     CARD_ANSWER = 7   /* bytes of an answer: refusal, result, task, entry, partner, ended waits, dispatched task */
+};
+
+/* A call record is a tag, a length of two bytes, and fields; numbers have their high byte first, and d is a signed number of ticks in four
+ * bytes, 0 in a mode other than 1. The fields, with their length:
+ *   CREATE 2: priority, entries
+ *   DELAY 4: d
+ *   CALL 7: target, entry, mode (0 simple, 1 timed with d, 2 conditional), d
+ *   SELECT 6: open set (bit k - 1 for entry k), mode (0 plain, 1 delay d, 2 else), d
+ *   END, FINISH, TICK 0: none
+ *   ADVANCE 4: n, unsigned */
+enum {
+    CARD_CREATE = 1,
+    CARD_DELAY = 2,
+    CARD_CALL = 3,
+    CARD_SELECT = 4,
+    CARD_END = 5,
+    CARD_FINISH = 6,
+    CARD_TICK = 7,
+    CARD_ADVANCE = 8
+};
+
+/* Results, of an answer and of an ended wait. */
+enum {
+    CARD_WAITS = 0,
+    CARD_ELAPSED = 1,
+    CARD_SERVED = 2,
+    CARD_CALL_EXPIRED = 3,
+    CARD_TASKING_ERROR = 4,
+    CARD_ACCEPTED = 5,
+    CARD_DELAY_TAKEN = 6,
+    CARD_ELSE_TAKEN = 7,
+    CARD_NOT_NOW = 8,
+    CARD_PROGRAM_ERROR = 9,
+    CARD_DONE = 10
+};
+
+/* Refusals; 10 is retired. */
+enum {
+    CARD_SHORT_ROOM = 1,
+    CARD_BAD_STATE = 2,
+    CARD_BAD_FIELD = 3,
+    CARD_NO_TASK = 4,
+    CARD_NO_TARGET = 5,
+    CARD_NO_ENTRY = 6,
+    CARD_NOT_SERVING = 7,
+    CARD_STILL_SERVING = 8,
+    CARD_FULL = 9,
+    CARD_BAD_RECORD = 11,
+    CARD_END_OF_LOG = 12
 };
 
 /* Makes a supervisor with no tasks; refusal 1 where there are fewer than CARD_STATE bytes. */

@@ -3,7 +3,7 @@
 A function is public if another crate can name it: a `pub fn` or `pub extern "C" fn` of a library's src/lib.rt, or of a module that is
 `pub` there. For each, proofs/Unique.antt of its crate names its contract (`use ..NAME.Reads as ALIAS`) and proves `ALIAS-once` of it, and
 the row of STATEMENTS that names that file names the theorem. A function whose answer no contract determines stands in a table row of TRUST, as
-`crate::module::name`.
+`crate::module::name`. And every function that is `pub`, in whatever file, has a contract on its answer, if it answers anything.
 """
 import re
 import sys
@@ -17,6 +17,14 @@ def public_functions(crate, modules=()):
         yield (*modules, name)
     for module in re.findall(r"(?m)^pub mod (\w+);", text):
         yield from public_functions(crate, (*modules, module))
+
+
+def without_contract():
+    """The functions marked `pub` that answer something and have no contract on it."""
+    for file in sorted(Path("crates").glob("*/src/**/*.rt")):
+        for name, rest in re.findall(r'(?ms)^\s*pub (?:extern "C" )?fn (\w+)(.*?\{)$', file.read_text()):
+            if "->" in rest and "ensures" not in rest:
+                yield f"{file}: {name} is public, and has no contract on its answer"
 
 
 def without_answer(trust):
@@ -42,7 +50,7 @@ def main():
     listed = without_answer(trust)
     rows = re.findall(r"(?m)^\|(.*)\| `(\w+)/proofs/Unique\.antt` \|", statements)
     cited = {(crate, name) for row, crate in rows for name in re.findall(r"`(\S+-once)`", row)}
-    wrong, public = [], set()
+    wrong, public = list(without_contract()), set()
     for lib in sorted(Path("crates").glob("*/src/lib.rt")):
         crate = lib.parts[1]
         for function in public_functions(crate):

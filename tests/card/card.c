@@ -24,8 +24,8 @@ static int marked(const uint8_t *bytes, size_t from)
 static void sample(void)
 {
     static const uint8_t log[] = {
-        1, 0, 2, 5, 1, 1, 0, 2, 9, 0, 3, 0, 7, 1, 1, 1, 0, 0, 0, 3, 7, 0, 0, 4, 0, 6, 1, 0, 0, 0, 0, 0,
-        7, 0, 0, 7, 0, 0, 5, 0, 0, 5, 0, 0,
+        CARD_CREATE, 0, 2, 5, 1, CARD_CREATE, 0, 2, 9, 0, CARD_CALL, 0, 7, 1, 1, 1, 0, 0, 0, 3, CARD_TICK, 0, 0,
+        CARD_SELECT, 0, 6, 1, 0, 0, 0, 0, 0, CARD_TICK, 0, 0, CARD_TICK, 0, 0, CARD_END, 0, 0, CARD_END, 0, 0,
     };
     size_t at = 0;
     puts("step refusal result task entry partner next");
@@ -41,7 +41,7 @@ static void sample(void)
 
 int main(void)
 {
-    static const uint8_t tick[] = {7, 0, 0};
+    static const uint8_t tick[] = {CARD_TICK, 0, 0};
     uint8_t before[sizeof state], one[1], refusal;
     memset(state, MARK, sizeof state);
     memset(room, MARK, sizeof room);

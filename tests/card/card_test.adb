@@ -18,10 +18,10 @@ procedure Card_Test is
    Ignore : Byte;
 
    Log : constant Bytes :=
-     (1, 0, 2, 5, 1, 1, 0, 2, 9, 0, 3, 0, 7, 1, 1, 1, 0, 0, 0, 3, 7, 0, 0, 4, 0, 6, 1, 0, 0, 0, 0, 0,
-      7, 0, 0, 7, 0, 0, 5, 0, 0, 5, 0, 0);
+     (Tag_Create, 0, 2, 5, 1, Tag_Create, 0, 2, 9, 0, Tag_Call, 0, 7, 1, 1, 1, 0, 0, 0, 3, Tag_Tick, 0, 0,
+      Tag_Select, 0, 6, 1, 0, 0, 0, 0, 0, Tag_Tick, 0, 0, Tag_Tick, 0, 0, Tag_End, 0, 0, Tag_End, 0, 0);
 
-   Tick : constant Bytes := (7, 0, 0);
+   Tick : constant Bytes := (Tag_Tick, 0, 0);
 
    function Image (N : Byte) return String is
       S : constant String := Byte'Image (N);

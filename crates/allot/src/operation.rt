@@ -81,12 +81,12 @@ fn many_of(letter: u8) -> u8 {
 }
 
 // Whether a line is an operation.
-pub fn is_operation(o: Operation) -> bool {
+pub(crate) fn is_operation(o: Operation) -> bool {
     !o.due & (o.many == many_of(o.letter))
 }
 
 // What a line says.
-pub fn read_operation(line: &[u8]) -> Operation {
+pub(crate) fn read_operation(line: &[u8]) -> Operation {
     if line.len() == 0 {
         return lettered(0);
     }

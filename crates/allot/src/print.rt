@@ -38,7 +38,7 @@ fn put_table(a: [Stretch; 32], out: &mut [u8], at: usize) -> usize {
 }
 
 // Puts the refusal, the value, the places used and both tables, and answers the place behind them.
-pub fn put_line(t: Tables, out: &mut [u8], at: usize) -> usize {
+pub(crate) fn put_line(t: Tables, out: &mut [u8], at: usize) -> usize {
     let answer = t.answer;
     let used = answer.used;
     let numbers = [

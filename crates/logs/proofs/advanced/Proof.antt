@@ -1,6 +1,5 @@
-use mathlib.Core.Path.{refl, ap, _∙_}
+use mathlib.Core.Path.{refl}
 use borrow.Author.Needs.{needs}
-use Rattle.stream.specs.Windows.{movedTo}
 use Rattle.logs.proofs.advanced.Statement.{statement}
 use Rattle.logs.proofs.advanced.Tie as tie
 

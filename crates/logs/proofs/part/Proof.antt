@@ -4,7 +4,7 @@ use Rattle.logs.proofs.part.Statement.{statement}
 use Rattle.logs.proofs.part.Tie as tie
 
 returns : tie.Need-returns
-returns c = ((cc), omega arith, omega arith)
+returns c = (rw (c .before .shorter .ensures, c .before .before .least2 .ensures, c .before .before .before .least .ensures), omega arith, omega arith)
 
 pub part-spec : {M : Type 1} → statement M
 part-spec =

@@ -1,7 +1,6 @@
-use mathlib.Core.Path.{_≡_, _∙_, ap}
+use mathlib.Core.Path.{_≡_}
 use Prim.Native.Nat.{_-_}
-use mathlib.Core.List.{List}
-use lib.ListN.{take, drop, length}
+use lib.ListN.{take, drop}
 use borrow.Author.Needs.{needs}
 use denote.Ref.{now}
 use Rattle.stream.specs.declared.window.Window.{Window}
