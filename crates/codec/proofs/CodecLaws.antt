@@ -6,8 +6,8 @@ use mathlib.Core.List.{List, [], _∷_, _++_, append-assoc, append-nil}
 use native.Mathlib.Numerals.{add-one}
 use native.Mathlib.Nat.{add-zero, zero-add}
 use native.Mathlib.Omega.{arith}
-use lib.ListN.{length, replicate, getD, set, take, drop, take-append-drop, length-append, length-take, length-drop, drop-of-length-le}
-use lib.Seq.{take-at, drop-at, drop-drop, take-all, take-suc-set, append-snoc, drop-cons, take-length}
+use lib.ListN.{length, replicate, set, take, drop, take-append-drop, length-append, length-take, length-drop, drop-of-length-le}
+use lib.Seq.{take-at, drop-at, drop-drop, take-all, take-suc-set, append-snoc, take-length}
 use borrow.Rule.Slice.PartMut.{putMid}
 use borrow.Author.Tests.{le-leb, lt-leb, lt-ltb, le-ltb}
 use Rattle.lists.specs.Lists.{if_then_else_}
@@ -114,9 +114,6 @@ line-copied b k last h e =
     let n : k + 31 - k ≡ 31 = omega arith in
     let long : length (take 31 (drop k b)) ≡ 31 = simp (length-take, length-drop) (omega arith) in
     e ∙ rw (n, long) (append-nil (take 31 (take 31 (drop k b))) ∙ take-all 31 (take 31 (drop k b)) (omega arith))
-
-pub rest-cons : {A : Type 0} (l : List A) (i : ℕ) (d : A) → i < length l → drop i l ≡ getD l i d ∷ drop (i + 1) l
-rest-cons l i d h = rw (add-one i, drop-cons l i d)
 
 pub put-end : (room : List ℕ) (tasks : List Task) (i : ℕ) → i ≡ 31 → length tasks ≡ 31 → putAt room (5 + i * 10) (tasksBytes (drop i tasks)) ≡ room
 put-end room tasks i z h = rw (drop-of-length-le tasks {i = i} (omega arith)) (put-none room (5 + i * 10))

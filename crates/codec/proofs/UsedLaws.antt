@@ -11,13 +11,14 @@ use lib.Dec.{eqb, ltb}
 use Rattle.lists.specs.Lists.{if_then_else_}
 use Rattle.lists.proofs.ListLaws.{by-bool, by-test}
 use Rattle.lists.proofs.Tests.{and-first, and-second}
+use Rattle.lists.proofs.Turns.{rest-cons}
 use Rattle.calls.specs.Record.{byte}
 use Rattle.rules.specs.State.{blank}
 use Rattle.rules.specs.declared.Task.{Task}
 use Rattle.rules.specs.declared.Supervisor.{Supervisor}
 use Rattle.codec.specs.Layout.{isTask, taskFrom, areTasks, tasksFrom, decode, lost, stateIn}
 use Rattle.codec.specs.Used.{areZero, tableFrom, usedTasks, withTasks, bareIn}
-use Rattle.codec.proofs.CodecLaws.{turns, all-turns, rest-cons, are-turn, from-turn, are-next, from-next, state-short, state-tested}
+use Rattle.codec.proofs.CodecLaws.{turns, all-turns, are-turn, from-turn, are-next, from-next, state-short, state-tested}
 
 -- ── bytes that are 0 ──
 

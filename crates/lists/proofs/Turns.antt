@@ -16,6 +16,10 @@ use Rattle.lists.proofs.LineLaws.{take-pad, length-padTo, padTo-full}
 
 -- ---- reading: the entries from place i on
 
+-- what is left of a list from place i on is the element there, and the rest
+pub rest-cons : {A : Type 0} (l : List A) (i : ℕ) (d : A) → i < length l → drop i l ≡ getD l i d ∷ drop (i + 1) l
+rest-cons l i d h = rw (add-one i) (drop-cons l i d h)
+
 -- from a blank on there is nothing
 pub rest-blank : (a : List ℕ) (i : ℕ) → i < length a → getD a i 0 ≡ 0 → line (drop i a) ≡ []
 rest-blank a i l e = rw (drop-cons a i 0 l, e)

@@ -10,7 +10,7 @@ use lib.ListN.{length, getD, drop, length-take, drop-of-length-le}
 use lib.Seq.{getD-take}
 use borrow.Author.Tests.{eq-eqb, ne-eqb, eqb-true, eqb-false}
 use Rattle.lists.proofs.ListLaws.{by-bool}
-use Rattle.text.proofs.Puts.{rest-cons}
+use Rattle.lists.proofs.Turns.{rest-cons}
 use Rattle.script.specs.CallText.{entry, entries}
 use Rattle.script.specs.Words.{partOf, wordsFrom}
 use Rattle.script.specs.Guess.{alike, hear, heardOf}
@@ -37,10 +37,10 @@ no-entry i mark rest h = let f : 8 - i ≡ 0 = omega arith in rw f refl
 
 pub next-part : (line : List ℕ) (inside : Bool) (i : ℕ) → i < length line → (getD line i 0 ≡ 35 → ⊥)
     → wordsFrom inside (drop i line) ≡ partOf inside (getD line i 0) ++ wordsFrom (ltb 32 (getD line i 0)) (drop (i + 1) line)
-next-part line inside i h n = rw (rest-cons line i h, ne-eqb (getD line i 0) 35 n) refl
+next-part line inside i h n = rw (rest-cons line i 0 h, ne-eqb (getD line i 0) 35 n) refl
 
 pub comment : (line : List ℕ) (inside : Bool) (i : ℕ) → i < length line → getD line i 0 ≡ 35 → wordsFrom inside (drop i line) ≡ []
-comment line inside i h e = rw (rest-cons line i h, eq-eqb (getD line i 0) 35 e) refl
+comment line inside i h e = rw (rest-cons line i 0 h, eq-eqb (getD line i 0) 35 e) refl
 
 pub no-part : (line : List ℕ) (inside : Bool) (i : ℕ) → length line ≤ i → wordsFrom inside (drop i line) ≡ []
 no-part line inside i h = rw (drop-of-length-le line {i = i} h) refl
@@ -76,8 +76,8 @@ next : (a b : Row) (i : ℕ) → Rows a b → a .place ≡ min (b .place) 64 →
     → alike (drop i (textIn a)) (drop i (textIn b)) ≡ (eqb (getD (a .bytes) i 0) (getD (b .bytes) i 0) && alike (drop (i + 1) (textIn a)) (drop (i + 1) (textIn b)))
 next a b i r e h =
     rw (
-      rest-cons (textIn a) i (omega (arith, length-take (a .place) (a .bytes), r .0, e)),
-      rest-cons (textIn b) i (omega (arith, length-take (b .place) (b .bytes), r .1 .0, e)),
+      rest-cons (textIn a) i 0 (omega (arith, length-take (a .place) (a .bytes), r .0, e)),
+      rest-cons (textIn b) i 0 (omega (arith, length-take (b .place) (b .bytes), r .1 .0, e)),
       getD-take (a .place) (a .bytes) i 0 h,
       getD-take (b .place) (b .bytes) i 0 (omega (arith, e)),
     ) refl
@@ -99,7 +99,7 @@ rows-done a b false i r e h = refl
 -- ── all bytes, one after the other ──
 
 hear-next : (s : Seen) (words : List ℕ) (i : ℕ) → i < length words → hear s (drop i words) ≡ hear (heardOf s (getD words i 0)) (drop (i + 1) words)
-hear-next s words i h = rw (rest-cons words i h) refl
+hear-next s words i h = rw (rest-cons words i 0 h) refl
 
 hear-done : (s : Seen) (words : List ℕ) (i : ℕ) → length words ≤ i → hear s (drop i words) ≡ s
 hear-done s words i h = rw (drop-of-length-le words {i = i} h) refl

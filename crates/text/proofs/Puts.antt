@@ -4,9 +4,7 @@ use Prim.Native.Nat.{ℕ, zero, suc, _+_, _≤_, _<_, min}
 use mathlib.Core.Path.{_≡_, refl, sym, ap, subst, _∙_}
 use mathlib.Core.List.{List, [], _∷_, _++_}
 use native.Mathlib.Omega.{arith}
-use native.Mathlib.Numerals.{add-one}
-use lib.ListN.{length, length-append, set, drop, getD}
-use lib.Seq.{drop-cons}
+use lib.ListN.{length, length-append, set}
 use Rattle.text.specs.Text.{over, putAt, behind, Put}
 
 over-nil : (row : List ℕ) → over row [] ≡ row
@@ -114,10 +112,6 @@ putting-done {row} {text} {now} {at} {k} g = record {
   written = sym (g .row-then ∙ put-nil now k);
   placed = sym (g .place-then ∙ (omega (arith, g .long, g .within)));
 }
-
--- what is left of a list from a place on: the element there, and the rest
-pub rest-cons : (l : List ℕ) (i : ℕ) → i < length l → drop i l ≡ getD l i 0 ∷ drop (i + 1) l
-rest-cons l i h = rw (add-one i) (drop-cons l i 0 h)
 
 -- the same text under another name
 pub same-text : {row a b after : List ℕ} {at k : ℕ} → a ≡ b → Put row at a after k → Put row at b after k

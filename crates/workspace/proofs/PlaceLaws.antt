@@ -8,11 +8,12 @@ use native.Mathlib.Numerals.{add-one}
 use mathlib.Core.Bool.{Bool, true, false, _&&_, _||_, and-true}
 use mathlib.Core.List.{List, [], _∷_, _++_}
 use lib.ListN.{length, getD, set, take, drop, replicate, drop-of-length-le}
-use lib.Seq.{take-all, drop-cons}
+use lib.Seq.{take-all}
 use lib.Dec.{ltb}
 use borrow.Author.Tests.{ltb-true, ltb-false, lt-ltb, le-ltb}
 use Rattle.workspace.specs.declared.Stretch.{Stretch}
 use Rattle.lists.proofs.ListLaws.{by-bool}
+use Rattle.lists.proofs.Turns.{rest-cons}
 use Rattle.lists.specs.Lists.{if_then_else_, every}
 use Rattle.workspace.specs.Rules.{none, isNone}
 use Rattle.workspace.specs.Places.{placeOf, over, removeAt, insertAt}
@@ -191,23 +192,20 @@ take-out (suc n) (x ∷ xs) zero h = absurd (not-suc-le-zero h)
 take-out (suc n) (x ∷ xs) (suc i) h = take-out n xs i (le-of-suc-le-suc h)
 
 -- ---- loops that look at one place after another
-pub rest-cons : (l : List Stretch) (i : ℕ) → i < length l → drop i l ≡ getD l i none ∷ drop (i + 1) l
-rest-cons l i h = rw add-one (drop-cons l i none h)
-
 pub unused-on : (l : List Stretch) (i : ℕ) (x : Stretch) → i < length l → x ≡ getD l i none → isNone x ≡ true → every isNone (drop i l) ≡ every isNone (drop (i + 1) l)
-unused-on l i x h ex e = ap (every isNone) (rest-cons l i h) ∙ ap (λ (c : Bool). c && every isNone (drop (i + 1) l)) (ap isNone (sym ex) ∙ e)
+unused-on l i x h ex e = ap (every isNone) (rest-cons l i none h) ∙ ap (λ (c : Bool). c && every isNone (drop (i + 1) l)) (ap isNone (sym ex) ∙ e)
 
 pub unused-stop : (l : List Stretch) (i : ℕ) (x : Stretch) → i < length l → x ≡ getD l i none → isNone x ≡ false → every isNone (drop i l) ≡ false
-unused-stop l i x h ex e = ap (every isNone) (rest-cons l i h) ∙ ap (λ (c : Bool). c && every isNone (drop (i + 1) l)) (ap isNone (sym ex) ∙ e)
+unused-stop l i x h ex e = ap (every isNone) (rest-cons l i none h) ∙ ap (λ (c : Bool). c && every isNone (drop (i + 1) l)) (ap isNone (sym ex) ∙ e)
 
 pub unused-end : (l : List Stretch) (i : ℕ) → length l ≤ i → every isNone (drop i l) ≡ true
 unused-end l i h = ap (every isNone) (drop-of-length-le l h)
 
 place-on : (p : Stretch → Bool) (l : List Stretch) (i : ℕ) (x : Stretch) (b : Bool) → i < length l → x ≡ getD l i none → b ≡ p x → b ≡ false → placeOf p (drop i l) ≡ suc (placeOf p (drop (i + 1) l))
-place-on p l i x b h ex eb e = ap (placeOf p) (rest-cons l i h) ∙ ap (λ (c : Bool). if c then 0 else suc (placeOf p (drop (i + 1) l))) (ap p (sym ex) ∙ sym eb ∙ e)
+place-on p l i x b h ex eb e = ap (placeOf p) (rest-cons l i none h) ∙ ap (λ (c : Bool). if c then 0 else suc (placeOf p (drop (i + 1) l))) (ap p (sym ex) ∙ sym eb ∙ e)
 
 place-here : (p : Stretch → Bool) (l : List Stretch) (i : ℕ) (x : Stretch) (b : Bool) → i < length l → x ≡ getD l i none → b ≡ p x → b ≡ true → placeOf p (drop i l) ≡ 0
-place-here p l i x b h ex eb e = ap (placeOf p) (rest-cons l i h) ∙ ap (λ (c : Bool). if c then 0 else suc (placeOf p (drop (i + 1) l))) (ap p (sym ex) ∙ sym eb ∙ e)
+place-here p l i x b h ex eb e = ap (placeOf p) (rest-cons l i none h) ∙ ap (λ (c : Bool). if c then 0 else suc (placeOf p (drop (i + 1) l))) (ap p (sym ex) ∙ sym eb ∙ e)
 
 place-end : (p : Stretch → Bool) (l : List Stretch) (i : ℕ) → length l ≤ i → placeOf p (drop i l) ≡ 0
 place-end p l i h = ap (placeOf p) (drop-of-length-le l h)

@@ -5,9 +5,10 @@ use mathlib.Core.Path.{_≡_, refl, sym, ap, _∙_}
 use mathlib.Core.List.{List}
 use lib.ListN.{length, getD, drop}
 use Rattle.lists.proofs.ListLaws.{mapped-long}
+use Rattle.lists.proofs.Turns.{rest-cons}
 use Rattle.rules.specs.State.{blank}
 use Rattle.codec.specs.Layout.{taskBytes, tasksBytes, putAt, placedAt}
-use Rattle.codec.proofs.CodecLaws.{rest-cons, put-turn, put-end, put-length, placed-fits}
+use Rattle.codec.proofs.CodecLaws.{put-turn, put-end, put-length, placed-fits}
 use Rattle.codec.proofs.put_tasks.Statement.{statement}
 use Rattle.codec.proofs.put_tasks.Tie as tie
 

@@ -5,7 +5,8 @@ use mathlib.Core.Path.{_≡_}
 use mathlib.Core.List.{[], _∷_}
 use Prim.Native.Nat.{_+_}
 use lib.ListN.{length, drop, getD, drop-of-length-le}
-use Rattle.text.proofs.Puts.{rest-cons, Putting, toward, putting-start, putting-on, putting-done}
+use Rattle.lists.proofs.Turns.{rest-cons}
+use Rattle.text.proofs.Puts.{Putting, toward, putting-start, putting-on, putting-done}
 use Rattle.text.proofs.put_bytes.Statement.{statement}
 use Rattle.text.proofs.put_bytes.Tie as tie
 
@@ -24,7 +25,7 @@ loop-again : tie.Need-loop-again Inv-loop μ-loop
 loop-again c =
     let a = c .before .before .before .before .before .before .before .before .before .before .args in
     let l = c .before .before .before .before .before .before .loop in
-    let rest : drop (l .i) (a .text .now) ≡ getD (a .text .now) (l .i) 0 ∷ drop (l .i + 1) (a .text .now) = rest-cons (a .text .now) (l .i) (omega arith) in
+    let rest : drop (l .i) (a .text .now) ≡ getD (a .text .now) (l .i) 0 ∷ drop (l .i + 1) (a .text .now) = rest-cons (a .text .now) (l .i) 0 (omega arith) in
     (omega arith, putting-on {a = getD (a .text .now) (l .i) 0 ∷ []} (toward rest (l .inv .1)) (c .before .before .put-byte .ensures))
 
 same-length : tie.Need-same-length Inv-loop μ-loop
