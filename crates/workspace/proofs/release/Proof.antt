@@ -5,7 +5,7 @@ use Rattle.workspace.specs.Operations.{releaseOf}
 use Rattle.workspace.specs.Steps.{releaseSeen}
 use Rattle.workspace.proofs.Bridge.{release-says}
 use Rattle.workspace.proofs.Both.{knows-look-at, knows-stored}
-use Rattle.workspace.proofs.Operating.{any, function, Does, operates}
+use Rattle.workspace.proofs.Operating.{any, numbered, Does, operates}
 use Rattle.workspace.proofs.steps.released.Symbol as released-def
 use Rattle.workspace.proofs.steps.released.Symbol.{name as #workspace·released}
 use Rattle.workspace.proofs.steps.released.Met as released-thm
@@ -15,7 +15,7 @@ use Rattle.workspace.proofs.release.Statement as stated
 use Rattle.workspace.proofs.release.Code as code
 
 -- the code, statement by statement
-code-walked : function #workspace·released any ≡ code.function
+code-walked : numbered #workspace·released any ≡ code.function
 code-walked = refl
 
 pub release-spec : {M : Type 1} → stated.statement M

@@ -1,6 +1,5 @@
 use mathlib.Core.Path.{_≡_}
 use borrow.Author.Needs.{needs}
-use Rattle.workspace.specs.Operations.{unused}
 use Rattle.workspace.specs.Owning.{ownedFresh}
 use Rattle.workspace.specs.Steps.{freshSeen}
 use Rattle.workspace.proofs.Bridge.{fresh-says}
@@ -22,7 +21,7 @@ returns c =
     let s = d .before in
     let a = s .before .args .area in
     left-is a (d .made .result) (s .looked .ensures .1) (s .looked .ensures .2) (c .left .ensures .1) (c .left .ensures .2)
-    (λ s. freshSeen s unused 0) (fresh-says (a .blocks) (a .free)) (s .looked .ensures .0) (d .made .ensures) (tables-left c) (answer-left c)
+    freshSeen (fresh-says (a .blocks) (a .free)) (s .looked .ensures .0) (d .made .ensures) (tables-left c) (answer-left c)
 
 pub fresh-spec : {M : Type 1} → statement M
 fresh-spec = tie.close (tie.spec (λ c κs. search needs) (λ c κs. search needs) (λ c κs. search needs) returns)
