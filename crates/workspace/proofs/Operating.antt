@@ -3,11 +3,15 @@
 --     numbered     the code: what differs is the covered function's name, and what is sought
 --     Does         the covered function's contract: what is to be done, by what is seen, the places used and the number handed over
 --     Answers      the contract of the whole: it answers and leaves what an outcome says
---     operates     the code meets it, where what is to be done says the outcome
+--     operates     the code meets it, where what is to be done says the outcome.        operated     and so does the routine of that code
 -- The signatures of the two are the same, and so are those of `requested` and `released`: each stands here by the name of the first.
 -- Assumes `Given`.
-use Rattle.workspace.proofs.Prelude.{_≡_, refl, _∙_, subst, ℕ, _<_, _^_, List, [], _∷_, length, URA, fullShare, named, w32, tyInt, Val, vint, SProp, ent, emp, via, fst∗, snd∗, exE, Lft, Share, ftrue, fat, fdies, flft, Memory, Routine, Heap, Env, WpFn, Calls, Loops, Tables, Atoms, sem, Fun, fact, Given, Item, _⊛_, _$_, _∵_, !, qed, move, join, fjoin, suffices, frame, done, look, init, stop, from, load, and-then, no-more, enter, alloc1, alloc0, params1, pass1, pass0, FmC, fmOf, WpFn-mono, owns, Is, uint-vals, uint-tells, uint-makes, u32, RefT, MutSlice, Room, finally, slice-vals, mut-slice-tells, plain, nothing, owned, Vals, onEntry, Meets, tripleOf, Contract, Triple, ensured, lasts, says, Stays, gave-slice, stay-none, walkOf, AllGo, goes-gave-slice, goes-none, Walks, ends-at, walked, walk-meets, yes, ‵, lit, lit<, now}
+use Rattle.workspace.proofs.Prelude.{_≡_, refl, _∙_, subst, ℕ, _<_, _^_, List, [], _∷_, length, URA, fullShare, named, w32, tyInt, Val, vint, SProp, ent, emp, via, fst∗, snd∗, exE, Lft, Share, ftrue, fat, fdies, flft, Memory, Routine, Heap, Env, WpFn, Calls, Loops, Tables, Atoms, sem, Fun, fact, Given, Item, _⊛_, _$_, _∵_, !, qed, move, join, fjoin, suffices, frame, done, look, init, stop, from, load, and-then, no-more, enter, alloc1, alloc0, params1, pass1, pass0, FmC, fmOf, WpFn-mono, owns, Is, uint-vals, uint-tells, uint-makes, u32, RefT, MutSlice, Room, finally, slice-vals, mut-slice-tells, plain, nothing, owned, Vals, onEntry, Meets, tripleOf, Contract, Triple, ensured, lasts, says, Stays, gave-slice, stay-none, walkOf, AllGo, goes-gave-slice, goes-none, Walks, ends-at, walked, walk-meets, yes, ‵, lit, lit<, now, entered, cited, givenOf, tables, tablesOf}
 use mir.Syntax.{Name, Fn, Opd as Operand, copy, int, place}
+use prog.Model.{Model}
+use prog.Routine.{Env as CodeEnv}
+use prog.Wp.{Closed}
+use contract.Running.{GhostRules, Running}
 use types.Kit.{Go, nth, step}
 use types.Run.{Opd}
 use denote.Triple.Clauses.{Clauses, closing}
@@ -21,7 +25,7 @@ use Rattle.workspace.specs.Seen.{lookOf}
 use Rattle.workspace.proofs.Bridge.{Says}
 use Rattle.workspace.proofs.Walks.{lets-go}
 use Rattle.workspace.proofs.Calls.{Told, tells-struct, gives, Stored}
-use Rattle.workspace.proofs.Both.{ptr, answer, counts, Counts, looked, Looked, low, Low, Lent, val, LookAt}
+use Rattle.workspace.proofs.Both.{ptr, answer, counts, Counts, looked, Looked, low, Low, Lent, val, LookAt, knows-look-at, knows-stored}
 use Rattle.workspace.proofs.Body.{value, function, Behind, En, Hands, Exits, starts}
 use Rattle.workspace.proofs.Stretch as T
 use Rattle.workspace.proofs.Used as S
@@ -32,7 +36,9 @@ use Rattle.workspace.proofs.Answer as R
 use Rattle.workspace.proofs.Answer.Laws as R′
 use Rattle.workspace.proofs.Done as N
 use Rattle.workspace.proofs.Done.Laws as N′
+use Rattle.workspace.proofs.lent.look_at.Symbol as look-at-def
 use Rattle.workspace.proofs.lent.look_at.Symbol.{name as #workspace·look-at}
+use Rattle.workspace.proofs.lent.stored.Symbol as stored-def
 use Rattle.workspace.proofs.lent.stored.Symbol.{name as #workspace·stored}
 use Rattle.workspace.proofs.steps.requested as requested
 use Rattle.workspace.proofs.request as f
@@ -187,8 +193,19 @@ module _ {M : Type 1} (𝓤 : URA M) (H : Heap 𝓤) (A : Atoms 𝓤) (W : Given
   goes : AllGo 𝓤 H A W 2 (f.signature .params) (f.ended .kept) stayed
   goes = (goes-gave-slice 𝓤 H A W 2 0 tt (plain (λ _. T.the-row)), (goes-gave-slice 𝓤 H A W 2 1 tt (plain (λ _. T.the-row)), (goes-none 𝓤 H A W 2 (λ _. S.the-row) yes (λ κs x f. refl), (goes-none 𝓤 H A W 2 (λ _. u32) yes (λ κs x f. refl), tt))))
 
-  pub operates : {k : Fn} → numbered #work s ≡ k → (𝓣 : Tables 𝓤 H) → Triple 𝓤 (𝓣 .C #workspace·look-at) (LookAt 𝓤 H A mem run) → Triple 𝓤 (𝓣 .C #work) (Does 𝓤 H A F) → Triple 𝓤 (𝓣 .C #workspace·stored) (Stored 𝓤 H A mem run)
+  operates : {k : Fn} → numbered #work s ≡ k → (𝓣 : Tables 𝓤 H) → Triple 𝓤 (𝓣 .C #workspace·look-at) (LookAt 𝓤 H A mem run) → Triple 𝓤 (𝓣 .C #work) (Does 𝓤 H A F) → Triple 𝓤 (𝓣 .C #workspace·stored) (Stored 𝓤 H A mem run)
       → Meets 𝓤 H A f.signature (WpFn 𝓤 H (𝓣 .C) (𝓣 .Λ) k) (closing 𝓤 H A f.ended (Answers 𝓤 O))
   operates e 𝓣 k₁ k₂ k₃ =
       subst (λ (k : Fn). Meets 𝓤 H A f.signature (WpFn 𝓤 H (𝓣 .C) (𝓣 .Λ) k) (closing 𝓤 H A f.ended (Answers 𝓤 O))) e
       (walk-meets 𝓤 H A f.ended stayed W goes (Answers 𝓤 O) (WpFn 𝓤 H (𝓣 .C) (𝓣 .Λ) (numbered #work s)) (WpFn-mono 𝓤 H (W .laws) 𝓣 (numbered #work s)) (walks (𝓣 .C) (𝓣 .Λ) (fmOf 𝓤 H (W .laws) 𝓣) k₁ k₂ k₃))
+
+module _ {M : Type 1} (𝓤 : URA M) (H : Heap 𝓤) (𝓜 : Model 𝓤 H) (𝓖 : GhostRules 𝓤 H) (𝓡 : Running 𝓤 H 𝓜)
+    (F : Look → Used → ℕ → Done) (O : List Stretch → List Stretch → Used → ℕ → Outcome) (s : Sought) (saying : (b f : List Stretch) (u : Used) (n : ℕ) → Says (F (lookOf b f (least s n)) u n) b f u (O b f u n)) (#work : Name) where
+  -- in code in which each name means γ, and #work a routine that does what F says
+  pub operated : (γ : CodeEnv) (k : Name) {e : Fn} → numbered #work s ≡ e → Closed 𝓤 H (tables 𝓤 H 𝓜 𝓡 γ .C) (tables 𝓤 H 𝓜 𝓡 γ .Λ) k e → γ #workspace·look-at ≡ look-at-def.routine → γ #workspace·stored ≡ stored-def.routine
+      → {r : Routine} → γ #work ≡ r → Triple 𝓤 (𝓡 .run r) (Does 𝓤 H (𝓖 .A) F) → Meets 𝓤 H (𝓖 .A) f.signature (𝓡 .run (γ k)) (closing 𝓤 H (𝓖 .A) f.ended (Answers 𝓤 O))
+  unfolding tablesOf
+  operated γ k {e} same closed looks stores {r} works met =
+      entered 𝓤 H (tripleOf 𝓤 H (𝓖 .A) f.signature (closing 𝓤 H (𝓖 .A) f.ended (Answers 𝓤 O))) (tables 𝓤 H 𝓜 𝓡 γ .C) (tables 𝓤 H 𝓜 𝓡 γ .Λ) k e closed
+      (operates 𝓤 H (𝓖 .A) (givenOf 𝓤 H 𝓜 𝓖) (𝓜 .mem) (𝓡 .run) F O s saying #work same (tablesOf 𝓤 H 𝓜 (tables 𝓤 H 𝓜 𝓡 γ))
+      (knows-look-at 𝓤 H 𝓜 𝓖 𝓡 γ looks) (cited 𝓤 H (Does 𝓤 H (𝓖 .A) F) 𝓜 𝓡 γ #work r works met) (knows-stored 𝓤 H 𝓜 𝓖 𝓡 γ stores))
