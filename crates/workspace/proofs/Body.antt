@@ -1,7 +1,7 @@
 -- The body that the three public functions share: both tables are looked at, a covered function works out what is to be done, and the tables are written.
---     body         the code: what differs is the covered function's name, the number of the first local behind the parameters, the operand that says for how many units a free stretch is looked for,
---                  and the operands that are handed over beside what is seen
---     function     a function of that body, with such parameters beside the tables
+--     body         the code: what differs is the covered function's name, how many locals come before those of the body, the operand that says for how many units a free stretch is looked for,
+--                  and the operands that the covered function is handed beside what is seen
+--     function     a function of that body, with parameters beside the tables that have the locals ls
 --     Hands        what a walk says of these parameters: how they are read, and how their locals are freed
 --     starts       the body, once the parameters are in their locals: where the covered function gives r, both tables are written as r says, and r's answer is returned
 -- Assumes `Given`.
@@ -41,7 +41,7 @@ lends a b c rest =
     seq (assign (place b []) (addrOf (place a (field 0 ∷ deref T′.mir ∷ []))))
     (seq (assign (place c []) (aggregate (copy (place b []) ∷ copy (place a (field 1 ∷ [])) ∷ []))) rest)
 
--- j places behind the k-th
+-- the local j behind k others
 abbrev pub past : ℕ → ℕ → ℕ
 past zero j = j
 past (suc k) j = suc (past k j)
