@@ -46,7 +46,7 @@ says-took : (b f : List Stretch) (u : Used) (v : ℕ) (bl fl : List Stretch) →
 says-took b f u v bl fl hb hf pb pf = record { answers = refl; writes = laid-list bl b (omega (arith, hb)) (omega (arith, hb, pb)); frees = laid-list fl f hf (omega (arith, hf, pf)) }
 
 -- ---- a fresh area
-pub fresh-says : (b f : List Stretch) → Says (freshSeen (lookOf b f 0) unused 0) b f unused (freshOf b f)
+pub fresh-says : (b f : List Stretch) → Says (freshSeen (lookOf b f 0)) b f unused (freshOf b f)
 unfolding freshSeen freshOf lookOf tableOf
 fresh-says b f =
     by-bool (hasPlaces b f)

@@ -40,11 +40,16 @@ laid-32 : (t : Table) (l : List Stretch) → length l ≡ 32 → length (t .plac
 unfolding laid
 laid-32 t l h k = sym (over-same (under (t .clear) l) (t .places) (under-length (t .clear) l ∙ h ∙ sym k))
 
--- what is done to tables that are seen, and left of them, is what the outcome says
-module _ (a : Tables) (d : Done) (hb : length (a .blocks) ≡ 32) (hf : length (a .free) ≡ 32) (kb : length (d .blocks .places) ≡ 32) (kf : length (d .free .places) ≡ 32) where
-  pub left-is : (F : Look → Done) {u : Used} {o : Outcome} {s look : Look} {r : Tables} → Says (F look) (a .blocks) (a .free) u o → s ≡ look → d ≡ F s
-      → (r .blocks ≡ d .blocks .places) × (r .free ≡ d .free .places) → r .answer ≡ d .answer
-      → r ≡ tablesAs (blocksAfter (a .blocks) o) (freeAfter (a .free) o) (answerOf u o)
-  left-is F {u = u} {o = o} says es ed et ea =
-      let w : Says d (a .blocks) (a .free) u o = subst (λ (z : Done). Says z (a .blocks) (a .free) u o) (sym (ed ∙ ap F es)) says in
-      λ i. tablesAs ((et .0 ∙ laid-32 (d .blocks) (a .blocks) hb kb ∙ w .writes) i) ((et .1 ∙ laid-32 (d .free) (a .free) hf kf ∙ w .frees) i) ((ea ∙ w .answers) i)
+-- what `looked` says of what is seen of two tables, and `left` of the tables that are left where d is done
+abbrev pub Sees : Tables → ℕ → Look → Type 0
+Sees a n s = (s ≡ lookOf (a .blocks) (a .free) n) × (length (a .blocks) ≡ 32) × (length (a .free) ≡ 32)
+
+abbrev pub Leaves : Done → Tables → Type 0
+Leaves d r = (r ≡ tablesAs (d .blocks .places) (d .free .places) (d .answer)) × (length (d .blocks .places) ≡ 32) × (length (d .free .places) ≡ 32)
+
+-- where a free stretch of n units is looked for, F is done to what is seen, and that is left of the tables, it is what the outcome says
+pub left-is : (a : Tables) (n : ℕ) (F : Look → Done) {u : Used} {o : Outcome} {s : Look} {d : Done} {r : Tables} → Says (F (lookOf (a .blocks) (a .free) n)) (a .blocks) (a .free) u o → Sees a n s → d ≡ F s → Leaves d r
+    → r ≡ tablesAs (blocksAfter (a .blocks) o) (freeAfter (a .free) o) (answerOf u o)
+left-is a n F {u = u} {o = o} {d = d} says sees done leaves =
+    let w : Says d (a .blocks) (a .free) u o = subst (λ (z : Done). Says z (a .blocks) (a .free) u o) (sym (done ∙ ap F (sees .0))) says in
+    leaves .0 ∙ (λ i. tablesAs ((laid-32 (d .blocks) (a .blocks) (sees .1) (leaves .1) ∙ w .writes) i) ((laid-32 (d .free) (a .free) (sees .2) (leaves .2) ∙ w .frees) i) (w .answers i))

@@ -146,6 +146,19 @@ over-same (x ∷ xs) (y ∷ ys) e = ap (λ (l : List _). y ∷ l) (over-same xs 
 pub over-laid : {A : Type 0} (xs ys : List A) (i : ℕ) → length ys ≡ length xs → length xs ≤ i → over xs (take i ys) ≡ ys
 over-laid xs ys i e h = over-all xs ys i (omega (arith, h)) ∙ over-same xs ys (sym e)
 
+-- ---- r is 32 places that are written anew, place by place from p on: before place i they are those of l, and from there on still those of a
+abbrev pub Written : (a l : List Stretch) (p i : ℕ) (r : List Stretch) → Type 0
+Written a l p i r = (p ≤ i) × (length a ≡ 32) × (r ≡ over a (take i l))
+
+pub write-next : (a l : List Stretch) {p : ℕ} (i : ℕ) {r : List Stretch} {x : Stretch} → length l ≡ length a → i < 32 → x ≡ getD l i none → Written a l p i r → Written a l p (i + 1) (set r i x)
+write-next a l {p} i e h ex w =
+    let k : p ≤ i = w .0 in
+    let n : length l ≡ 32 = e ∙ w .1 in
+    (omega (arith, k), w .1, (λ j. set (w .2 j) i (ex j)) ∙ over-next a l i none (omega (arith, h, n)))
+
+pub write-all : (a l : List Stretch) {p : ℕ} (i : ℕ) {r : List Stretch} → length l ≡ length a → 32 ≤ i → Written a l p i r → r ≡ l
+write-all a l i e h w = let n : length a ≡ 32 = w .1 in w .2 ∙ over-laid a l i e (omega (arith, h, n))
+
 -- ---- x is put in
 pub insert-length : (p : ℕ) (x : Stretch) (l : List Stretch) → length (insertAt p x l) ≡ length l
 insert-length p x [] = refl

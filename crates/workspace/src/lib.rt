@@ -87,10 +87,8 @@ pub fn fresh(blocks: &mut [Stretch], free: &mut [Stretch]) -> Answer
         × (now (blocks .exit) ≡ blocksAfter (now (blocks .entry)) (freshOf (now (blocks .entry)) (now (free .entry))))
         × (now (free .exit) ≡ freeAfter (now (free .entry)) (freshOf (now (blocks .entry)) (now (free .entry)))) ⌝ }
 {
-    let used = Used { blocks: 0, free: 0 };
-    let first = 0;
     let old = look_at(blocks, free, 0);
-    let new = made(old, used, first);
+    let new = made(old);
     stored(blocks, new.blocks);
     stored(free, new.free);
     new.answer

@@ -4,7 +4,6 @@ use crate::Look;
 use crate::Table;
 use crate::Tables;
 use crate::Test;
-use crate::Used;
 use crate::places::place_of;
 use crate::steps::made;
 use crate::steps::released;
@@ -48,9 +47,8 @@ fn left(b: Table, f: Table, answer: Answer) -> Tables
 pub fn fresh(area: Tables) -> Tables
     ensures { λ r. ⌜ r ≡ ownedFresh area ⌝ }
 {
-    let used = Used { blocks: 0, free: 0 };
     let old = looked(area, 0);
-    let new = made(old, used, 0);
+    let new = made(old);
     left(new.blocks, new.free, new.answer)
 }
 

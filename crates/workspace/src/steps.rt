@@ -83,9 +83,9 @@ pub fn refused(seen: Look, used: Used, refusal: u8) -> Done
     }
 }
 
-// A fresh area is one free stretch, from the unit `first` on; a refusal answers `used`.
-pub fn made(seen: Look, used: Used, first: u32) -> Done
-    ensures { λ r. ⌜ r ≡ freshSeen seen used first ⌝ }
+// A fresh area is one free stretch; a refusal counts no places.
+pub fn made(seen: Look) -> Done
+    ensures { λ r. ⌜ r ≡ freshSeen seen ⌝ }
 {
     if seen.long {
         let none = Stretch {
@@ -94,13 +94,14 @@ pub fn made(seen: Look, used: Used, first: u32) -> Done
         };
         let blocks = [none; 32];
         let all = Stretch {
-            start: first,
+            start: 0,
             length: 65536,
         };
         let free = with_at(blocks, 0, all);
         done_as(blocks, free, 0, 0, 1)
     } else {
-        refused(seen, used, 2)
+        let unused = Used { blocks: 0, free: 0 };
+        refused(seen, unused, 2)
     }
 }
 

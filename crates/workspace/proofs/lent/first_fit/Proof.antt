@@ -1,16 +1,17 @@
--- `workspace::first_fit` meets its contract: a walk of its MIR, by hand, with a loop.
---     Spot, At     the loop's invariant: the search stands at place i, and nothing before it is long enough. Each turn looks into the slice and shuts it again, so that a turn begins and ends with the token and the borrow
---     leaves       the loop is left at place i, and the rest of the body runs
+-- `workspace::first_fit` meets its contract: a walk of its MIR, by hand, with a loop, as `Going` has it.
+--     Spot, At     the loop's invariant: the search stands at place i, and nothing before it is long enough
+--     left         the loop is left at place i, and the rest of the body runs
 --     turns        a turn from the invariant: it goes one place on, or leaves the loop
 -- Assumes nothing.
-use Rattle.workspace.proofs.Prelude.{_≡_, refl, sym, ℕ, _+_, _-_, _≤_, _<_, _^_, zero-le, lt-of-le-of-lt, add-one-le, add-one-dec, false, WellFounded, InvImage·wf, List, [], _∷_, length, getD, Nat·lt-wfRel, T, leb, ltb→lt, nltb→le, lit<, URA, fullShare, Ty, Body, named, imm, w32, w64, tyInt, tyBool, tyPtr, tyRef, Val, vint, vptr, SProp, ent, emp, via, fst∗, Lft, GName, Share, ftrue, fat, froom, fdies, flft, fres, fshr-bor, Memory, Routine, Heap, Out, Env, afterSeq, afterBlock, afterTurn, Calls, Loops, Wp, atReturn, WpFn, Tables, Atoms, Fun, givenOf, tables, tablesOf, Given, Item, ‵, _⊛_, ⋆, runs, anyQ, atRet, Sq, _$_, _∵_, !, qed, by, move, keep, split, join, rewrite, fsplit, fjoin, suffices, frame, done, whole, sub, look-in, look, init, store, forget, stop, hop, fld, from, load, lit, of-opd, bin, assigns, assigns-last, first, skips, jumps, blocks, branches, returns, enter, alloc1, alloc0, params1, pass1, pass0, free1, free0, exec, Below, again, loops, arr-parts, WpFn-mono, owns, Is, shows, pointee, shares, uint-vals, uint-tells, uint-makes, usize, u32, RefT, sliceTy, sliceVal, ShrSlice, Room, slice-vals, shr-slice-tells, at-slice, codedHoleys, heres, place-is, elem-out, elem-back, looks-slice, shuts-slice, plain, nothing, owned, Vals, onEntry, Meets, tripleOf, entered, says, Stays, stay-none-slice, stay-none, walkOf, goes-none-slice, goes-none, ends-at, walked, walk-meets, yes}
+use Rattle.workspace.proofs.Prelude.{_≡_, refl, ℕ, _+_, _-_, _≤_, _<_, _^_, zero-le, lt-of-le-of-lt, add-one-le, add-one-dec, false, WellFounded, InvImage·wf, List, [], _∷_, length, getD, Nat·lt-wfRel, T, leb, lit<, URA, Body, named, w32, w64, tyInt, Val, vint, SProp, ent, emp, via, fst∗, Lft, GName, Share, ftrue, flft, Memory, Routine, Heap, Out, Env, afterSeq, afterBlock, afterTurn, Calls, Loops, Wp, atReturn, WpFn, Tables, Atoms, Fun, givenOf, tables, tablesOf, Given, Item, ‵, _⊛_, ⋆, runs, anyQ, atRet, Sq, _$_, _∵_, !, qed, by, move, keep, split, join, fsplit, fjoin, suffices, frame, done, whole, sub, look-in, look, init, store, forget, stop, fld, from, load, lit, of-opd, bin, assigns, assigns-last, first, skips, jumps, blocks, branches, enter, alloc1, alloc0, params1, pass1, pass0, exec, Below, again, loops, WpFn-mono, owns, Is, uint-vals, uint-tells, uint-makes, usize, u32, RefT, sliceVal, ShrSlice, Room, slice-vals, shr-slice-tells, plain, nothing, owned, Vals, onEntry, Meets, tripleOf, entered, says, Stays, stay-none-slice, stay-none, walkOf, goes-none-slice, goes-none, ends-at, walked, walk-meets, yes}
 use denote.Struct.Laws as LL
 use Rattle.workspace.specs.declared.Stretch.{Stretch}
 use Rattle.workspace.specs.Rules.{none}
 use Rattle.workspace.specs.declared.Test.the-variants.{HasUnits}
 use Rattle.workspace.specs.Places.{placeOf, passesOf}
 use Rattle.workspace.proofs.PlaceLaws.{Passed, begin, pass, found, passed-all}
-use Rattle.workspace.proofs.Walks.{lets-go, tail, is-not, scaled}
+use Rattle.workspace.proofs.Walks.{tail, is-not}
+use Rattle.workspace.proofs.Going.{word, Locals, Waiting, visits, leaves}
 use Rattle.lists.proofs.ListLaws.{is-true}
 use Rattle.workspace.proofs.Stretch as T
 use Rattle.workspace.proofs.Stretch.Laws as T′
@@ -23,18 +24,9 @@ use Rattle.workspace.proofs.lent.first_fit.Code.Mir as text
 abbrev stayed : Stays (f.ended .signature .params) (f.ended .kept)
 stayed = (stay-none-slice (0 ∷ []) tt (plain (λ _. T.the-row)) yes, (stay-none (λ _. u32) yes, tt))
 
--- the turn, behind its first test and behind its second
-abbrev inside : Body
-inside = tail (tail (tail text.turn-1))
-
+-- the turn, behind its second test
 abbrev onward : Body
-onward = tail (tail (tail (tail (tail inside))))
-
-abbrev word : Ty
-word = tyInt w64
-
-abbrev slice : Ty
-slice = sliceTy (tyRef (named 0) imm (pointee (T.the-row .written)))
+onward = tail (tail (tail (tail (tail (tail (tail (tail text.turn-1)))))))
 
 module _ {M : Type 1} (𝓤 : URA M) (H : Heap 𝓤) (A : Atoms 𝓤) (W : Given 𝓤 H A) (mem : Memory → SProp 𝓤) (run : Routine → Fun 𝓤) (κ : Lft) (q : Share) (b o : ℕ) (γ : GName) (ys : List Stretch) (size : ℕ) (gs : size < 2 ^ 32) (room : Room T.the-row (length ys)) where
   abbrev n : ℕ
@@ -81,22 +73,13 @@ module _ {M : Type 1} (𝓤 : URA M) (H : Heap 𝓤) (A : Atoms 𝓤) (W : Given
 
     -- the locals: the result, table, size, i, a number, a test, the place of `table[i]`, and its length
     abbrev En : Env 𝓤 H
-    En = (word, l₀) ∷ (slice, l₁) ∷ (tyInt w32, l₂) ∷ (word, l₃) ∷ (word, l₄) ∷ (tyBool, l₅) ∷ (tyPtr, l₆) ∷ (tyInt w32, l₇) ∷ []
+    En = Locals 𝓤 H word (tyInt w32) (tyInt w32) l₀ l₁ l₂ l₃ l₄ l₅ l₆ l₇
 
-    -- [the token; the borrow; _7; …; _6; …; _5; …; _4; …; _3; …; _2; …; _1; …; _0; …; table's fact; res]
     abbrev At : Spot → List (Item 𝓤)
-    At i = ‵ (flft κ q) ∷ ‵ (fshr-bor κ (λ s. arr-parts (shares T.the-row) n .part s ys b o))
-        ∷ ‵ (froom (tyInt w32) l₇ 0) ∷ ‵ (fdies (tyInt w32) l₇) ∷ ‵ (froom tyPtr l₆ 0) ∷ ‵ (fdies tyPtr l₆) ∷ ‵ (froom tyBool l₅ 0) ∷ ‵ (fdies tyBool l₅) ∷ ‵ (froom word l₄ 0) ∷ ‵ (fdies word l₄)
-        ∷ ‵ (fat fullShare word l₃ 0 (vint w64 (i .0))) ∷ ‵ (fdies word l₃) ∷ ‵ (fat fullShare (tyInt w32) l₂ 0 (vint w32 size)) ∷ ‵ (fdies (tyInt w32) l₂) ∷ ‵ (fat fullShare slice l₁ 0 (sliceVal (b, o) n)) ∷ ‵ (fdies slice l₁)
-        ∷ ‵ (froom word l₀ 0) ∷ ‵ (fdies word l₀) ∷ ‵ (at-slice T.the-row (x .0) (vals .0)) ∷ ‵ (fres γ (codedHoleys T.the-row .code (heres T.the-row ys))) ∷ []
+    At i = Waiting 𝓤 κ q γ word (tyInt w32) (tyInt w32) l₀ l₁ l₂ l₃ l₄ l₅ l₆ l₇ b o (i .0) ys (vint w32 size)
 
-    leaves : (i : Spot) → i .0 ≡ placeOf (passesOf HasUnits size) ys → ent 𝓤 (⋆ 𝓤 H A (At i)) (Wp 𝓤 H C Λ En text.t-3 (atReturn 𝓤 H En Post))
-    leaves i e =
-        qed W (At i) ∵ exec ! C Λ En text.t-3 (atRet En Post) $
-        assigns ! (of-opd ! (load ! (from ! (stop !)) (look ! 10 refl))) (from ! (stop !)) (init ! 16 refl (tt, record { fits = fits i })) $
-        returns ! (look ! 16 refl) $ lets-go ! 16 refl refl $ lets-go ! 14 refl refl $ lets-go ! 12 refl refl $ lets-go ! 10 refl refl $ move ! (8 ∷ 9 ∷ []) $ free1 ! $ move ! (6 ∷ 7 ∷ []) $ free1 ! $ move ! (4 ∷ 5 ∷ []) $ free1 ! $ move ! (2 ∷ 3 ∷ []) $ free1 ! $ free0 ! $
-        -- [the token; the borrow; table's fact; res]
-        move ! (3 ∷ 1 ∷ []) $ fjoin ! $ move ! (2 ∷ 0 ∷ []) $ fjoin ! $ move ! (1 ∷ 0 ∷ []) $ by ! (exits (i .0) (i .1) e)
+    left : (i : Spot) → i .0 ≡ placeOf (passesOf HasUnits size) ys → ent 𝓤 (⋆ 𝓤 H A (At i)) (Wp 𝓤 H C Λ En text.t-3 (atReturn 𝓤 H En Post))
+    left i e = qed W (At i) ∵ exec ! C Λ En text.t-3 (atRet En Post) $ leaves ! ys (of-opd ! (load ! (from ! (stop !)) (look ! 10 refl))) (tt, record { fits = fits i }) (exits (i .0) (i .1) e)
 
     -- a turn's postcondition: it ends nearer to the end, or the loop is left and the rest of the body runs
     abbrev Turned : Spot → Out → SProp 𝓤
@@ -105,25 +88,15 @@ module _ {M : Type 1} (𝓤 : URA M) (H : Heap 𝓤) (A : Atoms 𝓤) (W : Given
     turns : (i : Spot) → Sq W (At i) (runs C Λ En text.turn-1 (anyQ (Turned i)))
     unfolding afterTurn next
     turns i =
-        assigns ! (of-opd ! (load ! (from ! (fld ! refl (stop !))) (look-in ! 14 (sub ! 1 refl (whole !))))) (from ! (stop !)) (init ! 8 refl (tt, record { fits = room .0 })) $
-        assigns ! (bin ! (load ! (from ! (stop !)) (look ! 10 refl)) (load ! (from ! (stop !)) (look ! 8 refl)) tt) (from ! (stop !)) (init ! 6 refl (tt, tt)) $
-        first ! $ branches ! (load ! (from ! (stop !)) (look ! 6 refl))
-        (λ less. skips ! $ exec ! C Λ En inside (anyQ (Turned i)) $
-        assigns ! (bin ! (load ! (from ! (stop !)) (look ! 10 refl)) (lit ! tt) (record { fits = scaled n (i .0) (room .1) (ltb→lt (i .0) n less) })) (from ! (stop !)) (store ! 8 refl (tt, record { fits = scaled n (i .0) (room .1) (ltb→lt (i .0) n less) })) $
-        assigns ! (bin ! (load ! (from ! (fld ! refl (stop !))) (look-in ! 14 (sub ! 0 refl (whole !)))) (load ! (from ! (stop !)) (look ! 8 refl)) tt) (from ! (stop !)) (init ! 4 refl (tt, tt)) $
-        rewrite ! 4 (λ (p : ℕ). ‵ (fat fullShare tyPtr l₆ 0 (vptr b p))) (sym (place-is 8 o (i .0))) refl $ move ! (1 ∷ 0 ∷ []) $
-        looks-slice ! tt T.the-row (Is T.the-row) (shows 𝓤 H A T.the-row) (LL.vals T.the-type T′.the-laws) (LL.tells T.the-type T′.the-laws) (LL.copy T.the-type T′.the-copy 𝓤 H A W) ys b o (λ q′.
-        elem-out ! T.the-row (Is T.the-row) (shows 𝓤 H A T.the-row) (LL.vals T.the-type T′.the-laws) (LL.tells T.the-type T′.the-laws) q′ ys (i .0) none b o (ltb→lt (i .0) n less) (λ g.
-        -- [table[i]; what it owns; the others; what shuts; the borrow; _7; …]: each local three further than in `At`
-        assigns ! (of-opd ! (load ! (from ! (hop ! (look ! 7 refl) (fld ! refl (stop !)))) (look-in ! 0 (sub ! 1 refl (whole !))))) (from ! (stop !)) (init ! 5 refl (tt, record { fits = LL.owed T.the-type T′.the-laws (getD ys (i .0) none) _ g .1 .0 .1 })) $
-        elem-back ! T.the-row q′ ys (i .0) none (LL.vals T.the-type T′.the-laws (getD ys (i .0) none)) b o (ltb→lt (i .0) n less) $ shuts-slice ! tt T.the-row q′ ys b o $
+        visits ! ys room (vint w32 (getD ys (i .0) none .length)) (λ g. (tt, record { fits = LL.owed T.the-type T′.the-laws (getD ys (i .0) none) _ g .1 .0 .1 })) (λ u p Γ. (_, (fld ! refl (stop !), look-in ! 0 (sub ! 1 refl (whole !)))))
+        (λ less g.
         assigns ! (bin ! (load ! (from ! (stop !)) (look ! 12 refl)) (load ! (from ! (stop !)) (look ! 2 refl)) tt) (from ! (stop !)) (store ! 6 refl (tt, tt)) $
         first ! $ branches ! (load ! (from ! (stop !)) (look ! 6 refl))
-        (λ long. jumps ! $ forget ! 2 refl $ forget ! 4 refl $ forget ! 6 refl $ forget ! 8 refl $ by ! (leaves i (found (passesOf HasUnits size) ys (i .0) (getD ys (i .0) none) _ (ltb→lt (i .0) n less) refl refl (is-true _ long) (i .2))))
+        (λ long. jumps ! $ forget ! 2 refl $ forget ! 4 refl $ forget ! 6 refl $ forget ! 8 refl $ by ! (left i (found (passesOf HasUnits size) ys (i .0) (getD ys (i .0) none) _ less refl refl (is-true _ long) (i .2))))
         (λ short. skips ! $ exec ! C Λ En onward (anyQ (Turned i)) $
-        assigns-last ! (bin ! (load ! (from ! (stop !)) (look ! 10 refl)) (lit ! tt) (record { fits = fits (next i (ltb→lt (i .0) n less) (is-not _ short)) })) (from ! (stop !)) (store ! 10 refl (tt, record { fits = fits (next i (ltb→lt (i .0) n less) (is-not _ short)) })) $
-        forget ! 2 refl $ forget ! 4 refl $ forget ! 6 refl $ forget ! 8 refl $ again ! Nearer At i (next i (ltb→lt (i .0) n less) (is-not _ short)) (add-one-dec n (i .0) (ltb→lt (i .0) n less))))))
-        (λ done. jumps ! $ forget ! 6 refl $ forget ! 8 refl $ by ! (leaves i (passed-all (passesOf HasUnits size) ys (i .0) (nltb→le (i .0) n done) (i .2))))
+        assigns-last ! (bin ! (load ! (from ! (stop !)) (look ! 10 refl)) (lit ! tt) (record { fits = fits (next i less (is-not _ short)) })) (from ! (stop !)) (store ! 10 refl (tt, record { fits = fits (next i less (is-not _ short)) })) $
+        forget ! 2 refl $ forget ! 4 refl $ forget ! 6 refl $ forget ! 8 refl $ again ! Nearer At i (next i less (is-not _ short)) (add-one-dec n (i .0) less)))
+        (λ all. by ! (left i (passed-all (passesOf HasUnits size) ys (i .0) all (i .2))))
 
   walk : (𝓣 : Tables 𝓤 H) → ent 𝓤 (onEntry 𝓤 H A f.signature (κ, tt) (q, tt) x vals) (WpFn 𝓤 H (𝓣 .C) (𝓣 .Λ) code.function (sliceVal (b, o) n ∷ vint w32 size ∷ []) Post)
   walk 𝓣 =

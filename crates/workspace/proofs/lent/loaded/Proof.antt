@@ -1,16 +1,16 @@
--- `workspace::loaded` meets its contract: a walk of its MIR, by hand, with a loop that calls a covered function at each turn.
---     empty-of, noted-of     what the two callees' contracts say
---     Spot, At     the loop's invariant: i places are seen. Each turn looks into the slice and shuts it again, so that a turn begins and ends with the token and the borrow
---     leaves       the loop is left, and the rest of the body runs.        turns      a turn from the invariant
+-- `workspace::loaded` meets its contract: a walk of its MIR, by hand, with a loop, as `Going` has it, that calls a covered function at each turn.
+--     tells-empty, tells-noted     what the two callees' contracts say
+--     Spot, At     the loop's invariant: i places are seen
+--     left         the loop is left, and the rest of the body runs.        turns      a turn from the invariant
 -- Assumes nothing.
-use Rattle.workspace.proofs.Prelude.{_≡_, refl, sym, subst, ℕ, _+_, _-_, _≤_, _<_, _^_, zero-le, lt-of-le-of-lt, add-one-le, add-one-dec, WellFounded, InvImage·wf, List, [], _∷_, length, getD, take, Nat·lt-wfRel, T, ltb, ltb→lt, nltb→le, lit<, URA, fullShare, Ty, Body, named, imm, w64, tyInt, tyBool, tyPtr, tyRef, Val, vint, vptr, SProp, ent, emp, via, fst∗, snd∗, exE, Lft, GName, Share, ftrue, fat, froom, fdies, flft, fres, fshr-bor, Memory, Routine, Heap, Out, Env, afterSeq, afterBlock, afterTurn, Calls, Loops, Wp, atReturn, WpFn, Tables, Atoms, sem, Fun, fact, givenOf, tables, tablesOf, Given, Item, _⊛_, ⋆, runs, anyQ, atRet, Sq, _$_, _∵_, !, qed, by, move, keep, split, join, rewrite, fsplit, fjoin, suffices, frame, done, whole, sub, look-in, look, look-raw, init, store, forget, stop, hop, fld, from, load, lit, of-opd, bin, and-then, no-more, assigns, assigns-last, land, first, skips, jumps, blocks, branches, returns, enter, alloc1, alloc0, params1, pass1, pass0, free1, free0, exec, Below, again, loops, arr-parts, FmC, fmOf, WpFn-mono, owns, Is, shows, pointee, shares, uint-makes, usize, RefT, sliceTy, sliceVal, ShrSlice, Room, slice-vals, shr-slice-tells, at-slice, codedHoleys, heres, place-is, elem-out, elem-back, looks-slice, shuts-slice, plain, nothing, owned, Vals, onEntry, Meets, tripleOf, Contract, Triple, ensured, lasts, entered, cited, says, Stays, stay-none-slice, walkOf, goes-none-slice, ends-at, walked, walk-meets, yes, ‵}
+use Rattle.workspace.proofs.Prelude.{_≡_, refl, subst, ℕ, _+_, _-_, _≤_, _<_, _^_, zero-le, lt-of-le-of-lt, add-one-le, add-one-dec, WellFounded, InvImage·wf, List, [], _∷_, length, getD, take, Nat·lt-wfRel, T, lit<, URA, fullShare, named, w64, tyBool, tyPtr, Val, vint, SProp, ent, emp, via, fst∗, snd∗, exE, Lft, GName, Share, ftrue, fat, froom, fdies, flft, Memory, Routine, Heap, Out, Env, afterSeq, afterBlock, afterTurn, Calls, Loops, Wp, atReturn, WpFn, Tables, Atoms, sem, Fun, fact, givenOf, tables, tablesOf, Given, Item, _⊛_, ⋆, runs, anyQ, atRet, Sq, _$_, _∵_, !, qed, by, move, keep, split, join, rewrite, fsplit, fjoin, suffices, frame, done, look, look-raw, init, store, forget, stop, from, load, lit, of-opd, bin, and-then, no-more, assigns, assigns-last, land, first, blocks, enter, alloc1, alloc0, params1, pass1, pass0, exec, Below, again, loops, FmC, fmOf, WpFn-mono, owns, Is, uint-makes, usize, RefT, sliceVal, ShrSlice, Room, slice-vals, shr-slice-tells, plain, nothing, owned, Vals, onEntry, Meets, tripleOf, Contract, Triple, ensured, lasts, entered, cited, says, Stays, stay-none-slice, walkOf, goes-none-slice, ends-at, walked, walk-meets, yes, ‵}
 use denote.Struct.Laws as LL
 use Rattle.workspace.specs.declared.Stretch.{Stretch}
 use Rattle.workspace.specs.declared.Table.{Table}
 use Rattle.workspace.specs.Rules.{none}
 use Rattle.workspace.specs.Seen.{tableOf, noteOf}
 use Rattle.workspace.proofs.PlaceLaws.{load-none, load-next, load-all}
-use Rattle.workspace.proofs.Walks.{lets-go, tail, scaled}
+use Rattle.workspace.proofs.Going.{word, slice, Locals, Waiting, visits, leaves}
 use Rattle.workspace.proofs.Calls.{Told, tells-struct, seen, Seen, calls-told}
 use Rattle.workspace.proofs.Stretch as T
 use Rattle.workspace.proofs.Stretch.Laws as T′
@@ -32,16 +32,6 @@ use Rattle.workspace.proofs.lent.loaded.Code.Mir as text
 
 abbrev stayed : Stays (f.ended .signature .params) (f.ended .kept)
 stayed = (stay-none-slice (0 ∷ []) tt (plain (λ _. T.the-row)) yes, tt)
-
--- the turn, behind its test
-abbrev inside : Body
-inside = tail (tail (tail text.turn-1))
-
-abbrev word : Ty
-word = tyInt w64
-
-abbrev slice : Ty
-slice = sliceTy (tyRef (named 0) imm (pointee (T.the-row .written)))
 
 -- a stretch's machine value
 abbrev low : Stretch → Val
@@ -124,22 +114,14 @@ module _ {M : Type 1} (𝓤 : URA M) (H : Heap 𝓤) (A : Atoms 𝓤) (W : Given
 
     -- the locals: the result, table, t, i, a number, the test, the place of `table[i]`, and what is read there
     abbrev En : Env 𝓤 H
-    En = (U′.mir, l₀) ∷ (slice, l₁) ∷ (U′.mir, l₂) ∷ (word, l₃) ∷ (word, l₄) ∷ (tyBool, l₅) ∷ (tyPtr, l₆) ∷ (T′.mir, l₇) ∷ []
+    En = Locals 𝓤 H U′.mir U′.mir T′.mir l₀ l₁ l₂ l₃ l₄ l₅ l₆ l₇
 
-    -- [the token; the borrow; _7; …; _6; …; _5; …; _4; …; _3; …; _2; …; _1; …; _0; …; table's fact; res]
     abbrev At : Spot → List (Item 𝓤)
-    At i = ‵ (flft κ q) ∷ ‵ (fshr-bor κ (λ s. arr-parts (shares T.the-row) n .part s ys b o))
-        ∷ ‵ (froom T′.mir l₇ 0) ∷ ‵ (fdies T′.mir l₇) ∷ ‵ (froom tyPtr l₆ 0) ∷ ‵ (fdies tyPtr l₆) ∷ ‵ (froom tyBool l₅ 0) ∷ ‵ (fdies tyBool l₅) ∷ ‵ (froom word l₄ 0) ∷ ‵ (fdies word l₄)
-        ∷ ‵ (fat fullShare word l₃ 0 (vint w64 (i .0))) ∷ ‵ (fdies word l₃) ∷ ‵ (fat fullShare U′.mir l₂ 0 (seen (upto (i .0)))) ∷ ‵ (fdies U′.mir l₂) ∷ ‵ (fat fullShare slice l₁ 0 (sliceVal (b, o) n)) ∷ ‵ (fdies slice l₁)
-        ∷ ‵ (froom U′.mir l₀ 0) ∷ ‵ (fdies U′.mir l₀) ∷ ‵ (at-slice T.the-row (x .0) (vals .0)) ∷ ‵ (fres γ (codedHoleys T.the-row .code (heres T.the-row ys))) ∷ []
+    At i = Waiting 𝓤 κ q γ U′.mir U′.mir T′.mir l₀ l₁ l₂ l₃ l₄ l₅ l₆ l₇ b o (i .0) ys (seen (upto (i .0)))
 
-    leaves : (i : Spot) → n ≤ i .0 → ent 𝓤 (⋆ 𝓤 H A (At i)) (Wp 𝓤 H C Λ En text.t-4 (atReturn 𝓤 H En Post))
-    leaves i all =
-        qed W (At i) ∵ exec ! C Λ En text.t-4 (atRet En Post) $
-        assigns ! (of-opd ! (load ! (from ! (stop !)) (look ! 12 refl))) (from ! (stop !)) (init ! 16 refl (LL.lawful U.the-type U′.the-laws 𝓤 H A W .typed (upto (i .0)) _ (i .2) .0)) $
-        returns ! (look ! 16 refl) $ lets-go ! 16 refl refl $ lets-go ! 14 refl refl $ lets-go ! 12 refl refl $ lets-go ! 10 refl refl $ move ! (8 ∷ 9 ∷ []) $ free1 ! $ move ! (6 ∷ 7 ∷ []) $ free1 ! $ move ! (4 ∷ 5 ∷ []) $ free1 ! $ move ! (2 ∷ 3 ∷ []) $ free1 ! $ free0 ! $
-        -- [the token; the borrow; table's fact; res]
-        move ! (3 ∷ 1 ∷ []) $ fjoin ! $ move ! (2 ∷ 0 ∷ []) $ fjoin ! $ move ! (1 ∷ 0 ∷ []) $ by ! (exits (upto (i .0)) (i .2) (load-all ys (i .0) all))
+    left : (i : Spot) → n ≤ i .0 → ent 𝓤 (⋆ 𝓤 H A (At i)) (Wp 𝓤 H C Λ En text.t-4 (atReturn 𝓤 H En Post))
+    left i all =
+        qed W (At i) ∵ exec ! C Λ En text.t-4 (atRet En Post) $ leaves ! ys (of-opd ! (load ! (from ! (stop !)) (look ! 12 refl))) (LL.lawful U.the-type U′.the-laws 𝓤 H A W .typed (upto (i .0)) _ (i .2) .0) (exits (upto (i .0)) (i .2) (load-all ys (i .0) all))
 
     -- a turn's postcondition: it ends nearer to the end, or the loop is left and the rest of the body runs
     abbrev Turned : Spot → Out → SProp 𝓤
@@ -148,31 +130,21 @@ module _ {M : Type 1} (𝓤 : URA M) (H : Heap 𝓤) (A : Atoms 𝓤) (W : Given
     turns : (i : Spot) → Sq W (At i) (runs C Λ En text.turn-1 (anyQ (Turned i)))
     unfolding afterTurn
     turns i =
-        assigns ! (of-opd ! (load ! (from ! (fld ! refl (stop !))) (look-in ! 14 (sub ! 1 refl (whole !))))) (from ! (stop !)) (init ! 8 refl (tt, record { fits = room .0 })) $
-        assigns ! (bin ! (load ! (from ! (stop !)) (look ! 10 refl)) (load ! (from ! (stop !)) (look ! 8 refl)) tt) (from ! (stop !)) (init ! 6 refl (tt, tt)) $
-        first ! $ branches ! (load ! (from ! (stop !)) (look ! 6 refl))
-        (λ less. skips ! $ exec ! C Λ En inside (anyQ (Turned i)) $
-        assigns ! (bin ! (load ! (from ! (stop !)) (look ! 10 refl)) (lit ! tt) (record { fits = scaled n (i .0) (room .1) (ltb→lt (i .0) n less) })) (from ! (stop !)) (store ! 8 refl (tt, record { fits = scaled n (i .0) (room .1) (ltb→lt (i .0) n less) })) $
-        assigns ! (bin ! (load ! (from ! (fld ! refl (stop !))) (look-in ! 14 (sub ! 0 refl (whole !)))) (load ! (from ! (stop !)) (look ! 8 refl)) tt) (from ! (stop !)) (init ! 4 refl (tt, tt)) $
-        rewrite ! 4 (λ (p : ℕ). ‵ (fat fullShare tyPtr l₆ 0 (vptr b p))) (sym (place-is 8 o (i .0))) refl $ move ! (1 ∷ 0 ∷ []) $
-        looks-slice ! tt T.the-row (Is T.the-row) (shows 𝓤 H A T.the-row) (LL.vals T.the-type T′.the-laws) (LL.tells T.the-type T′.the-laws) (LL.copy T.the-type T′.the-copy 𝓤 H A W) ys b o (λ q′.
-        elem-out ! T.the-row (Is T.the-row) (shows 𝓤 H A T.the-row) (LL.vals T.the-type T′.the-laws) (LL.tells T.the-type T′.the-laws) q′ ys (i .0) none b o (ltb→lt (i .0) n less) (λ g.
-        -- [table[i]; what it owns; the others; what shuts; the borrow; _7; …]: each local three further than in `At`
-        assigns ! (of-opd ! (load ! (from ! (hop ! (look ! 7 refl) (stop !))) (look-raw ! 0 refl))) (from ! (stop !)) (init ! 5 refl (LL.lawful T.the-type T′.the-laws 𝓤 H A W .typed (getD ys (i .0) none) _ g .0)) $
-        elem-back ! T.the-row q′ ys (i .0) none (low (getD ys (i .0) none) ∷ []) b o (ltb→lt (i .0) n less) $ shuts-slice ! tt T.the-row q′ ys b o $
+        visits ! ys room (low (getD ys (i .0) none)) (λ g. LL.lawful T.the-type T′.the-laws 𝓤 H A W .typed (getD ys (i .0) none) _ g .0) (λ u p Γ. (_, (stop !, look-raw ! 0 refl)))
+        (λ less g.
         calls-told ! fm (Noted 𝓤 H A mem run) known (to-noted 𝓤 H A mem run (upto (i .0)) (i .0) (getD ys (i .0) none)) (asks-noted 𝓤 H A W mem run (upto (i .0)) (i .0) (getD ys (i .0) none) (i .2) (fits i) g) (seen (more i)) (Seen (more i)) (tells-noted 𝓤 H A W mem run (upto (i .0)) (i .0) (getD ys (i .0) none))
         (and-then ! (load ! (from ! (stop !)) (look ! 13 refl)) (and-then ! (load ! (from ! (stop !)) (look ! 11 refl)) (and-then ! (load ! (from ! (stop !)) (look ! 3 refl)) (no-more !)))) (λ gm.
         land ! (from ! (stop !)) (store ! 12 refl (LL.lawful U.the-type U′.the-laws 𝓤 H A W .typed (more i) _ gm .0)) $
-        rewrite ! 12 (λ (t : Table). ‵ (fat fullShare U′.mir l₂ 0 (seen t))) (load-next ys (i .0) (ltb→lt (i .0) n less)) refl $
+        rewrite ! 12 (λ (t : Table). ‵ (fat fullShare U′.mir l₂ 0 (seen t))) (load-next ys (i .0) less) refl $
         assigns-last ! (bin ! (load ! (from ! (stop !)) (look ! 10 refl)) (lit ! tt) (record { fits = fits (next less gm) })) (from ! (stop !)) (store ! 10 refl (tt, record { fits = fits (next less gm) })) $
-        forget ! 2 refl $ forget ! 4 refl $ forget ! 6 refl $ forget ! 8 refl $ again ! Nearer At i (next less gm) (add-one-dec n (i .0) (ltb→lt (i .0) n less))))))
-        (λ over. jumps ! $ forget ! 6 refl $ forget ! 8 refl $ by ! (leaves i (nltb→le (i .0) n over)))
+        forget ! 2 refl $ forget ! 4 refl $ forget ! 6 refl $ forget ! 8 refl $ again ! Nearer At i (next less gm) (add-one-dec n (i .0) less)))
+        (λ all. by ! (left i all))
       where
         fits : (j : Spot) → j .0 < 2 ^ 64
         fits j = lt-of-le-of-lt (j .1) (room .0)
 
-        next : T (ltb (i .0) n) → Seen (more i) → Spot
-        next less gm = (i .0 + 1, add-one-le (ltb→lt (i .0) n less), subst Seen (load-next ys (i .0) (ltb→lt (i .0) n less)) gm)
+        next : i .0 < n → Seen (more i) → Spot
+        next less gm = (i .0 + 1, add-one-le less, subst Seen (load-next ys (i .0) less) gm)
 
     -- [_7; …; _6; …; _5; …; _4; …; _3; …; _2; …; _1; …; _0; …; the token; what table owns]: the body, once the parameter is in its local
     abbrev Entered : List (Item 𝓤)

@@ -13,7 +13,7 @@ use Rattle.workspace.specs.Seen.{placeAfter, laid}
 use Rattle.workspace.proofs.PlaceLaws.{mapped-long, over-none, over-length}
 use Rattle.workspace.proofs.SeenLaws.{lay-next, lay-all}
 use Rattle.workspace.proofs.Walks.{lets-go, tail, scaled}
-use Rattle.workspace.proofs.Calls.{Told, tells-struct, calls-told}
+use Rattle.workspace.proofs.Calls.{Told, tells-struct, seen, Seen, calls-told}
 use Rattle.workspace.proofs.Stretch as T
 use Rattle.workspace.proofs.Stretch.Laws as T′
 use Rattle.workspace.proofs.Table as U
@@ -44,18 +44,12 @@ word = tyInt w64
 abbrev slice : Ty
 slice = sliceTy (tyRef (named 0) mut (pointee (T.the-row .written)))
 
--- a stretch's and a table's machine value, and that it is one
+-- a stretch's machine value, and that it is one
 abbrev low : Stretch → Val
 low s = LL.val T.the-type T′.the-laws s
 
 abbrev Low : Stretch → Type 0
 Low s = Is T.the-row s (low s ∷ [])
-
-abbrev seen : Table → Val
-seen t = LL.val U.the-type U′.the-laws t
-
-abbrev Seen : Table → Type 0
-Seen t = Is U.the-row t (seen t ∷ [])
 
 -- a table has 32 places
 long : (t : Table) → Seen t → length (t .places) ≡ 32

@@ -1,7 +1,6 @@
 use mathlib.Core.Path.{_≡_}
 use borrow.Author.Needs.{needs}
-use Rattle.workspace.specs.Operations.{unused}
-use Rattle.workspace.specs.Owning.{ownedFresh}
+use Rattle.workspace.specs.Owning.{ownedFresh, tablesAs}
 use Rattle.workspace.specs.Steps.{freshSeen}
 use Rattle.workspace.proofs.Bridge.{fresh-says}
 use Rattle.workspace.proofs.OwnLaws.{left-is}
@@ -18,11 +17,10 @@ answer-left c = λ i. c .left .ensures .0 i .answer
 returns : tie.Need-returns
 unfolding ownedFresh
 returns c =
-    let d = c .before in
-    let s = d .before in
+    let s = c .before .before in
     let a = s .before .args .area in
-    left-is a (d .made .result) (s .looked .ensures .1) (s .looked .ensures .2) (c .left .ensures .1) (c .left .ensures .2)
-    (λ s. freshSeen s unused 0) (fresh-says (a .blocks) (a .free)) (s .looked .ensures .0) (d .made .ensures) (tables-left c) (answer-left c)
+    left-is a 0 freshSeen (fresh-says (a .blocks) (a .free)) (s .looked .ensures) (c .before .made .ensures)
+    (λ i. tablesAs (tables-left c .0 i) (tables-left c .1 i) (answer-left c i), c .left .ensures .1, c .left .ensures .2)
 
 pub fresh-spec : {M : Type 1} → statement M
 fresh-spec = tie.close (tie.spec (λ c κs. search needs) (λ c κs. search needs) (λ c κs. search needs) returns)

@@ -1,17 +1,17 @@
 use mathlib.Core.Path.{_≡_, sym, _∙_}
-use Prim.Native.Nat.{_≤_, _<_, _-_}
+use Prim.Native.Nat.{_<_, _-_}
 use native.Mathlib.Omega.{arith}
 use borrow.Author.Needs.{needs}
-use lib.ListN.{length, getD, take, set}
+use lib.ListN.{length, getD}
 use Rattle.workspace.specs.Rules.{none}
-use Rattle.workspace.specs.Places.{over, insertAt}
-use Rattle.workspace.proofs.PlaceLaws.{mapped-long, over-next, over-laid, insert-length, insert-here, insert-behind, insert-front}
+use Rattle.workspace.specs.Places.{insertAt}
+use Rattle.workspace.proofs.PlaceLaws.{mapped-long, Written, write-next, write-all, insert-length, insert-here, insert-behind, insert-front}
 use Rattle.workspace.proofs.places.opened.Statement.{statement}
 use Rattle.workspace.proofs.places.opened.Tie as tie
 
 -- y is what belongs at the place i
 abbrev Inv-loop : tie.InvT-loop
-Inv-loop a p r₀ x i₀ r y i = (p ≤ i) × (length a ≡ 32) × (r ≡ over a (take i (insertAt p x a))) × (i < 32 → y ≡ getD (insertAt p x a) i none)
+Inv-loop a p r₀ x i₀ r y i = Written a (insertAt p x a) p i r × (i < 32 → y ≡ getD (insertAt p x a) i none)
 
 abbrev μ-loop : tie.MeasureT-loop
 μ-loop a p r₀ x i₀ r y i = 32 - i
@@ -20,7 +20,7 @@ loop-holds : tie.Need-loop-holds Inv-loop μ-loop
 loop-holds c =
     let a = c .args in
     let n : length (a .a) ≡ 32 = search (needs, mapped-long) in
-    (omega arith, n, insert-front (a .p) (a .x) (a .a), λ h. sym (insert-here (a .p) (a .x) (a .a) (omega (arith, h, n))))
+    ((omega arith, n, insert-front (a .p) (a .x) (a .a)), λ h. sym (insert-here (a .p) (a .x) (a .a) (omega (arith, h, n))))
 
 loop-less : tie.Need-loop-less Inv-loop μ-loop
 loop-less c = let h : c .before .before .loop .i < 32 = search needs in omega (arith, h)
@@ -30,18 +30,11 @@ loop-again c =
     let l = c .before .before .loop in
     let a = c .before .before .before .args in
     let h : l .i < 32 = search needs in
-    let k : a .p ≤ l .i = l .inv .0 in
-    let m : length (a .a) ≡ 32 = l .inv .1 in
-    let n : length (insertAt (a .p) (a .x) (a .a)) ≡ 32 = insert-length (a .p) (a .x) (a .a) ∙ m in
-    (omega (arith, k), m, (λ j. set (l .inv .2 j) (l .i) (l .inv .3 h j)) ∙ over-next (a .a) (insertAt (a .p) (a .x) (a .a)) (l .i) none (omega (arith, h, n)), λ h′. c .nth .ensures ∙ sym (insert-behind (a .p) (a .x) (a .a) (l .i) k (omega (arith, h′, m))))
+    let m : length (a .a) ≡ 32 = l .inv .0 .1 in
+    (write-next (a .a) (insertAt (a .p) (a .x) (a .a)) (l .i) (insert-length (a .p) (a .x) (a .a)) h (l .inv .1 h) (l .inv .0), λ h′. c .nth .ensures ∙ sym (insert-behind (a .p) (a .x) (a .a) (l .i) (l .inv .0 .0) (omega (arith, h′, m))))
 
 returns : tie.Need-returns Inv-loop μ-loop
-returns c =
-    let l = c .before .loop in
-    let a = c .before .before .args in
-    let h : 32 ≤ l .i = search needs in
-    let m : length (a .a) ≡ 32 = l .inv .1 in
-    l .inv .2 ∙ over-laid (a .a) (insertAt (a .p) (a .x) (a .a)) (l .i) (insert-length (a .p) (a .x) (a .a)) (omega (arith, h, m))
+returns c = let a = c .before .before .args in write-all (a .a) (insertAt (a .p) (a .x) (a .a)) (c .before .loop .i) (insert-length (a .p) (a .x) (a .a)) (search needs) (c .before .loop .inv .0)
 
 pub opened-spec : {M : Type 1} → statement M
 opened-spec = tie.close (tie.spec Inv-loop μ-loop loop-holds (λ c κs. search needs) (λ c. search needs) (λ c. search needs) (λ c. search needs) loop-less loop-again returns)
