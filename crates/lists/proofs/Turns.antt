@@ -2,7 +2,6 @@
 -- Assumes nothing.
 use Prim.Native.Nat.{ℕ, zero, suc, _+_, _≤_, _<_}
 use native.Mathlib.Numerals.{add-one}
-use native.Mathlib.Nat.{le-of-suc-le-suc, not-suc-le-zero}
 use native.Mathlib.Omega.{arith}
 use mathlib.Core.Path.{_≡_, refl, sym, ap, _∙_, subst}
 use mathlib.Core.Bool.{Bool, true, false, _||_}
@@ -38,11 +37,16 @@ rest-end a i l = ap line (drop-of-length-le a l)
 
 -- ---- writing: an array that holds its first j entries and blanks behind them, `r ≡ pad (take j r)`
 
-set-padTo : (n : ℕ) (xs : List ℕ) (x : ℕ) → length xs < n → set (padTo n xs) (length xs) x ≡ padTo n (xs ++ (x ∷ []))
+set-padTo : (n : ℕ) (xs : List ℕ) (x : ℕ) → set (padTo n xs) (length xs) x ≡ padTo n (xs ++ (x ∷ []))
 unfolding padTo
-set-padTo zero xs x l = absurd (not-suc-le-zero l)
-set-padTo (suc n) [] x l = refl
-set-padTo (suc n) (y ∷ xs) x l = ap (λ (r : List ℕ). y ∷ r) (set-padTo n xs x (le-of-suc-le-suc l))
+set-padTo zero xs x = refl
+set-padTo (suc n) [] x = refl
+set-padTo (suc n) (y ∷ xs) x = ap (λ (r : List ℕ). y ∷ r) (set-padTo n xs x)
+
+-- a store at the first blank place puts an entry behind the others; there is none in a full array
+pub set-next : (xs : List ℕ) (x : ℕ) → set (pad xs) (length xs) x ≡ pad (xs ++ (x ∷ []))
+unfolding pad
+set-next xs x = set-padTo 31 xs x
 
 -- such an array has 31 places
 pub length-filled : (r : List ℕ) (j : ℕ) → r ≡ pad (take j r) → length r ≡ 31
@@ -61,7 +65,7 @@ fill r j x l e =
     let n = length-filled r j e in
     let k : length (take j r) ≡ j = length-take-le j r (omega arith) in
     rw (add-one j, take-suc-set r j x (omega arith))
-    (ap (λ (s : List ℕ). set s j x) e ∙ subst (λ (m : ℕ). set (pad (take j r)) m x ≡ pad (take j r ++ (x ∷ []))) k (set-padTo 31 (take j r) x (omega arith)))
+    (ap (λ (s : List ℕ). set s j x) e ∙ subst (λ (m : ℕ). set (pad (take j r)) m x ≡ pad (take j r ++ (x ∷ []))) k (set-next (take j r) x))
 
 -- the front after a store
 pub fill-front : (r : List ℕ) (j x : ℕ) (ys : List ℕ) → j < 31 → r ≡ pad (take j r) → take (j + 1) (set r j x) ++ ys ≡ take j r ++ (x ∷ ys)

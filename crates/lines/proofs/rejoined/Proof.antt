@@ -1,9 +1,11 @@
 use borrow.Author.Needs.{needs}
-use Prim.Native.Nat.{ℕ}
-use mathlib.Core.Path.{ap, _∙_}
-use mathlib.Core.List.{List, [], _∷_, _++_}
-use Rattle.lists.specs.Line.{pad}
+use mathlib.Core.Path.{_≡_, _∙_}
+use mathlib.Core.List.{[], _∷_, _++_}
+use lib.ListN.{length, set}
+use Rattle.lists.specs.Line.{line, pad}
+use Rattle.lists.specs.Lists.{remove}
 use Rattle.lists.proofs.LineLaws.{left-over}
+use Rattle.lists.proofs.Turns.{set-next}
 use Rattle.lines.proofs.rejoined.Statement.{statement}
 use Rattle.lines.proofs.rejoined.Tie as tie
 
@@ -11,7 +13,11 @@ returns : tie.Need-returns
 returns c =
     let w = c .before .before in
     let a = w .before .args in
-    rw (c .before .if1 .taken) (c .joined .ensures ∙ ap (λ (l : List ℕ). pad (l ++ (a .t ∷ []))) (left-over (a .a) (a .t) (w .without .result) (search needs) (w .without .ensures)))
+    let l = w .without .result in
+    let kept = remove (a .t) (line (a .a)) in
+    let rest : line l ≡ kept = left-over (a .a) (a .t) l (search needs) (w .without .ensures) in
+    let put : set l (length (line l)) (a .t) ≡ pad (kept ++ (a .t ∷ [])) = rw (rest, w .without .ensures) (set-next kept (a .t)) in
+    rw (c .before .if1 .taken) (c .with-next .ensures ∙ put)
 
 returns-2 : tie.Need-returns-2
 returns-2 c = rw (c .if1 .left) (c .before .without .ensures)
