@@ -1,7 +1,7 @@
 // Lines: task numbers in order, and blanks (0) behind them, in an array of 31.
 ghost use mathlib.Core.Path.{_≡_};
 ghost use mathlib.Core.List.{[], _∷_, _++_};
-ghost use lib.ListN.{length, set};
+ghost use lib.ListN.{length};
 ghost use Rattle.lists.specs.Lists.{remove, rejoin, first, last};
 ghost use Rattle.lists.specs.Line.{line, pad};
 ghost use Rattle.lists.specs.Marks.{noMarks, markOf, marked, withMark, insertBy};
@@ -53,26 +53,16 @@ pub fn without(a: [u8; 31], t: u8) -> [u8; 31]
     r
 }
 
-// t at the first blank place; the same where there is none.
-fn with_next(a: [u8; 31], t: u8) -> [u8; 31]
-    ensures { λ r. ⌜ r ≡ set a (length (line a)) t ⌝ }
-{
-    let n = len(a);
-    let mut r = a;
-    if n < 31 {
-        r[n] = t;
-        return r;
-    }
-    r
-}
-
 // The line without t, and with t at its end if it belongs there now. What is left of the line has blanks behind it: it need not be laid out afresh.
 pub fn rejoined(a: [u8; 31], t: u8, joins: bool) -> [u8; 31]
     ensures { λ r. ⌜ r ≡ pad (rejoin joins t (line a)) ⌝ }
 {
-    let rest = without(a, t);
+    let mut rest = without(a, t);
     if joins {
-        return with_next(rest, t);
+        let n = len(rest);
+        if n < 31 {
+            rest[n] = t;
+        }
     }
     rest
 }
