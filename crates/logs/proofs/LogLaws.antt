@@ -14,9 +14,12 @@ use Rattle.calls.specs.Record.{fourFrom}
 use Rattle.stream.specs.Windows.{movedTo, endIn, startIn, unreadIn, Grown}
 use Rattle.stream.specs.declared.window.Window.{Window}
 use Rattle.stream.proofs.Growing.{unread-length, unread-behind}
+use Rattle.session.specs.Turn.{turnOf}
+use Rattle.session.specs.declared.turns.Session.{Session}
+use Rattle.session.proofs.Pieces.{turn-within}
 use Rattle.logs.specs.declared.Log.{Log}
 use Rattle.logs.specs.declared.Rest.{Rest}
-use Rattle.logs.specs.Logs.{partOf, bytesIn, isLast, placeBehind}
+use Rattle.logs.specs.Logs.{partOf, bytesIn, isLast, placeBehind, Moved}
 use Rattle.logs.specs.Rests.{droppedOf, numberAt}
 
 -- the first of at most n are the first n of those
@@ -61,8 +64,8 @@ least-first a b h = omega arith
 least-second : (a b : ℕ) → b ≤ a → min a b ≡ b
 least-second a b h = omega arith
 
--- a window that goes on behind k of its bytes shows those behind them: none is lost, and none comes twice
-pub unread-taken : (w : Window) (b : List ℕ) (k : ℕ) → k ≤ length (unreadIn w b) → unreadIn (movedTo w (placeBehind w k)) b ≡ drop k (unreadIn w b)
+-- a window that goes on behind k of its bytes shows those behind them
+unread-taken : (w : Window) (b : List ℕ) (k : ℕ) → k ≤ length (unreadIn w b) → unreadIn (movedTo w (placeBehind w k)) b ≡ drop k (unreadIn w b)
 unread-taken w b k h =
     by-bool (leb (w .at) (endIn w b))
     (λ q. inside (leb-true (w .at) (endIn w b) q) (cut (w .end) (length b)) (rw (unread-length w b) at h))
@@ -91,6 +94,15 @@ unread-taken w b k h =
         let place : min (placeBehind w k) (endIn w b) ≡ endIn w b = least-second (placeBehind w k) (endIn w b) (under (endIn w b) (w .at) (w .end) (min k (w .end - min (w .at) (w .end))) (omega arith) c) in
         let none = nothing (endIn w b) (startIn w b) f start in
         rw (place, none, start)
+
+-- what stands unread behind a turn is what stood behind the bytes that it took: none is lost, and none comes twice
+pub taken-once : {l r : Log} {place : ℕ} {onward : Bool} {out : List ℕ} (b : List ℕ) (s : Session) (last : Bool) (room : List ℕ)
+    → Moved l (turnOf s (bytesIn l b) last room .count) place onward out r
+    → unreadIn (r .flow .window) b ≡ drop (turnOf s (bytesIn l b) last room .count) (unreadIn (l .flow .window) b)
+taken-once {l} b s last room m =
+    let u = unreadIn (l .flow .window) b in
+    let few = turn-within s room (bytesIn l b) last in
+    rw (m .window) (unread-taken (l .flow .window) b (turnOf s (bytesIn l b) last room .count) (omega (arith, length-take (l .left) u)))
 
 -- ---- the rest of a log
 

@@ -1,18 +1,19 @@
--- How the input is cut into pieces makes no difference. Assumes nothing.
+-- How the input is cut into pieces makes no difference; and a turn takes no more than it is given. Assumes nothing.
 use Prim.Native.Nat.{ℕ, _≤_}
 use native.Mathlib.Omega.{arith}
 use mathlib.Core.Path.{_≡_, refl, _∙_}
-use mathlib.Core.Bool.{Bool, false, and-false}
+use mathlib.Core.Bool.{Bool, false, not, _&&_, and-false}
 use mathlib.Core.List.{List, _++_}
 use lib.ListN.{length, length-append}
-use lib.Dec.{ltb}
+use lib.Dec.{eqb, ltb}
 use borrow.Author.Tests.{le-ltb, ltb-false}
 use Rattle.lists.proofs.ListLaws.{by-bool}
-use Rattle.calls.specs.Reading.{readOf}
+use Rattle.calls.specs.Reading.{END-OF-LOG, readOf}
 use Rattle.calls.specs.declared.Read.{Read}
 use Rattle.calls.specs.declared.Read.the-variants.{Record, BadRecord, EndOfLog}
+use Rattle.calls.proofs.Round.{accepted-as}
 use Rattle.calls.proofs.Behind.{accepted-ahead, ten-ahead}
-use Rattle.session.specs.Turn.{turnOf, turnBy, leaves}
+use Rattle.session.specs.Turn.{turnOf, turnBy, took, leaves}
 use Rattle.session.specs.declared.turns.Session.{Session}
 use Rattle.session.specs.declared.turns.Next.the-variants.{More}
 
@@ -42,3 +43,22 @@ module _ (s : Session) (room : List ℕ) where
     -- is the same whatever bytes come behind, and whether any do
     pub settled : (turnOf s input false room .next ≡ More → ⊥) → turnOf s (input ++ rest) last room ≡ turnOf s input false room
     settled h = settled-by (readOf input) refl h
+
+  -- ---- what a turn takes
+
+  -- without a record nothing
+  leaves-none : (n many : ℕ) (last : Bool) → leaves s n many last room .count ≡ 0
+  unfolding leaves
+  leaves-none n many last =
+      by-bool (not last && ltb many 10) (λ e. simp e) (λ e. by-bool (eqb n END-OF-LOG) (λ f. simp (e, f)) (λ f. simp (e, f)))
+
+  module _ (input : List ℕ) (last : Bool) where
+    within-by : (r : Read) → readOf input ≡ r → turnBy s r (length input) last room .count ≤ length input
+    unfolding took
+    within-by (Record c k) e = let a = accepted-as input c k e in let f = a .frame .fits in omega (arith, a .count)
+    within-by BadRecord e = omega (arith, leaves-none 11 (length input) last)
+    within-by EndOfLog e = omega (arith, leaves-none 12 (length input) last)
+
+    -- no more bytes than it is given
+    pub turn-within : turnOf s input last room .count ≤ length input
+    turn-within = within-by (readOf input) refl
