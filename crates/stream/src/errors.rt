@@ -22,9 +22,13 @@ pub fn tell_line(number: u64, form: &[u8]) {
     tell(b"line ", number, b"expected is ", form);
 }
 
-// A line that does not fit the buffer: each program has one of 65536 bytes, and the line end has to fit too.
-pub(crate) fn tell_long(number: u64) {
-    tell(b"line ", number, b"it is longer than 65535 bytes", b"");
+// A line that fills a buffer of so many bytes, and goes on.
+pub(crate) fn tell_long(number: u64, room: usize) {
+    let mut why = [0u8; 64];
+    let mut at = put_bytes(b"it has no line end within ", &mut why, 0);
+    at = put_number(room as u64, &mut why, at);
+    at = put_bytes(b" bytes", &mut why, at);
+    tell(b"line ", number, &why[0..at], b"");
 }
 
 // Bytes that are no record.

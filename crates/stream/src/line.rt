@@ -94,13 +94,13 @@ fn ended(l: Lines, stop: usize, place: usize, out: &[u8]) -> Lines
     n
 }
 
-// Behind bytes that fill the buffer. That their line is too long is told once.
+// Behind bytes that fill the buffer, up to `stop`. That their line is too long is told once.
 fn skipping(l: Lines, stop: usize, out: &[u8]) -> Lines
     ensures { λ r. ⌜ (r .number ≡ l .number) × (r .skips ≡ true) ⌝ }
     ensures { λ r. ⌜ r .flow .window ≡ movedTo (l .flow .window) stop ⌝ }
 {
     if !l.skips {
-        tell_long(l.number);
+        tell_long(l.number, stop);
     }
     let mut n = l;
     n.flow = passed(l.flow, stop, l.flow.waits, out);
