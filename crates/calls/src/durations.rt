@@ -1,6 +1,7 @@
 // Durations: signed numbers of ticks, and the 32 bits that stand for them.
 ghost use mathlib.Core.Path.{_≡_};
-ghost use Prim.Native.Nat.{_+_, _*_};
+ghost use Prim.Native.Nat.{_+_, _*_, _/_, _%_};
+ghost use mathlib.Core.List.{[], _∷_};
 ghost use Rattle.calls.specs.Duration as D;
 
 // The ticks that a duration asks to wait: zero and below mean the same.
@@ -22,6 +23,22 @@ pub fn word(a: u8, b: u8, c: u8, d: u8) -> u32
     ensures { λ r. ⌜ r ≡ D.four a b c d ⌝ }
 {
     half(a, b) * 65536 + half(c, d)
+}
+
+// The two low bytes of a number, high byte first.
+fn pair_of(n: u32) -> [u8; 2]
+    ensures { λ r. ⌜ r ≡ n / 256 % 256 ∷ n % 256 ∷ [] ⌝ }
+{
+    [(n / 256 % 256) as u8, (n % 256) as u8]
+}
+
+// The four bytes of a number, high byte first.
+pub fn bytes_of(n: u32) -> [u8; 4]
+    ensures { λ r. ⌜ r ≡ D.bytesOf n ⌝ }
+{
+    let high = pair_of(n / 65536);
+    let low = pair_of(n);
+    [high[0], high[1], low[0], low[1]]
 }
 
 // The duration that 32 bits stand for, two's complement.

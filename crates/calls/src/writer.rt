@@ -7,6 +7,7 @@ ghost use Rattle.calls.specs.Writing.{writtenOf, roomAfter};
 ghost use Rattle.calls.specs.Parts.{packet};
 use super::Call;
 use super::Written;
+use super::durations::bytes_of;
 use super::durations::duration_bits;
 use super::modes::mode_of_call;
 use super::modes::mode_of_select;
@@ -50,19 +51,9 @@ fn bare_record(tag: u8) -> Packet
 fn number_record(tag: u8, n: u32) -> Packet
     ensures { λ r. ⌜ r ≡ packet (tag ∷ 0 ∷ 4 ∷ bytesOf n) ⌝ }
 {
+    let b = bytes_of(n);
     Packet {
-        bytes: [
-            tag,
-            0,
-            4,
-            (n / 16777216) as u8,
-            (n / 65536 % 256) as u8,
-            (n / 256 % 256) as u8,
-            (n % 256) as u8,
-            0,
-            0,
-            0,
-        ],
+        bytes: [tag, 0, 4, b[0], b[1], b[2], b[3], 0, 0, 0],
         count: 7,
     }
 }
@@ -71,19 +62,9 @@ fn number_record(tag: u8, n: u32) -> Packet
 fn call_record(target: u8, entry: u8, m: u8, n: u32) -> Packet
     ensures { λ r. ⌜ r ≡ packet (3 ∷ 0 ∷ 7 ∷ target ∷ entry ∷ m ∷ bytesOf n) ⌝ }
 {
+    let b = bytes_of(n);
     Packet {
-        bytes: [
-            3,
-            0,
-            7,
-            target,
-            entry,
-            m,
-            (n / 16777216) as u8,
-            (n / 65536 % 256) as u8,
-            (n / 256 % 256) as u8,
-            (n % 256) as u8,
-        ],
+        bytes: [3, 0, 7, target, entry, m, b[0], b[1], b[2], b[3]],
         count: 10,
     }
 }
@@ -92,19 +73,9 @@ fn call_record(target: u8, entry: u8, m: u8, n: u32) -> Packet
 fn select_record(set: u8, m: u8, n: u32) -> Packet
     ensures { λ r. ⌜ r ≡ packet (4 ∷ 0 ∷ 6 ∷ set ∷ m ∷ bytesOf n) ⌝ }
 {
+    let b = bytes_of(n);
     Packet {
-        bytes: [
-            4,
-            0,
-            6,
-            set,
-            m,
-            (n / 16777216) as u8,
-            (n / 65536 % 256) as u8,
-            (n / 256 % 256) as u8,
-            (n % 256) as u8,
-            0,
-        ],
+        bytes: [4, 0, 6, set, m, b[0], b[1], b[2], b[3], 0],
         count: 9,
     }
 }

@@ -6,6 +6,7 @@ ghost use lib.ListN.{length, take, drop};
 ghost use Rattle.rules.specs.State.{entryOf};
 ghost use Rattle.codec.specs.Layout.{placeTag, placeFirst, timerTag, timerDue, taskBytes, tasksBytes, isPlace, isTimer, placeFrom, timerFrom, fieldsOf, fieldsGood, fieldsTask, lost, stateIn, putAt, placedAt, placedLines, stored};
 ghost use Rattle.codec.specs.Used.{areZero, tableFrom, usedTasks, bareIn};
+use calls::bytes_of;
 use calls::word;
 use rules::Meeting;
 use rules::Offer;
@@ -59,7 +60,7 @@ fn task_bytes(x: Task) -> [u8; 10]
     let w = x.timer;
     let p = place_bytes(place);
     let timed = timer_tag(w);
-    let d = timer_due(w);
+    let d = bytes_of(timer_due(w));
     [
         x.priority,
         x.entries,
@@ -67,10 +68,10 @@ fn task_bytes(x: Task) -> [u8; 10]
         p[1],
         p[2],
         timed,
-        (d / 16777216) as u8,
-        (d / 65536 % 256) as u8,
-        (d / 256 % 256) as u8,
-        (d % 256) as u8,
+        d[0],
+        d[1],
+        d[2],
+        d[3],
     ]
 }
 
@@ -319,14 +320,8 @@ pub fn store(s: Supervisor, room: &mut [u8])
     if room.len() < 439 {
         return;
     }
-    let n = s.clock;
-    let head = [
-        (n / 16777216) as u8,
-        (n / 65536 % 256) as u8,
-        (n / 256 % 256) as u8,
-        (n % 256) as u8,
-        s.created,
-    ];
+    let n = bytes_of(s.clock);
+    let head = [n[0], n[1], n[2], n[3], s.created];
     put_at(room, 0, &head);
     let tasks = s.tasks;
     put_tasks(room, tasks);
