@@ -83,11 +83,11 @@ stand-is s d =
 
 -- the same fourteen tests and the order, in the code's grouping and in the rules'
 regroup : (u t1 t2 t3 t4 g c1 c2 c3 c4 n1 n2 n3 n4 o : Bool)
-    → (((((u && g) && ((t1 && n1) && c1)) && ((t2 && n2) && c2)) && ((t3 && n3) && c3)) && (((t4 && n4) && c4) && o))
+    → (((u && g) && ((((t1 && n1) && c1) && ((t2 && n2) && c2)) && ((t3 && n3) && c3))) && (((t4 && n4) && c4) && o))
     ≡ (((((u && t1) && t2) && t3) && t4) && ((((((g && c1) && c2) && c3) && c4) && (((n1 && n2) && n3) && n4)) && o))
 regroup u t1 t2 t3 t4 g c1 c2 c3 c4 n1 n2 n3 n4 o = go u t1 t2 t3 t4 g c1 c2 c3 c4 n1 n2 n3 n4
   where
-    go : (u t1 t2 t3 t4 g c1 c2 c3 c4 n1 n2 n3 n4 : Bool) → (((((u && g) && ((t1 && n1) && c1)) && ((t2 && n2) && c2)) && ((t3 && n3) && c3)) && (((t4 && n4) && c4) && o)) ≡ (((((u && t1) && t2) && t3) && t4) && ((((((g && c1) && c2) && c3) && c4) && (((n1 && n2) && n3) && n4)) && o))
+    go : (u t1 t2 t3 t4 g c1 c2 c3 c4 n1 n2 n3 n4 : Bool) → (((u && g) && ((((t1 && n1) && c1) && ((t2 && n2) && c2)) && ((t3 && n3) && c3))) && (((t4 && n4) && c4) && o)) ≡ (((((u && t1) && t2) && t3) && t4) && ((((((g && c1) && c2) && c3) && c4) && (((n1 && n2) && n3) && n4)) && o))
     go false t1 t2 t3 t4 g c1 c2 c3 c4 n1 n2 n3 n4 = refl
     go true false t2 t3 t4 g c1 c2 c3 c4 n1 n2 n3 n4 = simp and-false
     go true true false t3 t4 g c1 c2 c3 c4 n1 n2 n3 n4 = simp and-false
@@ -108,23 +108,23 @@ pub unsound-many : (s : Supervisor) → 31 < s .created → false ≡ soundWhole
 unsound-many s h = rw (lt-leb (s .created) 31 h)
 
 -- what the code finds, of the table and of each line
-pub sound-is : (s : Supervisor) (told : Told) (u r c h d : Bool) → s .created ≤ 31 → length (s .tasks) ≡ 31 → told ≡ toldOf s → u ≡ every unused (drop (s .created) (s .tasks))
-    → r ≡ holdsIn anyOrder (told .ready) (s .ready) → c ≡ holdsIn anyOrder (told .callers) (s .callers) → h ≡ holdsIn anyOrder (told .held) (s .held)
-    → d ≡ holdsIn (leftOf (view s)) (told .delays) (s .delays) → (((((u && told .good) && r) && c) && h) && d) ≡ soundWhole s
+pub sound-is : (s : Supervisor) (told : Told) (u l d : Bool) → s .created ≤ 31 → length (s .tasks) ≡ 31 → told ≡ toldOf s → u ≡ every unused (drop (s .created) (s .tasks))
+    → l ≡ ((holdsIn anyOrder (told .ready) (s .ready) && holdsIn anyOrder (told .callers) (s .callers)) && holdsIn anyOrder (told .held) (s .held))
+    → d ≡ holdsIn (leftOf (view s)) (told .delays) (s .delays) → (((u && told .good) && l) && d) ≡ soundWhole s
 unfolding sound lineHas
-sound-is s told u r c h d m k et eu er ec eh ed =
+sound-is s told u l d h k et eu el ed =
     let n : created (view s) ≡ s .created = length-take-le (s .created) (s .tasks) (omega arith) in
     let f : ℕ → Bool = named (s .created) in
-    let lr = line (s .ready) in let lc = line (s .callers) in let lh = line (s .held) in let ld = line (s .delays) in
-    let all : every (isTask (view s)) (((lr ++ lc) ++ lh) ++ ld) ≡ (((every f lr && every f lc) && every f lh) && every f ld) =
-    ap (λ (x : ℕ). every (named x) (((lr ++ lc) ++ lh) ++ ld)) n
-    ∙ every-append f ((lr ++ lc) ++ lh) ld ∙ ap (λ (b : Bool). b && every f ld) (every-append f (lr ++ lc) lh ∙ ap (λ (b : Bool). b && every f lh) (every-append f lr lc)) in
+    let a = line (s .ready) in let c = line (s .callers) in let d = line (s .held) in let w = line (s .delays) in
+    let all : every (isTask (view s)) (((a ++ c) ++ d) ++ w) ≡ (((every f a && every f c) && every f d) && every f w) =
+    ap (λ (m : ℕ). every (named m) (((a ++ c) ++ d) ++ w)) n
+    ∙ every-append f ((a ++ c) ++ d) w ∙ ap (λ (b : Bool). b && every f w) (every-append f (a ++ c) d ∙ ap (λ (b : Bool). b && every f d) (every-append f a c)) in
     let t = downFrom (s .created) in
-    let stand = ap (λ (x : ℕ). every (standsRight (view s)) (downFrom x)) n ∙ stand-is s t in
-    let order = sym (order-whole (leftOf (view s)) ld) in
-    let p = le-leb (s .created) 31 m in
+    let stand = ap (λ (m : ℕ). every (standsRight (view s)) (downFrom m)) n ∙ stand-is s t in
+    let order = sym (order-whole (leftOf (view s)) w) in
+    let p = le-leb (s .created) 31 h in
     let q : leb (created (view s)) 31 ≡ true = le-leb (created (view s)) 31 (omega arith) in
-    rw (eu, er, ec, eh, ed, et, stands-is s Ready m, stands-is s Callers m, stands-is s Held m, holds-is s Delays (leftOf (view s)) m, p, q, stand, all, order)
+    rw (eu, el, ed, et, stands-is s Ready h, stands-is s Callers h, stands-is s Held h, holds-is s Delays (leftOf (view s)) h, p, q, stand, all, order)
     (regroup (every unused (drop (s .created) (s .tasks))) (tidy (s .ready)) (tidy (s .callers)) (tidy (s .held)) (tidy (s .delays))
     (every (goodIn (view s)) t) (every (right s Ready) t) (every (right s Callers) t) (every (right s Held) t) (every (right s Delays) t)
-    (every f lr) (every f lc) (every f lh) (every f ld) (ascending (leftOf (view s)) 0 ld))
+    (every f a) (every f c) (every f d) (every f w) (ascending (leftOf (view s)) 0 w))

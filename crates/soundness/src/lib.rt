@@ -1,13 +1,14 @@
 // The soundness check: whether a state is sound, as the rules say it. The modules are this crate's own: what others see is
 // `is_sound`. One pass over the created tasks tells whether they are good and who belongs into which line; then one over each line.
-// A function that takes the state and looks up tasks in it, or lends a line of it, copies it whole: so no function that is called for each
-// task takes it, a line is handed on by itself, and `is_sound` alone hands the state on, so that no two copies are alive at a time.
+// A function that takes the state and looks up tasks in it copies it whole: so no function that is called for each task takes it, and
+// `is_sound` alone hands it on, so that no two copies are alive at a time.
 ghost use Prim.Native.Nat.{_≤_};
 ghost use lib.ListN.{drop};
+ghost use mathlib.Core.Bool.{_&&_};
 ghost use mathlib.Core.Path.{_≡_};
 ghost use Rattle.lists.specs.Lists.{every};
 ghost use Rattle.rules.specs.Whole.{unused, soundWhole};
-ghost use Rattle.soundness.specs.Check.{toldOf};
+ghost use Rattle.soundness.specs.Check.{anyOrder, holdsIn, toldOf};
 use rules::Supervisor;
 use table::place::has_time;
 use table::place::is_between;
@@ -84,6 +85,15 @@ fn told_of(s: Supervisor) -> Told
     }
 }
 
+// Whether three of the lines hold those who belong into them.
+fn lines_hold(s: Supervisor, told: Told) -> bool
+    ensures { λ r. ⌜ r ≡ ((holdsIn anyOrder (told .ready) (s .ready) && holdsIn anyOrder (told .callers) (s .callers)) && holdsIn anyOrder (told .held) (s .held)) ⌝ }
+{
+    stand::holds(&s.ready, told.ready)
+        & stand::holds(&s.callers, told.callers)
+        & stand::holds(&s.held, told.held)
+}
+
 // Whether the state is sound.
 pub fn is_sound(s: Supervisor) -> bool
     ensures { λ r. ⌜ r ≡ soundWhole s ⌝ }
@@ -92,13 +102,5 @@ pub fn is_sound(s: Supervisor) -> bool
         return false;
     }
     let told = told_of(s);
-    let ready = s.ready;
-    let callers = s.callers;
-    let held = s.held;
-    all_unused(s)
-        & told.good
-        & stand::holds(ready, told.ready)
-        & stand::holds(callers, told.callers)
-        & stand::holds(held, told.held)
-        & stand::delays_hold(s, told.delays)
+    all_unused(s) & told.good & lines_hold(s, told) & stand::delays_hold(s, told.delays)
 }

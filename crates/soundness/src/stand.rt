@@ -24,14 +24,15 @@ fn is_blank_from(a: &[u8; 31], i: usize) -> bool
 }
 
 // Whether the line holds each once that is to be met, and nothing else. In the word of a pass over the table task 1 is bit 0.
-pub fn holds(a: [u8; 31], word: u32) -> bool
-    ensures { λ r. ⌜ r ≡ holdsIn anyOrder word a ⌝ }
+pub fn holds(a: &[u8; 31], word: u32) -> bool
+    requires { ⌜ length (now a) ≡ 31 ⌝ }
+    ensures { λ r. ⌜ r ≡ holdsIn anyOrder word (now (a .entry)) ⌝ }
 {
     let mut rest = marks::next(word, false);
     for i in 0..31 {
         let t = a[i];
         if t == 0 {
-            return marks::is_none(rest) & is_blank_from(&a, i);
+            return marks::is_none(rest) & is_blank_from(a, i);
         }
         if marks::has(rest, t) {
             rest = marks::without(rest, t);
