@@ -13,7 +13,7 @@ use Rattle.lists.proofs.LineLaws.{length-filter, length-line}
 use Rattle.calls.specs.Reading.{readOf}
 use Rattle.calls.specs.declared.Read.{Read}
 use Rattle.rules.specs.Questions.{countWhole}
-use Rattle.rules.specs.State.{queue, waitsOn, running}
+use Rattle.rules.specs.State.{queue, waitsOn}
 use Rattle.rules.specs.Step.{roomAfter}
 use Rattle.rules.specs.Whole.{Whole, view, soundWhole, steppedOf, answerOf}
 use Rattle.rules.specs.declared.Answer.{Answer}
@@ -22,7 +22,7 @@ use Rattle.rules.specs.declared.Stepped.{Stepped}
 use Rattle.rules.specs.declared.Supervisor.{Supervisor}
 use Rattle.codec.specs.Layout.{stateIn, stored}
 use Rattle.codec.proofs.CodecLaws.{if-true, if-false}
-use Rattle.card.specs.Answers.{stepBy, cardStep, stateAfter, answerBytes, ifRoom, oneAfter, runningRefusal, runningTask}
+use Rattle.card.specs.Answers.{stepBy, cardStep, stateAfter, answerBytes, ifRoom, oneAfter}
 
 -- the first byte of lent bytes is set
 pub one-set : (l : List ℕ) (v : ℕ) → 1 ≤ length l → set l 0 v ≡ v ∷ drop 1 l
@@ -42,16 +42,6 @@ count-small s k t e h q =
     go : (y : Bool) (n : ℕ) → n < 256 → k ≡ (if y then counted 0 n else counted 2 0) → k .count < 256
     go true n h q = rw q h
     go false n h q = rw q (omega arith)
-
--- the dispatched task, asked of lent bytes
-module _ (b : List ℕ) (s : Supervisor) (e : s ≡ stateIn b) where
-  pub running-yes : (t : ℕ) → soundWhole s ≡ true → t ≡ running (view s) → (0 ≡ runningRefusal (stateIn b)) × (t ≡ runningTask (stateIn b))
-  running-yes t h q =
-      (sym (if-true (soundWhole s) 0 2 h) ∙ ap runningRefusal e, q ∙ sym (if-true (soundWhole s) (running (view s)) 0 h) ∙ ap runningTask e)
-
-  pub running-no : soundWhole s ≡ false → (2 ≡ runningRefusal (stateIn b)) × (0 ≡ runningTask (stateIn b))
-  running-no h =
-      (sym (if-false (soundWhole s) 0 2 h) ∙ ap runningRefusal e, sym (if-false (soundWhole s) (running (view s)) 0 h) ∙ ap runningTask e)
 
 -- an answer's byte and refusal, at other numbers that are the same
 pub one-as : (answer answer′ : List ℕ) (r f f′ v v′ : ℕ) → (r ≡ ifRoom 1 answer 1 f) × (answer′ ≡ oneAfter answer v) → f ≡ f′ → v ≡ v′

@@ -7,9 +7,8 @@ use Rattle.lists.specs.Lists.{if_then_else_}
 use Rattle.calls.specs.Reading.{readOf, refusalOf}
 use Rattle.calls.specs.declared.Read.{Read}
 use Rattle.calls.specs.declared.Read.the-variants.{Record, BadRecord, EndOfLog}
-use Rattle.rules.specs.State.{running}
 use Rattle.rules.specs.Step.{none}
-use Rattle.rules.specs.Whole.{Whole, view, soundWhole, stepWhole}
+use Rattle.rules.specs.Whole.{Whole, stepWhole}
 use Rattle.rules.specs.declared.Answer.{Answer}
 use Rattle.rules.specs.declared.Supervisor.{Supervisor}
 use Rattle.codec.specs.Layout.{stateIn, stored}
@@ -43,11 +42,3 @@ ifRoom n answer short long = if ltb (length answer) n then short else long
 -- a question's byte at the start of the answer
 abbrev pub oneAfter : List ℕ → ℕ → List ℕ
 oneAfter answer value = ifRoom 1 answer answer (value ∷ drop 1 answer)
-
--- the dispatched task, asked of the state: BAD_STATE, or 0
-abbrev pub runningRefusal : Supervisor → ℕ
-runningRefusal s = if soundWhole s then 0 else 2
-
--- the dispatched task, 0 if there is none or the state is not sound
-abbrev pub runningTask : Supervisor → ℕ
-runningTask s = if soundWhole s then running (view s) else 0

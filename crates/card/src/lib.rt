@@ -5,11 +5,11 @@ ghost use mathlib.Core.List.{_++_};
 ghost use mathlib.Core.Path.{_≡_};
 ghost use lib.ListN.{length, drop};
 ghost use Rattle.lists.specs.Lists.{bit};
-ghost use Rattle.rules.specs.Questions.{countWhole, callableWhole};
+ghost use Rattle.rules.specs.Questions.{countWhole, callableWhole, runningWhole};
 ghost use Rattle.rules.specs.State.{empty};
 ghost use Rattle.rules.specs.Step.{roomAfter};
 ghost use Rattle.rules.specs.Whole.{pack, soundWhole, stepWhole, answerOf};
-ghost use Rattle.card.specs.Answers.{cardStep, stateAfter, answerBytes, ifRoom, oneAfter, runningRefusal, runningTask};
+ghost use Rattle.card.specs.Answers.{cardStep, stateAfter, answerBytes, ifRoom, oneAfter};
 ghost use Rattle.codec.specs.Layout.{stateIn, stored};
 use calls::Call;
 use calls::Read;
@@ -20,7 +20,6 @@ use codec::put_at;
 use codec::state_in;
 use codec::store;
 use rules::Answer;
-use rules::numbers::BAD_STATE;
 
 // 1 for yes, 0 for no.
 fn flag(yes: bool) -> u8
@@ -175,13 +174,10 @@ pub extern "C" fn card_callable(state: &[u8], task: u8, answer: &mut [u8]) -> u8
 // The dispatched task, 0 if there is none.
 #[no_mangle]
 pub extern "C" fn card_running(state: &[u8], answer: &mut [u8]) -> u8
-    ensures { λ r. ⌜ r ≡ ifRoom 1 (now (answer .entry)) 1 (runningRefusal (stateIn (now (state .entry)))) ⌝ }
-    ensures { λ _. ⌜ now (answer .exit) ≡ oneAfter (now (answer .entry)) (runningTask (stateIn (now (state .entry)))) ⌝ }
+    ensures { λ r. ⌜ r ≡ ifRoom 1 (now (answer .entry)) 1 (runningWhole (stateIn (now (state .entry))) .refusal) ⌝ }
+    ensures { λ _. ⌜ now (answer .exit) ≡ oneAfter (now (answer .entry)) (runningWhole (stateIn (now (state .entry))) .task) ⌝ }
 {
     let s = state_in(state);
-    if supervisor::sound(s) {
-        put_one(answer, 0, supervisor::running(s))
-    } else {
-        put_one(answer, BAD_STATE, 0)
-    }
+    let k = supervisor::running(s);
+    put_one(answer, k.refusal, k.task)
 }

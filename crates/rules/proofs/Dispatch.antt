@@ -1,4 +1,4 @@
--- What holds of each step and each question: a refusal changes nothing, the dispatched task, a queue has room, COUNT.
+-- Of each step and each question: a refusal changes nothing, the dispatched task, a queue has room, COUNT.
 -- Assumes nothing.
 use Prim.Native.Nat.{ℕ, zero, suc, _≤_, _<_}
 use mathlib.Core.Path.{_≡_, refl, sym, _∙_, ap, subst}
@@ -14,17 +14,17 @@ use Rattle.rules.specs.State.{State, placeOf, priorityOf, created, isRea
 use Rattle.rules.specs.Step.{Outcome, refused, took, SHORT-ROOM, BAD-STATE, Refusal, takeCall}
 use Rattle.rules.specs.Whole.{Typed, Whole, view, soundWhole, decline, done, stepWhole}
 use Rattle.rules.specs.Questions.{countWhole}
-use Rattle.rules.specs.EachStep.{Untouched, Dispatched, waitingOn, EachStep}
+use Rattle.rules.specs.EachStep.{Untouched, Dispatched, waitingOn}
+use Rattle.rules.specs.SoundFacts.{HasEntry}
 use Rattle.rules.specs.declared.Supervisor.{Supervisor}
 use Rattle.rules.specs.declared.Place.the-variants.{Ready}
 use Rattle.calls.specs.declared.Call as C
 use Rattle.lists.proofs.ListLaws.{by-eq, by-bool, by-test, count-filter-yes, count-filter-no, same-length, down-once}
 use Rattle.rules.proofs.Invariant.{Sound}
-use Rattle.rules.proofs.Members.{in-filter, there, ready-is, bit-true, not-blank, runs, queued-is, queued-there}
+use Rattle.rules.proofs.Members.{in-filter, there, ready-is, bit-true, not-blank, runs, queued-is, queued-there, of-queue, queued-good}
 use Rattle.rules.proofs.SoundSaid.{nobody}
 use Rattle.rules.proofs.StepSound.{Kept, call-sound}
 use Rattle.rules.proofs.WholeLaws.{view-pack, sound-view}
-use Rattle.rules.proofs.EveryStruct.{step-typed}
 use Rattle.rules.proofs.Bounds.{queue-has-room}
 
 -- ── a refused step ──
@@ -32,7 +32,7 @@ use Rattle.rules.proofs.Bounds.{queue-has-room}
 declined : (s : Supervisor) (r : Refusal) (n : ℕ) → Untouched s (decline s r n)
 declined s r n = record { state = refl; ended = refl; room = λ b. refl; answer = refl }
 
-untouched : (s : Supervisor) (c : C.Call) (room : ℕ) → 0 < stepWhole s c room .refusal → Untouched s (stepWhole s c room)
+pub untouched : (s : Supervisor) (c : C.Call) (room : ℕ) → 0 < stepWhole s c room .refusal → Untouched s (stepWhole s c room)
 unfolding stepWhole
 untouched s c room =
     by-test P (ltb room 124) (λ _ k. declined s SHORT-ROOM 0) λ _.
@@ -43,6 +43,20 @@ untouched s c room =
 
     go : (o : Outcome) → P (done s o)
     go (refused r) k = declined s r (running (view s))
+    go (took st a l) k = absurd (omega arith)
+
+-- the dispatched task that it answers
+pub refused-next : (s : Supervisor) (c : C.Call) (room : ℕ) → 2 < stepWhole s c room .refusal → stepWhole s c room .next ≡ running (view s)
+unfolding stepWhole
+refused-next s c room =
+    by-test P (ltb room 124) (λ _ k. absurd (omega arith)) λ _.
+    by-test P (not (soundWhole s)) (λ _ k. absurd (omega arith)) λ _. go (takeCall (view s) c)
+  where
+    P : Whole → Type 0
+    P w = 2 < w .refusal → w .next ≡ running (view s)
+
+    go : (o : Outcome) → P (done s o)
+    go (refused r) k = refl
     go (took st a l) k = absurd (omega arith)
 
 -- ── the dispatched task ──
@@ -81,7 +95,7 @@ dispatched s h = up-to 15 above
 
 -- ── a sound struct ──
 
-dispatched-after : (s : Supervisor) → Typed s → soundWhole s ≡ true → (c : C.Call) (room : ℕ) → 124 ≤ room → Dispatched (view (stepWhole s c room .state)) (stepWhole s c room .next)
+pub dispatched-after : (s : Supervisor) → Typed s → soundWhole s ≡ true → (c : C.Call) (room : ℕ) → 124 ≤ room → Dispatched (view (stepWhole s c room .state)) (stepWhole s c room .next)
 unfolding stepWhole
 dispatched-after s k e c room j = rw (le-ltb room 124 j, e) (go (takeCall (view s) c) (call-sound (view s) c (sound-view s k e)))
   where
@@ -89,7 +103,7 @@ dispatched-after s k e c room j = rw (le-ltb room 124 j, e) (go (takeCall (view 
     go (refused r) h = dispatched (view s) (sound-view s k e)
     go (took st a l) h = subst (λ (x : State). Dispatched x (running st)) (sym (view-pack st h)) (dispatched st h)
 
-has-room : (s : Supervisor) → Typed s → soundWhole s ≡ true → 0 < running (view s) → (g e : ℕ) → length (queue (view s) g e) ≤ 30
+pub has-room : (s : Supervisor) → Typed s → soundWhole s ≡ true → 0 < running (view s) → (g e : ℕ) → length (queue (view s) g e) ≤ 30
 has-room s k e r g n = go (running (view s)) refl r
   where
     go : (t : ℕ) → running (view s) ≡ t → 0 < t → length (queue (view s) g n) ≤ 30
@@ -109,9 +123,17 @@ queue-counts s t e h = same-length (length (queue s t e)) (queue s t e) (waiting
         count-filter-yes (waitsOn s t e) u (s .callers) y ∙ h .callers u ∙ rw (q .1) (sym (count-filter-yes (waitsOn s t e) u (downFrom (created s)) y ∙ down-once u (created s) (i .0) (i .1))))
         (λ y. count-filter-no (waitsOn s t e) u (s .callers) y ∙ sym (count-filter-no (waitsOn s t e) u (downFrom (created s)) y))
 
-counted : (s : Supervisor) → Typed s → soundWhole s ≡ true → (t e : ℕ) → countWhole s t e .count ≡ length (waitingOn (view s) t e)
+pub counted : (s : Supervisor) → Typed s → soundWhole s ≡ true → (t e : ℕ) → countWhole s t e .count ≡ length (waitingOn (view s) t e)
 unfolding countWhole
 counted s k e t n = rw e (queue-counts (view s) t n (sound-view s k e))
 
-pub each-step : EachStep
-each-step = record { refused = untouched; typed = step-typed; dispatched = dispatched-after; queue-has-room = has-room; counted = counted }
+-- a task or entry that is not there has nobody queued
+pub count-absent : (s : Supervisor) → Typed s → soundWhole s ≡ true → (t e : ℕ) → (HasEntry (view s) t e → ⊥) → countWhole s t e .count ≡ 0
+unfolding countWhole
+count-absent s k h t e n = rw h (ap length (nobody (queue (view s) t e) absent))
+  where
+    absent : (u : ℕ) → 0 < count u (queue (view s) t e) → ⊥
+    absent u j =
+        let q = of-queue (view s) u t e j in
+        let g = queued-good (view s) u (q .0) (sound-view s k h) (q .1) in
+        n (subst (HasEntry (view s) t) (q .3) (subst (λ (g : ℕ). HasEntry (view s) g (q .0 .entry)) (q .2) (g .low, g .high)))

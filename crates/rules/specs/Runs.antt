@@ -44,7 +44,7 @@ pub record Entry : Type 0 where
 abbrev pub viewed : Whole → Given
 viewed r = record { refusal = r .refusal; answer = r .answer; ended = r .ended; next = r .next; state = view (r .state) }
 
--- the supervisor with no tasks that `made` gives, its clock at n
+-- the supervisor with no tasks, its clock at n
 abbrev pub start : ℕ → Supervisor
 start n = pack (empty n)
 

@@ -83,7 +83,13 @@ pub struct Count {
 }
 
 // What CALLABLE answers: a refusal (0 if none), and yes or no.
-pub struct Known {
+pub struct Callable {
     pub refusal: u8,
     pub yes: bool,
+}
+
+// What the question who runs answers: a refusal (0 if none), and the task, 0 where nobody is ready.
+pub struct Running {
+    pub refusal: u8,
+    pub task: u8,
 }

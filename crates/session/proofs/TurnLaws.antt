@@ -15,8 +15,8 @@ use Rattle.calls.proofs.Read.{the-type}
 use Rattle.calls.specs.Reading.{readOf, refusalOf}
 use Rattle.lists.proofs.ListLaws.{by-bool}
 use Rattle.rules.specs.Step.{roomAfter}
-use Rattle.rules.specs.State.{running}
-use Rattle.rules.specs.Whole.{view, stepWhole, steppedOf}
+use Rattle.rules.specs.Questions.{runningWhole}
+use Rattle.rules.specs.Whole.{stepWhole, steppedOf}
 use Rattle.rules.specs.declared.Stepped.{Stepped}
 use Rattle.report.specs.Lines.{lineText}
 use Rattle.text.specs.Text.{Put, putAt}
@@ -44,7 +44,7 @@ module _ (s : Session) (n many : ℕ) (last : Bool) (room : List ℕ) where
   unfolding leaves
   ends e f = rw (e, f) refl
 
-  pub says-bad : (not last && ltb many 10) ≡ false → eqb n 12 ≡ false → left s Stop (lineText (s .step) (refusedAnswer n (running (view (s .state)))) room) room ≡ leaves s n many last room
+  pub says-bad : (not last && ltb many 10) ≡ false → eqb n 12 ≡ false → left s Stop (lineText (s .step) (refusedAnswer n (runningWhole (s .state) .task)) room) room ≡ leaves s n many last room
   unfolding leaves
   says-bad e f = rw (e, f) refl
 

@@ -9,9 +9,9 @@ use Rattle.calls.specs.declared.Call as C
 use Rattle.calls.specs.declared.Read.{Read}
 use Rattle.calls.specs.declared.Read.the-variants.{Record, BadRecord, EndOfLog}
 use Rattle.calls.specs.Reading.{END-OF-LOG, readOf, refusalOf}
-use Rattle.rules.specs.State.{running}
+use Rattle.rules.specs.Questions.{runningWhole}
 use Rattle.rules.specs.Step.{roomAfter}
-use Rattle.rules.specs.Whole.{Whole, view, stepWhole, answerOf}
+use Rattle.rules.specs.Whole.{Whole, stepWhole, answerOf}
 use Rattle.rules.specs.declared.Answer.{Answer}
 use Rattle.report.specs.Lines.{lineText}
 use Rattle.text.specs.Text.{behind}
@@ -58,7 +58,7 @@ unfoldable pub leaves : Session → ℕ → ℕ → Bool → List ℕ → Turn
 leaves s n many last room =
     cond (not last && ltb many 10) (left s More [] room)
     (cond (eqb n END-OF-LOG) (left s Stop [] room)
-    (left s Stop (lineText (s .step) (refusedAnswer n (running (view (s .state)))) room) room))
+    (left s Stop (lineText (s .step) (refusedAnswer n (runningWhole (s .state) .task)) room) room))
 
 -- a turn by what was read
 abbrev pub turnBy : Session → Read → ℕ → Bool → List ℕ → Turn

@@ -109,7 +109,8 @@ fn refused(
             next: Next::Stop,
         };
     }
-    let answer = refused_answer(n, supervisor::running(s.state));
+    let k = supervisor::running(s.state);
+    let answer = refused_answer(n, k.task);
     let place = put_line(s.step, answer, room, out, at);
     Turned {
         session: s,

@@ -17,8 +17,7 @@ use Rattle.rules.specs.declared.Supervisor.{Supervisor}
 use Rattle.calls.specs.declared.Call as C
 use Rattle.calls.specs.declared.Call.the-variants.{Advance}
 use Rattle.rules.proofs.Advances.{advances}
-use Rattle.rules.proofs.Dispatch.{each-step}
-use Rattle.rules.proofs.EveryStruct.{typed-pack}
+use Rattle.rules.proofs.EveryStruct.{typed-pack, step-typed}
 use Rattle.rules.proofs.OverRuns.{empty-sound}
 use Rattle.rules.proofs.Uses.{items-back}
 use Rattle.statements.specs.Statement3.{reached}
@@ -109,7 +108,7 @@ module _ (s : Supervisor) (t : Typed s) where
       }
 
   onward : (u : Use) → Keeps s u → Typed (u .gave .state)
-  onward u k = subst Typed (sym (ap (λ (g : Stepped). g .state) (k .answer))) (each-step .typed s t (u .call) (length (u .lent)))
+  onward u k = subst Typed (sym (ap (λ (g : Stepped). g .state) (k .answer))) (step-typed s t (u .call) (length (u .lent)))
 
 chained : (s : Supervisor) → Typed s → (us : List Use) → Chain s us → Typed (reached s us)
 chained s t [] k = t

@@ -1,19 +1,19 @@
 -- Statement 1, proved.
 -- Assumes nothing.
 use Prim.Native.Nat.{ℕ, _<_}
-use mathlib.Core.Path.{_≡_, refl, sym, _∙_}
-use mathlib.Core.Logic.{_↔_, inl, inr}
+use mathlib.Core.Path.{_≡_, refl}
+use mathlib.Core.Logic.{_↔_}
 use mathlib.Core.Bool.{Bool, true, false}
-use mathlib.Core.List.{List, [], _∷_}
+use mathlib.Core.List.{List}
 use native.Mathlib.Omega.{arith}
 use lib.Dec.{ltb}
-use borrow.Author.Tests.{ltb-true, ltb-false}
+use borrow.Author.Tests.{ltb-true, ltb-false, lt-ltb}
 use lib.ListN.{length}
 use Rattle.lists.specs.Lists.{if_then_else_}
 use Rattle.lists.proofs.ListLaws.{by-bool, clash}
-use Rattle.rules.specs.Whole.{Typed, soundWhole, stepWhole}
-use Rattle.rules.proofs.Dispatch.{each-step}
-use Rattle.rules.specs.Questions.{countWhole, callableWhole}
+use Rattle.rules.specs.Whole.{soundWhole, stepWhole}
+use Rattle.rules.proofs.Dispatch.{untouched, refused-next, has-room}
+use Rattle.rules.specs.Questions.{countWhole, callableWhole, runningWhole}
 use Rattle.rules.specs.declared.Supervisor.{Supervisor}
 use Rattle.calls.specs.Record.{encode}
 use Rattle.calls.specs.Writing.{writtenOf}
@@ -27,25 +27,8 @@ use Rattle.supervisor.proofs.step.Met as step
 use Rattle.supervisor.proofs.count.Met as count
 use Rattle.supervisor.proofs.callable.Met as callable
 use Rattle.supervisor.proofs.sound.Met as sound
-use Rattle.statements.specs.Refusals.{Row, rows, firstRow}
-use Rattle.statements.specs.Statement1.{RowGiven, Statement1}
+use Rattle.statements.specs.Statement1.{Statement1}
 use Rattle.statements.proofs.Refusals.{by-table}
-
--- the first row that applies, as a number and as a proposition
-to-given : (k : ℕ) (rs : List Row) → 0 < k → firstRow rs ≡ k → RowGiven k rs
-to-given k [] h e = absurd (omega (arith, e))
-to-given k (r ∷ rs) h e = by-bool (r .applies) (λ b. inl (b, rw b at e)) (λ b. inr (b, to-given k rs h (rw b at e)))
-
-of-given : (k : ℕ) (rs : List Row) → RowGiven k rs → firstRow rs ≡ k
-of-given k [] h = absurd h
-of-given k (r ∷ rs) (inl h) = rw (h .0) (h .1)
-of-given k (r ∷ rs) (inr h) = rw (h .0) (of-given k rs (h .1))
-
-step-refused : (s : Supervisor) (c : C.Call) (n k : ℕ) → Typed s → 0 < k → (stepWhole s c n .refusal ≡ k) ↔ RowGiven k (rows s c n)
-step-refused s c n k t h = (
-  λ e. to-given k (rows s c n) h (sym (by-table s c n t) ∙ e),
-  λ g. by-table s c n t ∙ of-given k (rows s c n) g,
-)
 
 -- a question's refusal, from the test of the state
 question : (b : Bool) → (_≡_ {A = ℕ} (if b then 0 else 2) 2) ↔ (b ≡ false)
@@ -60,6 +43,10 @@ callable-refused : (s : Supervisor) (t : ℕ) → (callableWhole s t .refusal �
 unfolding callableWhole
 callable-refused s t = by-bool (soundWhole s) (λ b. rw b (question true)) (λ b. rw b (question false))
 
+running-refused : (s : Supervisor) → (runningWhole s .refusal ≡ 2) ↔ (soundWhole s ≡ false)
+unfolding runningWhole
+running-refused s = by-bool (soundWhole s) (λ b. rw b (question true)) (λ b. rw b (question false))
+
 count-zero : (s : Supervisor) (t e : ℕ) → soundWhole s ≡ false → countWhole s t e .count ≡ 0
 unfolding countWhole
 count-zero s t e b = rw b
@@ -67,6 +54,18 @@ count-zero s t e b = rw b
 callable-no : (s : Supervisor) (t : ℕ) → soundWhole s ≡ false → callableWhole s t .yes ≡ false
 unfolding callableWhole
 callable-no s t b = rw b
+
+running-zero : (s : Supervisor) → soundWhole s ≡ false → runningWhole s .task ≡ 0
+unfolding runningWhole
+running-zero s b = rw b
+
+short-next : (s : Supervisor) (c : C.Call) (n : ℕ) → n < 124 → stepWhole s c n .next ≡ 0
+unfolding stepWhole
+short-next s c n h = rw (lt-ltb n 124 h)
+
+unsound-next : (s : Supervisor) (c : C.Call) (n : ℕ) → soundWhole s ≡ false → stepWhole s c n .next ≡ 0
+unfolding stepWhole
+unsound-next s c n b = by-bool (ltb n 124) (λ h. rw h) (λ h. rw (h, b))
 
 short-room : (c : C.Call) (room : List ℕ) → (writtenOf (encode c) room .refusal ≡ 1) ↔ (length room < length (encode c))
 short-room c room =
@@ -84,14 +83,19 @@ statement1 = record {
   step = step.met;
   count = count.met;
   callable = callable.met;
-  step-refused = step-refused;
+  step-refused = by-table;
   count-refused = count-refused;
   callable-refused = callable-refused;
+  running-refused = running-refused;
   count-zero = count-zero;
   callable-no = callable-no;
-  refused-untouched = each-step .refused;
+  running-zero = running-zero;
+  refused-untouched = untouched;
+  refused-next = refused-next;
+  short-next = short-next;
+  unsound-next = unsound-next;
   bad-record = bad-record-exactly;
   end-of-log = end-of-log-exactly;
   short-room = short-room;
-  no-overflow = each-step .queue-has-room;
+  no-overflow = has-room;
 }

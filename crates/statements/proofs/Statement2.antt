@@ -10,7 +10,7 @@ use Rattle.rules.specs.Step.{takeCall}
 use Rattle.rules.specs.Whole.{view, soundWhole, done, stepWhole}
 use Rattle.rules.specs.Questions.{countWhole}
 use Rattle.rules.specs.declared.Supervisor.{Supervisor}
-use Rattle.rules.proofs.Dispatch.{each-step}
+use Rattle.rules.proofs.Dispatch.{dispatched-after, counted, count-absent}
 use Rattle.calls.specs.declared.Call as C
 use Rattle.calls.proofs.Round.{read-back, one-call, accepted-is}
 use Rattle.statements.specs.Statement2.{Statement2}
@@ -26,11 +26,18 @@ count-is-length s t e h = rw h
 pub statement2 : Statement2
 statement2 = record {
   as-the-rules = λ κs x r y p. record { answer = p .0; room = p .1 };
+  reads = λ κs x r y p. p .0;
+  writes = λ κs x r y p. (p .0, p .1);
+  tells-sound = λ κs x r y p. p;
+  tells-running = λ κs x r y p. p;
+  tells-count = λ κs x r y p. p;
+  tells-callable = λ κs x r y p. p;
   the-rule = the-rule;
-  dispatched = each-step .dispatched;
+  dispatched = dispatched-after;
   read-back = read-back;
   one-call = one-call;
   good-record = accepted-is;
   count-is-length = count-is-length;
-  count-is-number = each-step .counted;
+  count-absent = count-absent;
+  count-is-number = counted;
 }

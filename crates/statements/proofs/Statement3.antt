@@ -51,6 +51,7 @@ module _ (n : ℕ) (run : Run n) where
 
 pub statement3 : Statement3
 statement3 = record {
+  starts = λ κs x r y p. p;
   always-sound = λ n run. ap soundWhole (at-end n run) ∙ over-runs-whole .always-sound n (run .clock) (asks n run);
   waits-counted = λ n run.
       subst (λ (l : List Entry). WaitsCounted l (view (stateOf run))) (sym (read-back (start n) (run .uses) (run .kept)))

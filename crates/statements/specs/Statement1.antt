@@ -5,15 +5,15 @@
 -- Assumes nothing.
 use Prim.Native.Nat.{ℕ, _≤_, _<_}
 use mathlib.Core.Path.{_≡_}
-use mathlib.Core.Logic.{_↔_, _⊎_}
+use mathlib.Core.Logic.{_↔_}
 use mathlib.Core.Bool.{true, false}
-use mathlib.Core.List.{List, [], _∷_}
+use mathlib.Core.List.{List}
 use lib.ListN.{length}
 use Rattle.rules.specs.State as state
 use Rattle.rules.specs.State.{queue}
 use Rattle.rules.specs.Whole.{Typed, view, soundWhole, stepWhole}
 use Rattle.rules.specs.EachStep.{Untouched}
-use Rattle.rules.specs.Questions.{countWhole, callableWhole}
+use Rattle.rules.specs.Questions.{countWhole, callableWhole, runningWhole}
 use Rattle.rules.specs.declared.Supervisor.{Supervisor}
 use Rattle.calls.specs.Record.{encode}
 use Rattle.calls.specs.Reading.{readOf, refusalOf, faulty}
@@ -27,12 +27,7 @@ use Rattle.supervisor.proofs.step.Statement as step
 use Rattle.supervisor.proofs.count.Statement as count
 use Rattle.supervisor.proofs.callable.Statement as callable
 use Rattle.supervisor.proofs.sound.Statement as sound
-use Rattle.statements.specs.Refusals.{Row, rows}
-
--- row k is the first of the rows that applies
-abbrev pub RowGiven : ℕ → List Row → Type 0
-RowGiven k [] = ⊥
-RowGiven k (r ∷ rs) = ((r .applies ≡ true) × (r .number ≡ k)) ⊎ ((r .applies ≡ false) × RowGiven k rs)
+use Rattle.statements.specs.Refusals.{rows, firstRow}
 
 pub record Statement1 : Type 2 where
   -- "ends and does nothing undefined on every input": what the gate proves of each public operation, under its name
@@ -44,16 +39,22 @@ pub record Statement1 : Type 2 where
   pub step : {M : Type 1} → step.statement M
   pub count : {M : Type 1} → count.statement M
   pub callable : {M : Type 1} → callable.statement M
-  -- "bad input gets the refusal number": number k is given exactly when row k of the table is the first that applies
-  pub step-refused : (s : Supervisor) (c : C.Call) (n k : ℕ) → Typed s → 0 < k → (stepWhole s c n .refusal ≡ k) ↔ RowGiven k (rows s c n)
+  -- "bad input gets the refusal number": that of the first row of the table that applies, and 0, which is none, where no row does
+  pub step-refused : (s : Supervisor) (c : C.Call) (n : ℕ) → Typed s → stepWhole s c n .refusal ≡ firstRow (rows s c n)
   -- a question is refused, with 2, exactly when the state is not sound
   pub count-refused : (s : Supervisor) (t e : ℕ) → (countWhole s t e .refusal ≡ 2) ↔ (soundWhole s ≡ false)
   pub callable-refused : (s : Supervisor) (t : ℕ) → (callableWhole s t .refusal ≡ 2) ↔ (soundWhole s ≡ false)
+  pub running-refused : (s : Supervisor) → (runningWhole s .refusal ≡ 2) ↔ (soundWhole s ≡ false)
   -- a refused question answers 0 or no
   pub count-zero : (s : Supervisor) (t e : ℕ) → soundWhole s ≡ false → countWhole s t e .count ≡ 0
   pub callable-no : (s : Supervisor) (t : ℕ) → soundWhole s ≡ false → callableWhole s t .yes ≡ false
+  pub running-zero : (s : Supervisor) → soundWhole s ≡ false → runningWhole s .task ≡ 0
   -- "a refused step returns the state it was given, an empty list of ended waits, and lent room untouched"
   pub refused-untouched : (s : Supervisor) (c : C.Call) (n : ℕ) → 0 < stepWhole s c n .refusal → Untouched s (stepWhole s c n)
+  -- the dispatched task that it answers is that of the unchanged state; 0 after 1 and 2
+  pub refused-next : (s : Supervisor) (c : C.Call) (n : ℕ) → 2 < stepWhole s c n .refusal → stepWhole s c n .next ≡ state.running (view s)
+  pub short-next : (s : Supervisor) (c : C.Call) (n : ℕ) → n < 124 → stepWhole s c n .next ≡ 0
+  pub unsound-next : (s : Supervisor) (c : C.Call) (n : ℕ) → soundWhole s ≡ false → stepWhole s c n .next ≡ 0
   -- the reader: BAD_RECORD exactly when bytes are left and one of six faults is there, END_OF_LOG exactly when none is left
   pub bad-record : (s : List ℕ) → (refusalOf (readOf s) ≡ 11) ↔ ((0 < length s) × (faulty s ≡ true))
   pub end-of-log : (s : List ℕ) → (refusalOf (readOf s) ≡ 12) ↔ (length s ≡ 0)

@@ -10,8 +10,9 @@ use denote.Ref.{now}
 use Rattle.rules.specs.State.{queue}
 use Rattle.rules.specs.Step.{takeCall}
 use Rattle.rules.specs.Whole.{Typed, view, soundWhole, done, stepWhole}
-use Rattle.rules.specs.Questions.{countWhole}
+use Rattle.rules.specs.Questions.{countWhole, callableWhole, runningWhole}
 use Rattle.rules.specs.EachStep.{Dispatched, waitingOn}
+use Rattle.rules.specs.SoundFacts.{HasEntry}
 use Rattle.rules.specs.Uses.{Keeps}
 use Rattle.rules.specs.declared.Supervisor.{Supervisor}
 use Rattle.calls.specs.declared.Call as C
@@ -19,12 +20,27 @@ use Rattle.calls.specs.declared.Read.the-variants.{Record}
 use Rattle.calls.specs.Record.{encode}
 use Rattle.calls.specs.Reading.{readOf}
 use Rattle.calls.specs.Range.{InRange, Bytes}
+use Rattle.calls.specs.Writing.{writtenOf, roomAfter}
+use Rattle.calls.proofs.read_record.Reads as read-record
+use Rattle.calls.proofs.write_record.Reads as write-record
 use Rattle.supervisor.proofs.step.Reads as step
+use Rattle.supervisor.proofs.sound.Reads as sound
+use Rattle.supervisor.proofs.running.Reads as running
+use Rattle.supervisor.proofs.count.Reads as count
+use Rattle.supervisor.proofs.callable.Reads as callable
 
 pub record Statement2 : Type 1 where
   -- whatever the contract of `step` allows, in a state x .0 with the call x .1 .0 and a lent room, is a use that keeps the rules' step
   pub as-the-rules : (κs : _) (x : _) (r : _) (y : _) → step.Post κs x r y
       → Keeps (x .0) (record { call = x .1 .0; lent = now (x .1 .1 .0); gave = r; wrote = now (y .1 .1 .0) })
+  -- the same of the reader, the writer and the questions: whatever their contracts allow is what the definitions say
+  pub reads : (κs : _) (x : _) (r : _) (y : _) → read-record.Post κs x r y → r ≡ readOf (now (x .0))
+  pub writes : (κs : _) (x : _) (r : _) (y : _) → write-record.Post κs x r y
+      → (r ≡ writtenOf (encode (x .0)) (now (x .1 .0))) × (now (y .1 .0) ≡ roomAfter (encode (x .0)) (now (x .1 .0)))
+  pub tells-sound : (κs : _) (x : _) (r : _) (y : _) → sound.Post κs x r y → r ≡ soundWhole (x .0)
+  pub tells-running : (κs : _) (x : _) (r : _) (y : _) → running.Post κs x r y → r ≡ runningWhole (x .0)
+  pub tells-count : (κs : _) (x : _) (r : _) (y : _) → count.Post κs x r y → r ≡ countWhole (x .0) (x .1 .0) (x .1 .1 .0)
+  pub tells-callable : (κs : _) (x : _) (r : _) (y : _) → callable.Post κs x r y → r ≡ callableWhole (x .0) (x .1 .0)
   -- with room enough and in a sound state, the rules' step is the rule of the call: next state, result, ended waits, dispatched task
   pub the-rule : (s : Supervisor) (c : C.Call) (n : ℕ) → 124 ≤ n → soundWhole s ≡ true → stepWhole s c n ≡ done s (takeCall (view s) c)
   -- "the dispatched task heads the highest ready level"; it is 0 where nobody is ready
@@ -35,6 +51,7 @@ pub record Statement2 : Type 1 where
   pub one-call : (c c′ : C.Call) → InRange c → InRange c′ → encode c ≡ encode c′ → c ≡ c′
   -- "each good record one call": what is accepted is the record of the call that it gives
   pub good-record : (s : List ℕ) (c : C.Call) (n : ℕ) → Bytes s → readOf s ≡ Record c n → take n s ≡ encode c
-  -- COUNT is the length of that queue, and so the number of tasks that wait on that entry
+  -- COUNT is the length of that queue, 0 for a task or entry that is not there, and so the number of tasks that wait on that entry
   pub count-is-length : (s : Supervisor) (t e : ℕ) → soundWhole s ≡ true → countWhole s t e .count ≡ length (queue (view s) t e)
+  pub count-absent : (s : Supervisor) → Typed s → soundWhole s ≡ true → (t e : ℕ) → (HasEntry (view s) t e → ⊥) → countWhole s t e .count ≡ 0
   pub count-is-number : (s : Supervisor) → Typed s → soundWhole s ≡ true → (t e : ℕ) → countWhole s t e .count ≡ length (waitingOn (view s) t e)

@@ -11,6 +11,7 @@ use Rattle.rules.specs.Runs.{Entry, start}
 use Rattle.rules.specs.OverRuns.{WaitsCounted, EndsOnce, WereWaiting, SixReasons, FewEnds, HeldTillEnd, TimedWaits}
 use Rattle.rules.specs.Uses.{Use, Keeps, Chain, readEntry, readLog}
 use Rattle.rules.specs.declared.Supervisor.{Supervisor}
+use Rattle.supervisor.proofs.empty.Reads as empty
 
 -- the state that the uses reach
 abbrev pub reached : Supervisor → List Use → Supervisor
@@ -30,7 +31,9 @@ stateOf {n} run = reached (start n) (run .uses)
 abbrev pub logOf : {n : ℕ} → Run n → List Entry
 logOf {n} run = readLog (start n) (run .uses)
 
-pub record Statement3 : Type 0 where
+pub record Statement3 : Type 1 where
+  -- "from an empty supervisor": whatever the contract of `empty` allows is the start of a run with that clock
+  pub starts : (κs : _) (x : _) (r : _) (y : _) → empty.Post κs x r y → r ≡ start (x .0)
   -- "every state reached is sound"
   pub always-sound : (n : ℕ) (run : Run n) → soundWhole (stateOf run) ≡ true
   -- "for each task the waits begun equal the waits ended plus one if it is waiting now"

@@ -20,7 +20,7 @@ use Rattle.supervisor.specs.Taken.{Stands, takenOf, endedBy}
 use Rattle.supervisor.specs.declared.answers.Taken.{Taken}
 use Rattle.rules.specs.declared.Answer.{Answer}
 use Rattle.rules.specs.declared.Stepped.{Stepped}
-use Rattle.rules.specs.declared.Known.{Known}
+use Rattle.rules.specs.declared.Callable.{Callable}
 use Rattle.rules.specs.Questions.{callableWhole}
 use Rattle.calls.specs.declared.Call as C
 
@@ -66,6 +66,6 @@ created-sound : (s : Supervisor) → soundWhole s ≡ true → length (s .tasks)
 created-sound s h k = length-take-le (s .created) (s .tasks) (omega (arith, parts s h .few, k))
 
 pub callable-is : (s : Supervisor) (t : ℕ) (b d : Bool) (x : Task) → soundWhole s ≡ true → length (s .tasks) ≡ 31 → b ≡ (ltb 0 t && leb t (s .created)) → x ≡ taskOf (view s) t → d ≡ isCompleted (x .place)
-    → _≡_ {A = Known} (record { refusal = 0; yes = b && not d }) (callableWhole s t)
+    → _≡_ {A = Callable} (record { refusal = 0; yes = b && not d }) (callableWhole s t)
 unfolding callableWhole
 callable-is s t b d x h k eb ex ed = rw (h, eb, ed, ex, created-sound s h k)

@@ -14,7 +14,7 @@ ghost use Prim.Native.Nat.{_≤_};
 ghost use lib.Dec.{ltb};
 ghost use lib.ListN.{length};
 ghost use mathlib.Core.Path.{_≡_};
-ghost use Rattle.rules.specs.Questions.{countWhole, callableWhole};
+ghost use Rattle.rules.specs.Questions.{countWhole, callableWhole, runningWhole};
 ghost use Rattle.rules.specs.Step.{takeCall, roomAfter};
 ghost use Rattle.rules.specs.State as state;
 ghost use Rattle.rules.specs.Whole.{steppedOf, view, pack, soundWhole, stepWhole};
@@ -23,8 +23,9 @@ use answers::Taken;
 use calls::Call;
 use calls::numbers::SHORT_ROOM;
 use rules::Answer;
+use rules::Callable;
 use rules::Count;
-use rules::Known;
+use rules::Running;
 use rules::Stepped;
 use rules::Supervisor;
 use rules::numbers::BAD_STATE;
@@ -96,7 +97,7 @@ pub fn step(s: Supervisor, c: Call, room: &mut [u8]) -> Stepped
     }
     let k = take_call(s, c, room);
     let after = k.state;
-    let next = running(after);
+    let next = table::dispatch::running(after);
     Stepped {
         state: after,
         answer: Answer {
@@ -135,11 +136,18 @@ pub fn sound(s: Supervisor) -> bool
     is_sound(s)
 }
 
-// The running task, 0 where nobody is ready.
-pub fn running(s: Supervisor) -> u8
-    ensures { λ r. ⌜ r ≡ state.running (view s) ⌝ }
+// Who runs: the head of the highest ready queue that is not empty, 0 where nobody is ready.
+pub fn running(s: Supervisor) -> Running
+    ensures { λ r. ⌜ r ≡ runningWhole s ⌝ }
 {
-    table::dispatch::running(s)
+    if is_sound(s) {
+        let task = table::dispatch::running(s);
+        return Running { refusal: 0, task };
+    }
+    Running {
+        refusal: BAD_STATE,
+        task: 0,
+    }
 }
 
 // COUNT: how many are queued on entry e of task t.
@@ -169,18 +177,18 @@ pub fn count(s: Supervisor, t: u8, e: u8) -> Count
 }
 
 // CALLABLE: whether task t was created and has not completed.
-pub fn callable(s: Supervisor, t: u8) -> Known
+pub fn callable(s: Supervisor, t: u8) -> Callable
     ensures { λ r. ⌜ r ≡ callableWhole s t ⌝ }
 {
     if is_sound(s) {
         let x = task_of(s, t);
         let p = x.place;
-        return Known {
+        return Callable {
             refusal: 0,
             yes: is_between(t, s.created) & !is_completed(p),
         };
     }
-    Known {
+    Callable {
         refusal: BAD_STATE,
         yes: false,
     }

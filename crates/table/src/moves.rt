@@ -1,4 +1,4 @@
-// The one way in which a task changes its place.
+// How tasks change their places: one of them (`moved`), or all of a line at once (`woken`), which is a move of each.
 ghost use mathlib.Core.Path.{_≡_};
 ghost use Rattle.lists.specs.Line.{line, pad};
 ghost use Rattle.lists.specs.Marks.{noMarks, marked};

@@ -3,7 +3,7 @@ use denote.Ref.{now}
 use Rattle.lists.specs.Lists.{bit}
 use Rattle.rules.specs.declared.Supervisor.{Supervisor}
 use Rattle.rules.specs.Questions.{callableWhole}
-use Rattle.rules.specs.declared.Known.{Known}
+use Rattle.rules.specs.declared.Callable.{Callable}
 use Rattle.codec.specs.Layout.{stateIn}
 use Rattle.card.specs.Answers.{ifRoom, oneAfter}
 use Rattle.card.proofs.CardLaws.{one-as}
@@ -27,7 +27,7 @@ returns c =
     let p = c .before .before in
     let k = p .before .before .before in
     let q = known k in
-    one-as (now (k .before .before .before .before .args .answer)) _ _ _ _ _ _ (put p) (ap (λ (k : Known). k .refusal) q) (p .before .flag .ensures ∙ ap (λ (k : Known). bit (k .yes)) q)
+    one-as (now (k .before .before .before .before .args .answer)) _ _ _ _ _ _ (put p) (ap (λ (k : Callable). k .refusal) q) (p .before .flag .ensures ∙ ap (λ (k : Callable). bit (k .yes)) q)
 
 pub card-callable-spec : {M : Type 1} → statement M
 card-callable-spec =

@@ -1,24 +1,32 @@
-use mathlib.Core.Path.{sym, _∙_}
+use mathlib.Core.Path.{_≡_, ap, _∙_}
 use denote.Ref.{now}
-use Rattle.card.proofs.CardLaws.{running-yes, running-no, one-as}
+use Rattle.rules.specs.Questions.{runningWhole}
+use Rattle.rules.specs.declared.Running.{Running}
+use Rattle.codec.specs.Layout.{stateIn}
+use Rattle.card.specs.Answers.{ifRoom, oneAfter}
+use Rattle.card.proofs.CardLaws.{one-as}
 use borrow.Author.Needs.{needs}
 use Rattle.card.proofs.card_running.Statement.{statement}
 use Rattle.card.proofs.card_running.Tie as tie
 
+-- the state in the bytes was asked
+asked : (c : tie.After-running) → c .running .result ≡ runningWhole (stateIn (now (c .before .before .before .before .args .state)))
+asked c = c .running .ensures ∙ ap runningWhole (c .before .state-in .ensures)
+
+-- its refusal is returned
+returned : (c : tie.After-put-one) → let k = c .before .before in c .put-one .result ≡ ifRoom 1 (now (k .before .before .before .before .args .answer)) 1 (k .running .result .refusal)
+returned c = c .put-one .ensures .0
+
+-- and the task put into the answer
+written : (c : tie.After-put-one) → let k = c .before .before in c .put-one .last .0 ≡ oneAfter (now (k .before .before .before .before .args .answer)) (k .running .result .task)
+written c = c .put-one .ensures .1
+
 returns : tie.Need-returns
 returns c =
-    let a = c .before .before .before .before .before .before .before .before .before .before .args in
-    let y = running-yes (now (a .state)) (c .before .before .before .before .before .before .before .state-in .result) (c .before .before .before .before .before .before .before .state-in .ensures) (c .before .before .before .running .result) (sym (c .before .before .before .before .before .before .sound .ensures) ∙ c .before .before .before .before .before .if1 .taken) (c .before .before .before .running .ensures) in
-    one-as (now (a .answer)) _ _ _ _ _ _ (c .before .before .put-one .ensures) (y .0) (y .1)
-
-returns-2 : tie.Need-returns-2
-returns-2 c =
-    let a = c .before .before .before .before .before .before .before .before .before .args in
-    let n = running-no (now (a .state)) (c .before .before .before .before .before .before .state-in .result) (c .before .before .before .before .before .before .state-in .ensures) (sym (c .before .before .before .before .before .sound .ensures) ∙ c .before .before .before .before .if1 .left) in
-    one-as (now (a .answer)) _ _ _ _ _ _ (c .before .before .put-one2 .ensures) (n .0) (n .1)
+    let p = c .before .before in
+    let k = p .before .before in
+    let q = asked k in
+    one-as (now (k .before .before .before .before .args .answer)) _ _ _ _ _ _ (returned p, written p) (ap (λ (k : Running). k .refusal) q) (ap (λ (k : Running). k .task) q)
 
 pub card-running-spec : {M : Type 1} → statement M
-card-running-spec =
-    tie.close
-    (tie.spec (λ c κs. search needs) (λ c κs. search needs) (λ c κs. search needs) (λ c κs. search needs) (λ c κs. search needs)
-    (λ c. search needs) returns (λ c. search needs) returns-2)
+card-running-spec = tie.close (tie.spec (λ c κs. search needs) (λ c κs. search needs) (λ c κs. search needs) (λ c. search needs) returns)

@@ -1,22 +1,24 @@
 use borrow.Author.Needs.{needs}
-use mathlib.Core.Path.{_≡_}
-use mathlib.Core.Bool.{true, false}
-use lib.Dec.{eqb}
-use Rattle.lists.proofs.ListLaws.{by-bool}
-use Rattle.rules.specs.State as state
-use Rattle.rules.specs.Whole.{view}
-use Rattle.lists.proofs.Parts.{need, When}
+use mathlib.Core.Path.{_∙_, sym}
+use Rattle.rules.specs.Questions.{runningWhole}
+use Rattle.lists.proofs.Parts.{need, Field}
 use Rattle.supervisor.proofs.running.Statement.{statement}
 use Rattle.supervisor.proofs.running.Tie as tie
 
-nobody-ready : When (need tie.Need-returns) (λ c. eqb (state.running (view (c .before .args .s))) 0 ≡ true)
-nobody-ready c e = c .running .ensures
+refusal-here : Field (need tie.Need-returns) (λ r. r .refusal)
+unfolding runningWhole
+refusal-here c = rw (sym (c .before .before .is-sound .ensures) ∙ c .before .if1 .taken)
 
-somebody-ready : When (need tie.Need-returns) (λ c. eqb (state.running (view (c .before .args .s))) 0 ≡ false)
-somebody-ready c e = c .running .ensures
+task-here : Field (need tie.Need-returns) (λ r. r .task)
+unfolding runningWhole
+task-here c = rw (sym (c .before .before .is-sound .ensures) ∙ c .before .if1 .taken) (c .running .ensures)
 
 returns : tie.Need-returns
-returns c = by-bool (eqb (state.running (view (c .before .args .s))) 0) (nobody-ready c) (somebody-ready c)
+returns c = λ i. record { refusal = refusal-here c i; task = task-here c i }
+
+returns-2 : tie.Need-returns-2
+unfolding runningWhole
+returns-2 c = let q = sym (c .before .is-sound .ensures) ∙ c .if1 .left in rw q
 
 pub running-spec : {M : Type 1} → statement M
-running-spec = tie.close (tie.spec (λ c κs. search needs) returns)
+running-spec = tie.close (tie.spec (λ c κs. search needs) (λ c κs. search needs) returns returns-2)

@@ -4,6 +4,7 @@ use lib.Dec.{eqb, ltb}
 use borrow.Author.Tests.{eq-eqb, ne-eqb}
 use Rattle.report.specs.Lines.{lineText}
 use Rattle.rules.specs.declared.Answer.{Answer}
+use Rattle.rules.specs.declared.Running.{Running}
 use Rattle.text.proofs.Puts.{put-none, same-text}
 use Rattle.session.specs.Turn.{refusedAnswer}
 use Rattle.session.proofs.TurnLaws.{says, asks-more, ends, says-bad}
@@ -42,7 +43,7 @@ returns-3 c =
     let r = f .before in
     let e = r .before in
     let a = e .before .before .before .before .args in
-    let answer = f .refused-answer .ensures ∙ ap (refusedAnswer (a .n)) (r .running .ensures) in
+    let answer = f .refused-answer .ensures ∙ ap (λ (k : Running). refusedAnswer (a .n) (k .task)) (r .running .ensures) in
     says _ _ (says-bad (a .s) (a .n) (a .many) (a .last) (a .room .now) (no-more (e .before)) (bad e))
     (same-text (ap (λ (x : Answer). lineText (a .s .step) x (a .room .now)) answer) (p .put-line .ensures))
 
