@@ -2,17 +2,17 @@
 -- Assumes nothing.
 use Prim.Native.Nat.{ℕ, suc, _+_, _-_, _/_, _%_, _≤_, _<_, min}
 use mathlib.Core.Path.{_≡_, refl, ap, _∙_}
-use mathlib.Core.Bool.{Bool, true, false, cond, _&&_, and-false}
+use mathlib.Core.Bool.{Bool, true, false, not, cond, _&&_, and-false}
 use mathlib.Core.List.{List, [], _∷_, _++_}
 use native.Mathlib.Omega.{arith}
-use lib.Dec.{eqb, ltb}
+use lib.Dec.{eqb}
 use lib.ListN.{length, getD, drop, length-take, drop-of-length-le}
 use lib.Seq.{getD-take}
 use borrow.Author.Tests.{eq-eqb, ne-eqb, eqb-true, eqb-false}
 use Rattle.lists.proofs.ListLaws.{by-bool}
 use Rattle.lists.proofs.Turns.{rest-cons}
 use Rattle.script.specs.CallText.{entry, entries}
-use Rattle.script.specs.Words.{partOf, wordsFrom}
+use Rattle.script.specs.Words.{isBlank, partOf, wordsFrom}
 use Rattle.script.specs.Guess.{alike, hear, heardOf}
 use Rattle.script.specs.Rows.{textIn}
 use Rattle.script.specs.declared.row.Row.{Row}
@@ -36,7 +36,7 @@ no-entry i mark rest h = let f : 8 - i ≡ 0 = omega arith in rw f refl
 -- ── the words of a line ──
 
 pub next-part : (line : List ℕ) (inside : Bool) (i : ℕ) → i < length line → (getD line i 0 ≡ 35 → ⊥)
-    → wordsFrom inside (drop i line) ≡ partOf inside (getD line i 0) ++ wordsFrom (ltb 32 (getD line i 0)) (drop (i + 1) line)
+    → wordsFrom inside (drop i line) ≡ partOf inside (getD line i 0) ++ wordsFrom (not (isBlank (getD line i 0))) (drop (i + 1) line)
 next-part line inside i h n = rw (rest-cons line i 0 h, ne-eqb (getD line i 0) 35 n) refl
 
 pub comment : (line : List ℕ) (inside : Bool) (i : ℕ) → i < length line → getD line i 0 ≡ 35 → wordsFrom inside (drop i line) ≡ []

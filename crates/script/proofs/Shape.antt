@@ -8,7 +8,7 @@ use native.Mathlib.Omega.{arith}
 use lib.Dec.{eqb}
 use lib.IntN.{ℤ, pos, negsuc}
 use lib.ListN.{length, length-append}
-use borrow.Author.Tests.{ne-eqb, lt-leb, lt-ltb}
+use borrow.Author.Tests.{ne-eqb}
 use mir.Syntax.{w32}
 use mir.Val.{SFits}
 use Rattle.lists.proofs.ListLaws.{by-bool}
@@ -20,7 +20,7 @@ use Rattle.calls.specs.declared.Call.the-variants.{Create, Delay, Call, Select,
 use Rattle.text.specs.Text.{decimal}
 use Rattle.script.specs.CallText.{spaced, spacedTime, entries, openText, callModeText, selectModeText, textOf}
 use Rattle.script.specs.WordTable.{modeText}
-use Rattle.script.specs.Words.{wordsFrom, wordsOf}
+use Rattle.script.specs.Words.{isBlank, wordsFrom, wordsOf}
 use Rattle.script.specs.Says.{Fits}
 use Rattle.script.proofs.Digits.{AllPlain, decimal-plain, decimal-some, decimal-short}
 use Rattle.script.proofs.Modes.{call-mode-text, select-mode-text}
@@ -35,19 +35,23 @@ Tidy l = (r : List ℕ) → wordsFrom true (l ++ r) ≡ l ++ wordsFrom true r
 tidy-append : (a b : List ℕ) → Tidy a → Tidy b → Tidy (a ++ b)
 tidy-append a b p q r = rw (append-assoc a b r, append-assoc a b (wordsFrom true r)) (p (b ++ r) ∙ ap (λ (l : List ℕ). a ++ l) (q r))
 
+-- what stands in words is no blank
+no-blank : (b : ℕ) → 32 < b → isBlank b ≡ false
+no-blank b h = rw (ne-eqb b 32 (λ e. omega arith), ne-eqb b 9 (λ e. omega arith), ne-eqb b 13 (λ e. omega arith))
+
 plain-on : (l : List ℕ) → AllPlain l → Tidy l
 plain-on [] p r = refl
 plain-on (b ∷ l) p r =
     let h = p .0 .low in
     let n : b ≡ 35 → ⊥ = λ e. omega arith in
-    rw (ne-eqb b 35 n, lt-leb b 32 (omega arith), lt-ltb 32 b (omega arith)) (ap (λ (l : List ℕ). b ∷ l) (plain-on l (p .1) r))
+    rw (ne-eqb b 35 n, no-blank b (omega arith)) (ap (λ (l : List ℕ). b ∷ l) (plain-on l (p .1) r))
 
 tidy-word : (l : List ℕ) → AllPlain l → 0 < length l → Tidy (32 ∷ l)
 tidy-word [] p h r = absurd (omega arith)
 tidy-word (b ∷ l) p h r =
     let g = p .0 .low in
     let n : b ≡ 35 → ⊥ = λ e. omega arith in
-    rw (ne-eqb b 35 n, lt-leb b 32 (omega arith), lt-ltb 32 b (omega arith)) (ap (λ (l : List ℕ). 32 ∷ b ∷ l) (plain-on l (p .1) r))
+    rw (ne-eqb b 35 n, no-blank b (omega arith)) (ap (λ (l : List ℕ). 32 ∷ b ∷ l) (plain-on l (p .1) r))
 
 tidy-number : (n : ℕ) → Tidy (spaced n)
 unfolding spaced

@@ -2,7 +2,7 @@
 ghost use mathlib.Core.Path.{_≡_};
 ghost use Prim.Native.Nat.{_≤_};
 ghost use Rattle.script.specs.Rows.{textIn, cut, Grown};
-ghost use Rattle.script.specs.Words.{partOf, wordsOf};
+ghost use Rattle.script.specs.Words.{isBlank, partOf, wordsOf};
 ghost use Rattle.script.specs.Says.{Says};
 ghost use Rattle.script.specs.Guess.{alike};
 use crate::Line;
@@ -14,11 +14,18 @@ use crate::row::empty;
 use crate::row::with_byte;
 use text::least;
 
+// What stands between words: a blank, a tab, the carriage return of a line end.
+fn is_blank(b: u8) -> bool
+    ensures { λ r. ⌜ r ≡ isBlank b ⌝ }
+{
+    (b == 32) | (b == 9) | (b == 13)
+}
+
 // What a byte of a line adds to its words.
 fn with_part(row: Row, inside: bool, b: u8) -> Row
     ensures { λ r. ⌜ Grown row (partOf inside b) r ⌝ }
 {
-    if b <= 32 {
+    if is_blank(b) {
         return row;
     }
     if inside {
@@ -41,7 +48,7 @@ fn words_of(line: &[u8]) -> Row
             return words;
         }
         words = with_part(words, inside, b);
-        inside = 32 < b;
+        inside = !is_blank(b);
         i += 1;
     }
     words

@@ -33,9 +33,11 @@ returns c =
 
 loop-again : tie.Need-loop-again Inv-loop μ-loop
 loop-again c =
-    let l = c .before .before .before .before .loop in
-    let w = c .before .before .before .before .before .before .before .args .line .now in
-    (omega arith, (c .with-part .ensures .long, growing-on _ (c .with-part .ensures) (next-part w (l .inside) (l .i) (omega arith) (c .before .if1 .left)) (l .inv .1 .1)))
+    let p = c .before in
+    let l = p .before .before .before .before .loop in
+    let w = p .before .before .before .before .before .before .before .args .line .now in
+    rw (c .is-blank .ensures)
+    (omega arith, (p .with-part .ensures .long, growing-on _ (p .with-part .ensures) (next-part w (l .inside) (l .i) (omega arith) (p .before .if1 .left)) (l .inv .1 .1)))
 
 returns-2 : tie.Need-returns-2 Inv-loop μ-loop
 unfolding wordsOf
@@ -47,5 +49,5 @@ returns-2 c =
 pub words-of-spec : {M : Type 1} → statement M
 words-of-spec =
     tie.close
-    (tie.spec Inv-loop μ-loop (λ c κs. search needs) loop-holds (λ c. omega arith) returns (λ c κs. search needs)
+    (tie.spec Inv-loop μ-loop (λ c κs. search needs) loop-holds (λ c. omega arith) returns (λ c κs. search needs) (λ c κs. search needs)
     (λ c. omega arith) (λ c. omega arith) loop-again returns-2)
