@@ -1,49 +1,17 @@
 -- Laws of the lists of specs/Lists.antt: what filter, remove, insert do to a count and to an order; tests taken apart.
 -- Assumes nothing.
 use Prim.Native.Nat.{ℕ, zero, suc, _+_, _≤_, _<_}
-use mathlib.Core.Path.{_≡_, refl, sym, _∙_, ap, subst}
-use mathlib.Core.Bool.{Bool, true, false, not, _&&_, true≢false}
+use mathlib.Core.Path.{_≡_, refl, sym, _∙_, ap}
+use mathlib.Core.Bool.{Bool, true, false, not, true≢false}
 use mathlib.Core.List.{List, [], _∷_, _++_, map}
 use native.Mathlib.Omega.{arith}
 use lib.ListN.{length, length-map}
-use lib.Dec.{T, eqb, ltb, leb, leb→le, le→leb}
-use borrow.Author.Tests.{eqb-true, eqb-false, eq-eqb, ne-eqb, ltb-true, ltb-false}
+use lib.Dec.{eqb, ltb, leb}
+use borrow.Author.Tests.{eqb-true, eqb-false, eq-eqb, ne-eqb, ltb-true, ltb-false, leb-true, le-leb}
 use Rattle.lists.specs.Lists.{if_then_else_, bit, filter, remove, insert, count, every, inOrder, downFrom}
+use Rattle.lists.proofs.Tests.{and-first, and-second, and-both}
 
 -- ── tests ──
-
--- a test that passes is true
-pub is-true : (b : Bool) → T b → b ≡ true
-is-true true h = refl
-is-true false h = absurd h
-
--- a test that fails is false
-pub is-false : (b : Bool) → T (not b) → b ≡ false
-is-false true h = absurd h
-is-false false h = refl
-
--- a test that is true passes
-pub true-T : {b : Bool} → b ≡ true → T b
-true-T e = subst T (sym e) tt
-
--- the first part of an `and`
-pub and-l : (a b : Bool) → T (a && b) → T a
-and-l true b h = tt
-and-l false b h = h
-
--- the second part of an `and`
-pub and-r : (a b : Bool) → T (a && b) → T b
-and-r true b h = h
-and-r false b h = absurd h
-
--- both parts make an `and`
-pub both : (a b : Bool) → T a → T b → T (a && b)
-both true b h k = k
-both false b h k = h
-
--- a test that is false fails
-pub not-T : {b : Bool} → b ≡ false → T (not b)
-not-T e = subst (λ (b : Bool). T (not b)) (sym e) tt
 
 -- a test that passes and fails
 pub clash : {A : Type 0} {b : Bool} → b ≡ true → b ≡ false → A
@@ -77,7 +45,7 @@ count-filter-yes f u (x ∷ xs) h = go (f x) refl (count-filter-yes f u xs h)
   where
     go : (b : Bool) → f x ≡ b → count u (filter f xs) ≡ count u xs → count u (if b then x ∷ filter f xs else filter f xs) ≡ bit (eqb x u) + count u xs
     go true e ih = omega (arith, ih)
-    go false e ih = rw (ne-eqb x u (λ q. let z : false ≡ true = sym e ∙ ap f q ∙ h in subst T (sym z) tt)) (omega (arith, ih))
+    go false e ih = rw (ne-eqb x u (λ q. clash (ap f q ∙ h) e)) (omega (arith, ih))
 
 -- who fails it is gone
 pub count-filter-no : (f : ℕ → Bool) (u : ℕ) (l : List ℕ) → f u ≡ false → count u (filter f l) ≡ 0
@@ -85,7 +53,7 @@ count-filter-no f u [] h = refl
 count-filter-no f u (x ∷ xs) h = go (f x) refl (count-filter-no f u xs h)
   where
     go : (b : Bool) → f x ≡ b → count u (filter f xs) ≡ 0 → count u (if b then x ∷ filter f xs else filter f xs) ≡ 0
-    go true e ih = rw (ne-eqb x u (λ q. let z : false ≡ true = sym h ∙ ap f (sym q) ∙ e in subst T (sym z) tt)) (omega (arith, ih))
+    go true e ih = rw (ne-eqb x u (λ q. clash e (ap f q ∙ h))) (omega (arith, ih))
     go false e ih = ih
 
 -- t is gone from the list without t
@@ -108,14 +76,14 @@ count-insert f t u (x ∷ xs) = go (f x) (count-insert f t u xs)
 -- ── every, by the members ──
 
 -- what holds of all holds of each member
-pub every-at : (g : ℕ → Bool) (l : List ℕ) → T (every g l) → (x : ℕ) → 0 < count x l → T (g x)
+pub every-at : (g : ℕ → Bool) (l : List ℕ) → every g l ≡ true → (x : ℕ) → 0 < count x l → g x ≡ true
 every-at g [] h x k = absurd (omega arith)
-every-at g (y ∷ ys) h x k = by-eq y x (λ e. subst (λ (z : ℕ). T (g z)) e (and-l (g y) (every g ys) h)) (λ n. every-at g ys (and-r (g y) (every g ys) h) x (omega (arith, rw (ne-eqb y x n) at k)))
+every-at g (y ∷ ys) h x k = by-eq y x (λ e. ap g (sym e) ∙ and-first (g y) (every g ys) h) (λ n. every-at g ys (and-second (g y) (every g ys) h) x (omega (arith, rw (ne-eqb y x n) at k)))
 
 -- what holds of each member holds of all
-pub every-of : (g : ℕ → Bool) (l : List ℕ) → ((x : ℕ) → 0 < count x l → T (g x)) → T (every g l)
-every-of g [] h = tt
-every-of g (y ∷ ys) h = both (g y) (every g ys) (h y (rw (eq-eqb y y refl) (omega arith))) (every-of g ys (λ x k. h x (omega arith)))
+pub every-of : (g : ℕ → Bool) (l : List ℕ) → ((x : ℕ) → 0 < count x l → g x ≡ true) → every g l ≡ true
+every-of g [] h = refl
+every-of g (y ∷ ys) h = and-both (h y (rw (eq-eqb y y refl) (omega arith))) (every-of g ys (λ x k. h x (omega arith)))
 
 -- ── order ──
 
@@ -125,20 +93,18 @@ Ordered k [] = Unit {0}
 Ordered k (x ∷ xs) = ((y : ℕ) → 0 < count y xs → k x ≤ k y) × Ordered k xs
 
 -- a list that passes the test of order is in order
-pub ordered-of : (k : ℕ → ℕ) (l : List ℕ) → T (inOrder (λ a b. leb (k a) (k b)) l) → Ordered k l
+pub ordered-of : (k : ℕ → ℕ) (l : List ℕ) → inOrder (λ a b. leb (k a) (k b)) l ≡ true → Ordered k l
 ordered-of k [] o = tt
 ordered-of k (x ∷ xs) o =
     let e = every (λ b. leb (k x) (k b)) xs in
     let r = inOrder (λ a b. leb (k a) (k b)) xs in
-    (λ y j. leb→le (k x) (k y) (every-at (λ b. leb (k x) (k b)) xs (and-l e r o) y j), ordered-of k xs (and-r e r o))
+    (λ y j. leb-true (k x) (k y) (every-at (λ b. leb (k x) (k b)) xs (and-first e r o) y j), ordered-of k xs (and-second e r o))
 
 -- a list in order passes the test
-pub in-order : (k : ℕ → ℕ) (l : List ℕ) → Ordered k l → T (inOrder (λ a b. leb (k a) (k b)) l)
-in-order k [] o = tt
+pub in-order : (k : ℕ → ℕ) (l : List ℕ) → Ordered k l → inOrder (λ a b. leb (k a) (k b)) l ≡ true
+in-order k [] o = refl
 in-order k (x ∷ xs) o =
-    both (every (λ b. leb (k x) (k b)) xs) (inOrder (λ a b. leb (k a) (k b)) xs)
-    (every-of (λ b. leb (k x) (k b)) xs (λ y j. le→leb (k x) (k y) (o .0 y j)))
-    (in-order k xs (o .1))
+    and-both (every-of (λ b. leb (k x) (k b)) xs (λ y j. le-leb (k x) (k y) (o .0 y j))) (in-order k xs (o .1))
 
 -- a filtered list has nobody more often
 pub count-filter-le : (f : ℕ → Bool) (u : ℕ) (l : List ℕ) → count u (filter f l) ≤ count u l
@@ -239,3 +205,7 @@ down-once u (suc n) a b = by-eq (suc n) u (λ e. rw (eq-eqb (suc n) u e) (omega 
     down-none : (u n : ℕ) → n < u → count u (downFrom n) ≡ 0
     down-none u zero k = refl
     down-none u (suc n) k = rw (ne-eqb (suc n) u (λ e. omega (arith, e, k))) (omega (arith, down-none u n (omega arith)))
+
+-- what holds of all of them holds of each of 1..n
+pub down-at : (f : ℕ → Bool) (n : ℕ) → every f (downFrom n) ≡ true → (t : ℕ) → 0 < t → t ≤ n → f t ≡ true
+down-at f n e t a b = every-at f (downFrom n) e t (omega (arith, down-once t n a b))

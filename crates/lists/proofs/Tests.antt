@@ -1,11 +1,15 @@
--- The way that control came; both parts of an `and`, of an `or`; what a contradiction gives (ListLaws has the laws of single tests).
+-- The way that control came; the parts of an `and`, of an `or`; what a contradiction gives (ListLaws has the laws of single tests).
 -- The laws that only compute, as that of an `and` with `false`, are the library's: and-true, and-false, and-assoc of mathlib.Core.Bool.
 -- Assumes nothing.
-use Prim.Native.Nat.{ℕ}
+use Prim.Native.Nat.{ℕ, zero, suc, _≤_, _<_}
 use mathlib.Core.Path.{_≡_, refl, sym, _∙_}
 use mathlib.Core.Logic.{_⊎_, inl, inr}
 use mathlib.Core.Bool.{Bool, true, false, _&&_, _||_, true≢false, false≢true}
+use mathlib.Core.List.{List, [], _∷_}
 use native.Mathlib.Omega.{arith}
+use lib.Dec.{ltb, leb}
+use lib.ListN.{getD}
+use borrow.Author.Tests.{ltb-true, leb-true}
 use mir.Val.{boolByte}
 use Rattle.lists.specs.Lists.{bit}
 
@@ -34,6 +38,23 @@ and-second false b h = absurd (false≢true h)
 -- both parts make an `and`
 pub and-both : {a b : Bool} → a ≡ true → b ≡ true → (a && b) ≡ true
 and-both p q = λ i. p i && q i
+
+-- a chain of tests, `a && b && c ..`
+abbrev pub chain : Bool → List Bool → Bool
+chain a [] = a
+chain a (b ∷ bs) = chain (a && b) bs
+
+-- each test of a chain that is true, by its place
+pub each : (a : Bool) (bs : List Bool) → chain a bs ≡ true → (i : ℕ) → getD (a ∷ bs) i true ≡ true
+each a [] h zero = h
+each a [] h (suc i) = refl
+each a (b ∷ bs) h zero = and-first a b (each (a && b) bs h 0)
+each a (b ∷ bs) h (suc zero) = and-second a b (each (a && b) bs h 0)
+each a (b ∷ bs) h (suc (suc i)) = each (a && b) bs h (suc i)
+
+-- a number that is tested to be one of 1..n
+pub between : (t n : ℕ) → (ltb 0 t && leb t n) ≡ true → (0 < t) × (t ≤ n)
+between t n e = (ltb-true 0 t (and-first (ltb 0 t) (leb t n) e), leb-true t n (and-second (ltb 0 t) (leb t n) e))
 
 -- the second part of an `and` that is false is true: the first is false
 pub and-fails : (a b : Bool) → (a && b) ≡ false → b ≡ true → a ≡ false

@@ -18,7 +18,7 @@ use Rattle.rules.specs.declared.Timer.{Timer}
 use Rattle.rules.specs.declared.Timer.the-variants.{Off, Due}
 use Rattle.lists.proofs.ListLaws.{by-eq, by-bool, clash, count-filter-yes, count-filter-no, Ordered}
 use Rattle.lists.proofs.MarkLaws.{filter-same}
-use Rattle.lists.proofs.Tests.{and-first}
+use Rattle.lists.proofs.Tests.{between}
 use Rattle.rules.proofs.Invariant.{Sound}
 use Rattle.rules.proofs.Members.{in-filter, timed-there}
 use Rattle.rules.proofs.StepSound.{tick-kept, due-is, wakeAll-in, wakeAll-out}
@@ -224,7 +224,7 @@ module _ (s : State) (n : ℕ) (h : Sound s) where
   then-less t k =
       let e = in-filter soon t (s1 .delays) k .0 in
       let o : timerOf s1 t ≡ timerOf s t = ap (λ (x : Task). x .timer) (stays t (soon-out t e)) in
-      let p : 0 < ticks1 t = ltb-true 0 (ticks1 t) (and-first (ltb 0 (ticks1 t)) (leb (ticks1 t) n) e) in
+      let p : 0 < ticks1 t = between (ticks1 t) n e .0 in
       let m : ticks1 t ≡ ticksLeft now1 (timerOf s t) = ap (ticksLeft now1) o in
       (go (timerOf s t) refl (omega (arith, p, m)) ∙ ap suc (sym m), p)
     where

@@ -9,6 +9,7 @@ use lib.Dec.{ltb}
 use borrow.Author.Tests.{eq-eqb, ne-eqb, ltb-true, ltb-false}
 use Rattle.lists.specs.Lists.{count}
 use Rattle.rules.specs.State.{State, queue}
+use Rattle.lists.proofs.Tests.{no}
 use Rattle.lists.proofs.ListLaws.{by-eq, by-bool}
 use Rattle.rules.proofs.Invariant.{Sound}
 use Rattle.rules.proofs.Members.{Runs, of-queue, queued-there}
@@ -20,7 +21,7 @@ queue-has-room s t g e h r = omega (arith, h .few, at-most (length (s .tasks)) (
   where
     out : count t (queue s g e) ≡ 0
     out = by-bool (ltb 0 (count t (queue s g e)))
-        (λ b. let q = of-queue s t g e (ltb-true 0 (count t (queue s g e)) b) .1 in let p = r .place in absurd (let z : _≡_ {A = ℕ} 0 1 = cc in omega arith))
+        (λ b. let q = of-queue s t g e (ltb-true 0 (count t (queue s g e)) b) .1 in let p = r .place in no (cc))
         (λ b. omega (arith, ltb-false 0 (count t (queue s g e)) b))
 
     once : (u : ℕ) → count u (t ∷ queue s g e) ≤ 1

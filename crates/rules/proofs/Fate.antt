@@ -8,7 +8,7 @@ use native.Mathlib.Omega.{arith}
 use lib.IntN.{ℤ}
 use lib.ListN.{length}
 use lib.Dec.{eqb, ltb, leb}
-use borrow.Author.Tests.{eq-eqb, ne-eqb, ltb-true, ltb-false, leb-true, leb-false}
+use borrow.Author.Tests.{eq-eqb, ne-eqb, ltb-true, ltb-false, leb-true, leb-false, not-false}
 use Rattle.lists.specs.Lists.{count, first, last}
 use Rattle.rules.specs.State.{State, nth, taskOf, placeOf, timerOf, created, isTask, isQueued, isCompleted, entryOf, accepts, left, after, fresh, move, wake, meet, meeting, wakeAll, queue, heldBy, running, waiting, offer, waitsOn}
 use Rattle.rules.specs.Sound.{inRange}
@@ -29,6 +29,7 @@ use Rattle.calls.specs.declared.SelectMode.the-variants.{Plain, Else}
 use Rattle.calls.specs.declared.SelectMode.the-variants as S
 use Rattle.calls.specs.declared.Call as C
 use Rattle.calls.specs.declared.Call.the-variants.{Create, Delay, Call, Select, End, Finish, Tick, Advance}
+use Rattle.lists.proofs.Tests.{no, between}
 use Rattle.lists.proofs.ListLaws.{by-eq, by-bool, by-test, count-append, count-filter-le}
 use Rattle.rules.proofs.Invariant.{Sound}
 use Rattle.rules.proofs.Members.{bit-le, of-queue, queued-there, of-held, held-there, last-in, nth-beyond, Runs}
@@ -37,7 +38,7 @@ use Rattle.rules.specs.Step.{failed, expiry, WAITS, SERVED, TASKING-ERRO
 use Rattle.rules.specs.Runs.{isWaiting, reasons, duration, ticksOf}
 use Rattle.rules.specs.Step.{tickTo, endsAt, advanced, advanceEnds, readings}
 use Rattle.rules.proofs.Passes.{reasons-none, reasons-one, in-time, Passes, stays, comes, tick-passes, advance-passes, later, later-is, advance-clock}
-use Rattle.rules.proofs.StepSound.{by-runner, wakeAll-clock, between, wakeAll-out, wakeAll-in, wakeAll-length, of-queuedFrom, caller-taken}
+use Rattle.rules.proofs.StepSound.{by-runner, wakeAll-clock, wakeAll-out, wakeAll-in, wakeAll-length, of-queuedFrom, caller-taken}
 use Rattle.rules.proofs.AddLaws.{nth-old, nth-new, nth-further}
 
 -- where a wait that begins with a call stands, and its time
@@ -111,19 +112,19 @@ busy-fate s u t g e Conditional r = untouched (alike refl) refl refl
 
 pub accepts-is : (p : Place) (e : ℕ) → accepts p e ≡ true → (o : Offer) × (p ≡ Accepting o)
 accepts-is (Accepting o) e h = (o, refl)
-accepts-is Blank e h = absurd (let z : _≡_ {A = ℕ} 0 1 = cc in omega arith)
-accepts-is Ready e h = absurd (let z : _≡_ {A = ℕ} 0 1 = cc in omega arith)
-accepts-is Delayed e h = absurd (let z : _≡_ {A = ℕ} 0 1 = cc in omega arith)
-accepts-is (Queued q) e h = absurd (let z : _≡_ {A = ℕ} 0 1 = cc in omega arith)
-accepts-is (Held m) e h = absurd (let z : _≡_ {A = ℕ} 0 1 = cc in omega arith)
-accepts-is Completed e h = absurd (let z : _≡_ {A = ℕ} 0 1 = cc in omega arith)
+accepts-is Blank e h = no (cc)
+accepts-is Ready e h = no (cc)
+accepts-is Delayed e h = no (cc)
+accepts-is (Queued q) e h = no (cc)
+accepts-is (Held m) e h = no (cc)
+accepts-is Completed e h = no (cc)
 
 call-fate : (s : State) (u t g e : ℕ) (m : CallMode) → Runs s t → FateOf s (Call g e m) u (call s t g e m)
 call-fate s u t g e m r =
     by-test P (not (isTask s g)) (λ _. tt) λ b1.
     by-test P (not (ltb 0 e && leb e (taskOf s g .entries))) (λ _. tt) λ b2.
     by-test P (isCompleted (placeOf s g)) (λ _. untouched (alike refl) refl refl) λ b3.
-    by-test P (accepts (placeOf s g) e) (λ b4. met (between g (created s) b1 .0) (between g (created s) b1 .1) (accepts-is (placeOf s g) e b4)) (λ _. busy-fate s u t g e m r)
+    by-test P (accepts (placeOf s g) e) (λ b4. let i = between g (created s) (not-false _ b1) in met (i .0) (i .1) (accepts-is (placeOf s g) e b4)) (λ _. busy-fate s u t g e m r)
   where
     P : Outcome → Type 0
     P = FateOf s (Call g e m) u
@@ -132,7 +133,7 @@ call-fate s u t g e m r =
     met i j q =
         let fit : t ≤ length (wake s g .tasks) = omega (arith, r .high, length-move s g Ready Off) in
         let high : g ≤ length (wake s g .tasks) = omega (arith, j, length-move s g Ready Off) in
-        let apart : g ≡ t → ⊥ = λ z. let y : _≡_ {A = ℕ} 0 1 = (let v = r .place in let w = q .1 in cc) in omega arith in
+        let apart : g ≡ t → ⊥ = λ z. let v = r .place in let w = q .1 in no (cc) in
         by-eq u t
         (λ z. rw z (began-held (rw (r .place)) (meeting (wake s g) g e) (meet-same (wake s g) g t i high (r .low) fit e) (rw (ne-eqb g t apart)) (eq-eqb t t refl)))
         (λ n. by-eq u g
@@ -205,7 +206,7 @@ finish-fate s u t h r = by-test (FateOf s Finish u) (ltb 0 (length (heldBy s t))
     l = queuedFrom s t 8 1
 
     apart : (v : ℕ) → 0 < count v l → v ≡ t → ⊥
-    apart v k z = let q = of-queuedFrom s v t 8 1 k .1 in let p = r .place in let y : _≡_ {A = ℕ} 0 1 = cc in omega arith
+    apart v k z = let q = of-queuedFrom s v t 8 1 k .1 in let p = r .place in no (cc)
 
     woken : ltb 0 (count u l) ≡ true → Fate s Finish u (move (wakeAll s l) t Completed Off) (item t DONE 0 0) (map (failed s) l)
     woken b =
@@ -340,7 +341,7 @@ lasts s c u d h q = go c
 
     passed : (n : ℕ) (s′ : State) (l : List Item) → Passes s n u s′ l → timerOf s′ u ≡ Due d → n < left (s .clock) d
     passed n s′ l (stays e f r) z = f d q
-    passed n s′ l (comes v w j p t r) z = absurd (let y : _≡_ {A = ℕ} 0 1 = cc in omega arith)
+    passed n s′ l (comes v w j p t r) z = no (cc)
 
     go : (c : C.Call) → LastsOf s c u d (takeCall s c)
     go (Create p n) = still (Create p n) refl (takeCall s (Create p n))

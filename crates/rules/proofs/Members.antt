@@ -15,7 +15,7 @@ use Rattle.rules.specs.declared.Waiting.{Waiting}
 use Rattle.rules.specs.declared.Meeting.{Meeting}
 use Rattle.rules.specs.declared.Place.{Place}
 use Rattle.rules.specs.declared.Place.the-variants.{Blank, Ready, Delayed, Queued, Held, Accepting, Completed}
-use Rattle.lists.proofs.Tests.{and-first, and-second}
+use Rattle.lists.proofs.Tests.{no, and-first, and-second}
 use Rattle.lists.proofs.ListLaws.{clash, count-filter-yes, count-filter-no}
 use Rattle.rules.proofs.Invariant.{Calls, Sound}
 
@@ -75,7 +75,7 @@ there ts (suc u) h = go (leb (suc u) (length ts)) refl
     go false e = absurd (h (ap (λ (x : Task). x .place) (nth-beyond ts (suc u) (borrow.Author.Tests.leb-false (suc u) (length ts) e))))
 
 pub not-blank : (p : Place) → p ≡ Ready → p ≡ Blank → ⊥
-not-blank p a b = let z : _≡_ {A = ℕ} 0 1 = cc in omega arith
+not-blank p a b = no (cc)
 
 -- ── the running task ──
 
@@ -144,20 +144,20 @@ in-held s u m h q =
     omega (arith, count-filter-yes (holds s (m .holder)) u (s .held) (rw (q, eq-eqb (m .holder) (m .holder) refl)), rw q at (h .held u))
 
 pub queued-there : (s : State) (u : ℕ) (q : Waiting) → placeOf s u ≡ Queued q → (0 < u) × (u ≤ length (s .tasks))
-queued-there s u q e = there (s .tasks) u (λ b. let z : _≡_ {A = ℕ} 0 1 = cc in omega arith)
+queued-there s u q e = there (s .tasks) u (λ b. no (cc))
 
 pub held-there : (s : State) (u : ℕ) (m : Meeting) → placeOf s u ≡ Held m → (0 < u) × (u ≤ length (s .tasks))
-held-there s u m q = there (s .tasks) u (λ b. let z : _≡_ {A = ℕ} 0 1 = cc in omega arith)
+held-there s u m q = there (s .tasks) u (λ b. no (cc))
 
 pub queued-good : (s : State) (u : ℕ) (q : Waiting) → Sound s → placeOf s u ≡ Queued q → Calls (taskOf s (q .target)) (q .entry)
 queued-good s u q h e = let i = queued-there s u q e in (rw e at (h .good u (i .0) (i .1) .place)) .0
 
 pub timed-there : (s : State) (u : ℕ) → hasTime (timerOf s u) ≡ true → (0 < u) × (u ≤ length (s .tasks))
-timed-there s zero h = absurd (let z : _≡_ {A = ℕ} 0 1 = cc in omega arith)
+timed-there s zero h = no (cc)
 timed-there s (suc u) h = go (leb (suc u) (length (s .tasks))) refl
   where
     go : (b : Bool) → leb (suc u) (length (s .tasks)) ≡ b → (0 < suc u) × (suc u ≤ length (s .tasks))
     go true e = (omega arith, borrow.Author.Tests.leb-true (suc u) (length (s .tasks)) e)
     go false e =
         let q = ap (λ (x : Task). hasTime (x .timer)) (nth-beyond (s .tasks) (suc u) (borrow.Author.Tests.leb-false (suc u) (length (s .tasks)) e)) in
-        absurd (let z : _≡_ {A = ℕ} 0 1 = cc in omega arith)
+        no (cc)

@@ -115,12 +115,12 @@ number-pos FULL = refl
 -- nobody else has a time than those who wait in one of three places
 timed-place : (me g : Task) (p : Place) (w : Timer) → Fits me g p w → hasTime w ≡ true → (isWaiting p ≡ true) × (isReason (expiry p) ≡ true) × (isHeld p ≡ false)
 timed-place me g Blank w f e = absurd f
-timed-place me g Ready w f e = absurd (let y : _≡_ {A = ℕ} 0 1 = cc in omega arith)
+timed-place me g Ready w f e = no (cc)
 timed-place me g Delayed w f e = (refl, refl, refl)
 timed-place me g (Queued q) w f e = (refl, refl, refl)
-timed-place me g (Held m) w f e = absurd (let z = f .1 in let y : _≡_ {A = ℕ} 0 1 = cc in omega arith)
+timed-place me g (Held m) w f e = let z = f .1 in no (cc)
 timed-place me g (Accepting o) w f e = (refl, refl, refl)
-timed-place me g Completed w f e = absurd (let y : _≡_ {A = ℕ} 0 1 = cc in omega arith)
+timed-place me g Completed w f e = no (cc)
 
 pub timed-waits-place : (s : State) (u : ℕ) → Sound s → hasTime (timerOf s u) ≡ true → (isWaiting (placeOf s u) ≡ true) × (isReason (expiry (placeOf s u)) ≡ true) × (isHeld (placeOf s u) ≡ false)
 timed-waits-place s u h e = let i = timed-there s u e in timed-place (taskOf s u) (taskOf s (partnerOf (placeOf s u))) (placeOf s u) (timerOf s u) (h .good u (i .0) (i .1) .place) e

@@ -15,6 +15,7 @@ use Rattle.rules.specs.declared.Item.{Item}
 use Rattle.rules.specs.declared.Task.{Task}
 use Rattle.rules.specs.declared.Timer.the-variants.{Off, Due}
 use Rattle.rules.specs.declared.Place.the-variants.{Ready}
+use Rattle.lists.proofs.Tests.{no}
 use Rattle.lists.proofs.ListLaws.{by-eq, by-bool, count-filter-yes, count-filter-le}
 use Rattle.rules.proofs.Invariant.{InTime, Sound}
 use Rattle.rules.proofs.Members.{bit-le, in-filter, timed-there}
@@ -113,7 +114,7 @@ advance-passes (suc n) s u h = go (tick-passes s u h) (advance-passes n s1 u (ti
         comes d q0 (omega (arith, less d q0, k)) p t (rw (reasons-append u l (advanceEnds n s1), r, r2, ap (λ (x : Task). x .place) e))
     go (comes d q k p t r) (stays e2 f2 r2) =
         comes d q (omega (arith, k)) (ap (λ (x : Task). x .place) e2 ∙ p) (ap (λ (x : Task). x .timer) e2 ∙ t) (rw (reasons-append u l (advanceEnds n s1), r, r2))
-    go (comes d q k p t r) (comes d2 q2 k2 p2 t2 r2) = absurd (let z : _≡_ {A = ℕ} 0 1 = cc in omega arith)
+    go (comes d q k p t r) (comes d2 q2 k2 p2 t2 r2) = no (cc)
 
 pub advance-clock : (n : ℕ) (s : State) → s .clock < 4294967296 → advanced n s .clock ≡ after (s .clock) n
 advance-clock zero s h = omega arith

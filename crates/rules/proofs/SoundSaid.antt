@@ -6,7 +6,7 @@ use mathlib.Core.Bool.{true, false, _&&_}
 use mathlib.Core.List.{List, [], _∷_}
 use native.Mathlib.Omega.{arith}
 use lib.ListN.{getD, drop}
-use lib.Dec.{T, eqb}
+use lib.Dec.{eqb}
 use borrow.Author.Tests.{eqb-true, eq-eqb, le-leb}
 use Rattle.lists.specs.Lists.{bit, count, every}
 use Rattle.lists.specs.Line.{tidy, blanks}
@@ -21,8 +21,8 @@ use Rattle.rules.specs.declared.Meeting.{Meeting}
 use Rattle.rules.specs.declared.Place.{Place}
 use Rattle.rules.specs.declared.Place.the-variants.{Blank, Ready, Delayed, Queued, Held, Accepting, Completed}
 use Rattle.rules.specs.declared.Supervisor.{Supervisor}
-use Rattle.lists.proofs.Tests.{no}
-use Rattle.lists.proofs.ListLaws.{clash, by-bool, and-l, and-r, both, is-true, true-T, count-filter-yes, count-filter-no, ordered-of, in-order}
+use Rattle.lists.proofs.Tests.{no, and-first, and-second, and-both}
+use Rattle.lists.proofs.ListLaws.{clash, by-bool, count-filter-yes, count-filter-no, ordered-of, in-order}
 use Rattle.rules.proofs.Invariant.{Calls, Fits, InTime, Sound}
 use Rattle.rules.proofs.Members.{of-queue, of-held, queued-good, timed-there, there}
 use Rattle.rules.proofs.Passes.{in-time}
@@ -101,7 +101,7 @@ module _ (s : State) (h : Sound s) where
     delayed-timed = λ t e. fits-at t Delayed e (λ b. no (cc));
     none-else = λ t w. timed t (placeOf s t) refl w;
     due = λ t d e. let i = in-time s t d h e in (i .2, i .0, i .1);
-    in-order = is-true _ (in-order (λ u. ticksLeft (s .clock) (timerOf s u)) (s .delays) (h .order));
+    in-order = in-order (λ u. ticksLeft (s .clock) (timerOf s u)) (s .delays) (h .order);
     own-entries = λ t o e. fits-at t (Accepting o) e (λ b. no (cc)) .0;
     not-empty = λ t o e z. fits-at t (Accepting o) e (λ b. no (cc)) .1 z;
     no-caller = λ t e o z y. nobody (queue s t e) (λ u k. let q = of-queue s u t e k in
@@ -171,43 +171,43 @@ module _ (s : State) (f : SoundFacts s) where
     callers = f .queued;
     held = f .held;
     delays = f .delays;
-    order = ordered-of (λ u. ticksLeft (s .clock) (timerOf s u)) (s .delays) (true-T (f .in-order));
+    order = ordered-of (λ u. ticksLeft (s .clock) (timerOf s u)) (s .delays) (f .in-order);
   }
 
 -- ── unused places ──
 
-blanks-at : (a : List ℕ) → T (blanks a) → (i : ℕ) → getD a i 0 ≡ 0
+blanks-at : (a : List ℕ) → blanks a ≡ true → (i : ℕ) → getD a i 0 ≡ 0
 blanks-at [] h i = refl
-blanks-at (x ∷ xs) h zero = eqb-true x 0 (is-true (eqb x 0) (and-l (eqb x 0) (blanks xs) h))
-blanks-at (x ∷ xs) h (suc i) = blanks-at xs (and-r (eqb x 0) (blanks xs) h) i
+blanks-at (x ∷ xs) h zero = eqb-true x 0 (and-first (eqb x 0) (blanks xs) h)
+blanks-at (x ∷ xs) h (suc i) = blanks-at xs (and-second (eqb x 0) (blanks xs) h) i
 
-blanks-of : (a : List ℕ) → ((i : ℕ) → getD a i 0 ≡ 0) → T (blanks a)
-blanks-of [] h = tt
-blanks-of (x ∷ xs) h = both (eqb x 0) (blanks xs) (true-T (eq-eqb x 0 (h 0))) (blanks-of xs (λ i. h (suc i)))
+blanks-of : (a : List ℕ) → ((i : ℕ) → getD a i 0 ≡ 0) → blanks a ≡ true
+blanks-of [] h = refl
+blanks-of (x ∷ xs) h = and-both (eq-eqb x 0 (h 0)) (blanks-of xs (λ i. h (suc i)))
 
-tidy-at : (a : List ℕ) → T (tidy a) → BlankBehind a
+tidy-at : (a : List ℕ) → tidy a ≡ true → BlankBehind a
 tidy-at [] h i k = refl
 tidy-at (zero ∷ xs) h zero k = refl
 tidy-at (zero ∷ xs) h (suc i) k = blanks-at xs h i
 tidy-at (suc n ∷ xs) h zero k = absurd (omega arith)
 tidy-at (suc n ∷ xs) h (suc i) k = tidy-at xs h i (omega arith)
 
-tidy-of : (a : List ℕ) → BlankBehind a → T (tidy a)
-tidy-of [] h = tt
+tidy-of : (a : List ℕ) → BlankBehind a → tidy a ≡ true
+tidy-of [] h = refl
 tidy-of (zero ∷ xs) h = blanks-of xs (λ i. h (suc i) (omega arith))
 tidy-of (suc n ∷ xs) h = tidy-of xs (λ i k. h (suc i) (omega (arith, k)))
 
-unused-at : (n : ℕ) (ts : List Task) → T (every unused (drop n ts)) → (i : ℕ) → n ≤ i → getD ts i blank ≡ blank
+unused-at : (n : ℕ) (ts : List Task) → every unused (drop n ts) ≡ true → (i : ℕ) → n ≤ i → getD ts i blank ≡ blank
 unused-at n [] h i k = refl
-unused-at zero (x ∷ xs) h zero k = blank-is x (is-true (unused x) (and-l (unused x) (every unused xs) h))
-unused-at zero (x ∷ xs) h (suc i) k = unused-at zero xs (and-r (unused x) (every unused xs) h) i (omega arith)
+unused-at zero (x ∷ xs) h zero k = blank-is x (and-first (unused x) (every unused xs) h)
+unused-at zero (x ∷ xs) h (suc i) k = unused-at zero xs (and-second (unused x) (every unused xs) h) i (omega arith)
 unused-at (suc n) (x ∷ xs) h zero k = absurd (omega arith)
 unused-at (suc n) (x ∷ xs) h (suc i) k = unused-at n xs h i (omega arith)
 
-unused-of : (n : ℕ) (ts : List Task) → ((i : ℕ) → n ≤ i → getD ts i blank ≡ blank) → T (every unused (drop n ts))
-unused-of zero [] h = tt
-unused-of (suc n) [] h = tt
-unused-of zero (x ∷ xs) h = both (unused x) (every unused xs) (true-T (ap unused (h 0 (omega arith)))) (unused-of zero xs (λ i k. h (suc i) (omega arith)))
+unused-of : (n : ℕ) (ts : List Task) → ((i : ℕ) → n ≤ i → getD ts i blank ≡ blank) → every unused (drop n ts) ≡ true
+unused-of zero [] h = refl
+unused-of (suc n) [] h = refl
+unused-of zero (x ∷ xs) h = and-both (ap unused (h 0 (omega arith))) (unused-of zero xs (λ i k. h (suc i) (omega arith)))
 unused-of (suc n) (x ∷ xs) h = unused-of n xs (λ i k. h (suc i) (omega arith))
 
 -- ── both ways ──
@@ -229,11 +229,11 @@ of-struct : (s : Supervisor) → s .clock < 4294967296 → SoundStruct s → sou
 of-struct s k f =
     rw (
       le-leb (s .created) 31 (f .few),
-      is-true (every unused (drop (s .created) (s .tasks))) (unused-of (s .created) (s .tasks) (f .tasks)),
-      is-true (tidy (s .ready)) (tidy-of (s .ready) (f .ready)),
-      is-true (tidy (s .callers)) (tidy-of (s .callers) (f .callers)),
-      is-true (tidy (s .held)) (tidy-of (s .held) (f .held)),
-      is-true (tidy (s .delays)) (tidy-of (s .delays) (f .delays)),
+      unused-of (s .created) (s .tasks) (f .tasks),
+      tidy-of (s .ready) (f .ready),
+      tidy-of (s .callers) (f .callers),
+      tidy-of (s .held) (f .held),
+      tidy-of (s .delays) (f .delays),
     ) (sound-test (view s) (sound-of (view s) (f .state) k))
 
 pub soundness-said : SoundnessSaid

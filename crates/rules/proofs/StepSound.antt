@@ -7,7 +7,7 @@ use mathlib.Core.List.{List, [], _∷_}
 use native.Mathlib.Omega.{arith}
 use lib.IntN.{ℤ, pos, negsuc}
 use lib.ListN.{length}
-use lib.Dec.{eqb, ltb, leb, ltb→lt, leb→le}
+use lib.Dec.{eqb, ltb, leb}
 use borrow.Author.Tests.{eqb-true, eqb-false, eq-eqb, ne-eqb, ltb-true, ltb-false, leb-true, leb-false, not-false, lt-ltb}
 use Rattle.lists.specs.Lists.{count, first, last}
 use Rattle.rules.specs.State.{State, taskOf, placeOf, timerOf, created, isTask, isCompleted, accepts, opens, hasTime, ticksLeft, left, after, wake, wakeAll, setClock, queue, heldBy, running, waiting, offer}
@@ -27,8 +27,8 @@ use Rattle.calls.specs.declared.SelectMode.the-variants.{Plain, Else}
 use Rattle.calls.specs.declared.SelectMode.the-variants as S
 use Rattle.calls.specs.declared.Call as C
 use Rattle.calls.specs.declared.Call.the-variants.{Create, Delay, Call, Select, End, Finish, Tick, Advance}
-use Rattle.lists.proofs.ListLaws.{by-eq, by-test, and-l, and-r, true-T, count-append, count-filter-yes, ordered-cong}
-use Rattle.lists.proofs.Tests.{and-second, and-fails}
+use Rattle.lists.proofs.ListLaws.{by-eq, by-test, count-append, count-filter-yes, ordered-cong}
+use Rattle.lists.proofs.Tests.{no, each, between, and-second, and-fails}
 use Rattle.rules.proofs.Invariant.{Calls, InTime, Sound}
 use Rattle.rules.proofs.Members.{WaitsOn, in-filter, first-member, some-length, in-queue, of-queue, queued-good, queued-there, of-held, in-held, held-there, last-in, timed-there, bit-true, Runs, runs}
 use Rattle.rules.proofs.AddLaws.{add-sound}
@@ -70,18 +70,13 @@ busy-kept s t g e (Timed d) h r c a = go (ticks d) (ticks-small d)
     go (suc n) j = enqueue-kept s t g e (Due (after (s .clock) (suc n))) h r c a (due-later (s .clock) n (h .clock) j)
 busy-kept s t g e Conditional h r c a = h
 
-pub between : (a b : ℕ) → not (ltb 0 a && leb a b) ≡ false → (0 < a) × (a ≤ b)
-between a b h =
-    let t = true-T (not-false (ltb 0 a && leb a b) h) in
-    (ltb→lt 0 a (and-l (ltb 0 a) (leb a b) t), leb→le a b (and-r (ltb 0 a) (leb a b) t))
-
 pub call-kept : (s : State) (t g e : ℕ) (m : CallMode) → Sound s → Runs s t → Kept (call s t g e m)
 call-kept s t g e m h r =
     by-test Kept (not (isTask s g)) (λ _. tt) λ b1.
     by-test Kept (not (ltb 0 e && leb e (taskOf s g .entries))) (λ _. tt) λ b2.
     by-test Kept (isCompleted (placeOf s g)) (λ _. h) λ b3.
-    let i = between g (created s) b1 in
-    let j = between e (taskOf s g .entries) b2 in
+    let i = between g (created s) (not-false _ b1) in
+    let j = between e (taskOf s g .entries) (not-false _ b2) in
     by-test Kept (accepts (placeOf s g) e)
     (λ b4. meet-sound (wake s g) g t (i .0) (omega (arith, i .1, length-move s g Ready Off)) (r .low) (omega (arith, r .high, length-move s g Ready Off)) e (wake-sound s g (i .0) (i .1) h)
     (rw (task-same s g Ready Off (i .0) (i .1)) (record { low = j .0; high = j .1; alive = refl })))
@@ -233,16 +228,16 @@ finish-kept s t h r = by-test Kept (ltb 0 (length (heldBy s t))) (λ _. tt) (λ 
 
     nobody : (u : ℕ) (a : Waiting) → placeOf (wakeAll s l) u ≡ Queued a → a .target ≡ t → ⊥
     nobody u a q g =
-        let w = sym (stays u (λ z. let y : _≡_ {A = ℕ} 0 1 = cc in omega arith)) ∙ q in
+        let w = sym (stays u (λ z. no (cc))) ∙ q in
         let c : Calls (taskOf s t) (a .entry) = rw g at (queued-good s u a h w) in
         let n : 0 < count u (queue s t (a .entry)) = rw g at (in-queue s u a h w) in
         let i = queued-there s u a w in
         let f = in-queuedFrom s u t (a .entry) 8 1 (c .low) (omega (arith, c .high, h .good t (r .low) (r .high) .numbers .few)) in
-        let y : _≡_ {A = ℕ} 0 1 = (let v = wakeAll-in l s u (i .0) (i .1) (omega (arith, n, f)) .0 in cc) in omega arith
+        let v = wakeAll-in l s u (i .0) (i .1) (omega (arith, n, f)) .0 in no (cc)
 
     free : ltb 0 (length (heldBy s t)) ≡ false → (u : ℕ) (m : Meeting) → placeOf (wakeAll s l) u ≡ Held m → m .holder ≡ t → ⊥
     free b u m q y =
-        let w = sym (stays u (λ z. let y : _≡_ {A = ℕ} 0 1 = cc in omega arith)) ∙ q in
+        let w = sym (stays u (λ z. no (cc))) ∙ q in
         omega (arith, ltb-false 0 (length (heldBy s t)) b, some-length u (heldBy s t) (rw y at (in-held s u m h w)))
 
 -- ── TICK ──
@@ -327,9 +322,8 @@ pub create-kept : (s : State) (p n : ℕ) → Sound s → Kept (create s p n)
 create-kept s p n h =
     by-test Kept (not (inRange p n)) (λ _. tt) λ b1.
     by-test Kept (leb 31 (created s)) (λ _. tt) λ b2.
-    let t = true-T (not-false (inRange p n) b1) in
-    let a = and-l (ltb 0 p && leb p 15) (leb n 8) t in
-    add-sound s p n h (leb-false 31 (created s) b2) (ltb→lt 0 p (and-l (ltb 0 p) (leb p 15) a)) (leb→le p 15 (and-r (ltb 0 p) (leb p 15) a)) (leb→le n 8 (and-r (ltb 0 p && leb p 15) (leb n 8) t))
+    let i = each (ltb 0 p) (leb p 15 ∷ leb n 8 ∷ []) (not-false (inRange p n) b1) in
+    add-sound s p n h (leb-false 31 (created s) b2) (ltb-true 0 p (i 0)) (leb-true p 15 (i 1)) (leb-true n 8 (i 2))
 
 -- ── a call ──
 

@@ -2,14 +2,14 @@
 -- Assumes nothing.
 use Prim.Native.Nat.{ℕ, zero, suc, _+_, _-_, _≤_, _<_}
 use mathlib.Core.Path.{_≡_, refl, sym, _∙_, ap}
-use mathlib.Core.Bool.{Bool, true, false, _&&_}
+use mathlib.Core.Bool.{Bool, true, false}
 use mathlib.Core.List.{List, [], _∷_, _++_}
 use native.Mathlib.Omega.{arith}
 use lib.ListN.{length, take, drop, replicate, length-drop, take-append-drop}
 use Rattle.lists.specs.Line.{line, pad, tidy}
 use Rattle.lists.proofs.LineLaws.{line-pad, tidy-pad, pad-tidy}
 use lib.Seq.{take-append-seam, drop-append-seam, length-take-le}
-use lib.Dec.{T, eqb, ltb, leb}
+use lib.Dec.{eqb, ltb, leb}
 use borrow.Author.Tests.{eqb-true, leb-true, leb-false, le-leb}
 use Rattle.lists.specs.Lists.{bit, count, every}
 use Rattle.rules.specs.State.{State, blank, nth, created, isReady, isQueued, isHeld, hasTime}
@@ -19,7 +19,8 @@ use Rattle.rules.specs.Whole.{Typed, view, pack, isBlank, isOff, unused,
 use Rattle.rules.specs.declared.Supervisor.{Supervisor}
 use Rattle.calls.specs.declared.Call as C
 use Rattle.rules.specs.declared.Task.{Task}
-use Rattle.lists.proofs.ListLaws.{by-bool, true-T, is-true, and-l, and-r}
+use Rattle.lists.proofs.Tests.{each, and-first, and-second}
+use Rattle.lists.proofs.ListLaws.{by-bool}
 pub use Rattle.lists.proofs.ListLaws.{at-most}
 use Rattle.rules.proofs.Invariant.{Sound}
 use Rattle.rules.proofs.Members.{bit-le, nth-beyond}
@@ -90,36 +91,32 @@ packed-pack s h =
 
 pub blank-is : (x : Task) → unused x ≡ true → x ≡ blank
 blank-is x e =
-    let a = eqb (x .priority) 0 in let b = eqb (x .entries) 0 in let c = isBlank (x .place) in
-    let t = true-T e in
-    let d = and-l (a && b && c) (isOff (x .timer)) t in
+    let p = each (eqb (x .priority) 0) (eqb (x .entries) 0 ∷ isBlank (x .place) ∷ isOff (x .timer) ∷ []) e in
     λ i. record {
-      priority = eqb-true (x .priority) 0 (is-true a (and-l a b (and-l (a && b) c d))) i;
-      entries = eqb-true (x .entries) 0 (is-true b (and-r a b (and-l (a && b) c d))) i;
-      place = place (x .place) (and-r (a && b) c d) i;
-      timer = timer (x .timer) (and-r (a && b && c) (isOff (x .timer)) t) i;
+      priority = eqb-true (x .priority) 0 (p 0) i;
+      entries = eqb-true (x .entries) 0 (p 1) i;
+      place = place (x .place) (p 2) i;
+      timer = timer (x .timer) (p 3) i;
     }
   where
-    place : (p : Place) → T (isBlank p) → p ≡ Blank
+    place : (p : Place) → isBlank p ≡ true → p ≡ Blank
     place Blank h = refl
-    place Ready h = absurd h
-    place Delayed h = absurd h
-    place (Queued q) h = absurd h
-    place (Held m) h = absurd h
-    place (Accepting o) h = absurd h
-    place Completed h = absurd h
+    place Ready h = cc
+    place Delayed h = cc
+    place (Queued q) h = cc
+    place (Held m) h = cc
+    place (Accepting o) h = cc
+    place Completed h = cc
 
-    timer : (w : Timer) → T (isOff w) → w ≡ Off
+    timer : (w : Timer) → isOff w ≡ true → w ≡ Off
     timer Off h = refl
-    timer (Due d) h = absurd h
+    timer (Due d) h = cc
 
-all-blank : (l : List Task) → T (every unused l) → l ≡ replicate (length l) blank
+all-blank : (l : List Task) → every unused l ≡ true → l ≡ replicate (length l) blank
 all-blank [] h = refl
-all-blank (x ∷ xs) h =
-    ap (λ (y : Task). y ∷ xs) (blank-is x (is-true (unused x) (and-l (unused x) (every unused xs) h)))
-    ∙ ap (λ (l : List Task). blank ∷ l) (all-blank xs (and-r (unused x) (every unused xs) h))
+all-blank (x ∷ xs) h = λ i. blank-is x (and-first (unused x) (every unused xs) h) i ∷ all-blank xs (and-second (unused x) (every unused xs) h) i
 
-pub tasks-packed : (n : ℕ) (ts : List Task) → n ≤ 31 → length ts ≡ 31 → T (every unused (drop n ts)) → ts ≡ take n ts ++ replicate (31 - length (take n ts)) blank
+pub tasks-packed : (n : ℕ) (ts : List Task) → n ≤ 31 → length ts ≡ 31 → every unused (drop n ts) ≡ true → ts ≡ take n ts ++ replicate (31 - length (take n ts)) blank
 tasks-packed n ts a l h =
     let k : length (take n ts) ≡ n = length-take-le n ts (omega arith) in
     let m : length (drop n ts) ≡ 31 - n = length-drop n ts ∙ ap (λ (x : ℕ). x - n) l in
@@ -128,32 +125,17 @@ tasks-packed n ts a l h =
 -- the parts of the test of a struct that is sound
 pub record Parts (s : Supervisor) : Type 0 where
   pub few : s .created ≤ 31
-  pub blank-behind : T (every unused (drop (s .created) (s .tasks)))
-  pub ready : T (tidy (s .ready))
-  pub callers : T (tidy (s .callers))
-  pub held : T (tidy (s .held))
-  pub delays : T (tidy (s .delays))
+  pub blank-behind : every unused (drop (s .created) (s .tasks)) ≡ true
+  pub ready : tidy (s .ready) ≡ true
+  pub callers : tidy (s .callers) ≡ true
+  pub held : tidy (s .held) ≡ true
+  pub delays : tidy (s .delays) ≡ true
   pub state : sound (view s) ≡ true
 
 pub parts : (s : Supervisor) → soundWhole s ≡ true → Parts s
-parts s p =
-    let f = leb (s .created) 31 in
-    let e = every unused (drop (s .created) (s .tasks)) in
-    let x1 = tidy (s .ready) in let x2 = tidy (s .callers) in let x3 = tidy (s .held) in let x4 = tidy (s .delays) in
-    let t4 = and-l (packed s) (sound (view s)) (true-T p) in
-    let t3 = and-l (f && e && x1 && x2 && x3) x4 t4 in
-    let t2 = and-l (f && e && x1 && x2) x3 t3 in
-    let t1 = and-l (f && e && x1) x2 t2 in
-    let t0 = and-l (f && e) x1 t1 in
-    record {
-      few = leb-true (s .created) 31 (is-true f (and-l f e t0));
-      blank-behind = and-r f e t0;
-      ready = and-r (f && e) x1 t1;
-      callers = and-r (f && e && x1) x2 t2;
-      held = and-r (f && e && x1 && x2) x3 t3;
-      delays = and-r (f && e && x1 && x2 && x3) x4 t4;
-      state = is-true (sound (view s)) (and-r (packed s) (sound (view s)) (true-T p));
-    }
+parts s e =
+    let p = each (leb (s .created) 31) (every unused (drop (s .created) (s .tasks)) ∷ tidy (s .ready) ∷ tidy (s .callers) ∷ tidy (s .held) ∷ tidy (s .delays) ∷ sound (view s) ∷ []) e in
+    record { few = leb-true (s .created) 31 (p 0); blank-behind = p 1; ready = p 2; callers = p 3; held = p 4; delays = p 5; state = p 6 }
 
 pub whole-packed : (s : Supervisor) → Typed s → soundWhole s ≡ true → s ≡ pack (view s)
 whole-packed s t e =
@@ -162,10 +144,10 @@ whole-packed s t e =
       clock = s .clock;
       created = sym (length-take-le (s .created) (s .tasks) (omega (arith, p .few, t .tasks))) i;
       tasks = tasks-packed (s .created) (s .tasks) (p .few) (t .tasks) (p .blank-behind) i;
-      ready = tidy-pad (s .ready) (t .ready) (is-true (tidy (s .ready)) (p .ready)) i;
-      callers = tidy-pad (s .callers) (t .callers) (is-true (tidy (s .callers)) (p .callers)) i;
-      held = tidy-pad (s .held) (t .held) (is-true (tidy (s .held)) (p .held)) i;
-      delays = tidy-pad (s .delays) (t .delays) (is-true (tidy (s .delays)) (p .delays)) i;
+      ready = tidy-pad (s .ready) (t .ready) (p .ready) i;
+      callers = tidy-pad (s .callers) (t .callers) (p .callers) i;
+      held = tidy-pad (s .held) (t .held) (p .held) i;
+      delays = tidy-pad (s .delays) (t .delays) (p .delays) i;
     }
 
 pub sound-view : (s : Supervisor) → Typed s → soundWhole s ≡ true → Sound (view s)

@@ -8,9 +8,9 @@ use lib.Dec.{leb}
 use lib.ListN.{getD}
 use borrow.Author.Tests.{leb-true}
 use Rattle.lists.specs.Lists.{every, downFrom}
+use Rattle.lists.proofs.ListLaws.{down-at}
 use Rattle.lists.proofs.Tests.{and-first, and-second}
 use Rattle.script.specs.WordTable.{starts}
-use Rattle.script.proofs.Sets.{each}
 
 -- what stands behind the k-th word begins inside the table, and not before that word
 abbrev follows : ℕ → Bool
@@ -25,5 +25,5 @@ in-order k h =
     let b = getD starts (k + 1) 0 in
     let e : k + 1 - 1 ≡ k = omega arith in
     let t : (leb a b && leb b 77) ≡ true =
-    subst (λ (j : ℕ). (leb (getD starts j 0) b && leb b 77) ≡ true) e (each follows 14 all-follow (k + 1) (omega arith) (omega arith)) in
+    subst (λ (j : ℕ). (leb (getD starts j 0) b && leb b 77) ≡ true) e (down-at follows 14 all-follow (k + 1) (omega arith) (omega arith)) in
     (leb-true a b (and-first (leb a b) (leb b 77) t), leb-true b 77 (and-second (leb a b) (leb b 77) t))

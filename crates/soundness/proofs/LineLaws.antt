@@ -6,11 +6,11 @@ use mathlib.Core.Bool.{Bool, true, false, _&&_, and-false, and-assoc}
 use mathlib.Core.List.{List, [], _∷_}
 use native.Mathlib.Omega.{arith}
 use lib.Dec.{eqb, ltb, leb}
-use borrow.Author.Tests.{eq-eqb, ne-eqb, leb-true, lt-ltb, le-ltb, ltb-true, ltb-false}
+use borrow.Author.Tests.{eq-eqb, ne-eqb, lt-ltb, le-ltb, ltb-true, ltb-false}
 use Rattle.lists.specs.Line.{line, blanks, tidy}
 use Rattle.lists.specs.Lists.{if_then_else_, bit, count, every, downFrom}
-use Rattle.lists.proofs.ListLaws.{by-bool, by-eq, clash}
-use Rattle.lists.proofs.Tests.{and-first, and-second}
+use Rattle.lists.proofs.ListLaws.{by-bool, by-eq, clash, every-of, down-at}
+use Rattle.lists.proofs.Tests.{and-first, between}
 use Rattle.rules.specs.State.{taskOf}
 use Rattle.rules.specs.Whole.{view}
 use Rattle.rules.specs.declared.Supervisor.{Supervisor}
@@ -47,20 +47,6 @@ ascending k a (x ∷ xs) = leb a (k x) && ascending k (k x) xs
 pub every-same : (f g : ℕ → Bool) (n : ℕ) → ((t : ℕ) → 0 < t → t ≤ n → f t ≡ g t) → every f (downFrom n) ≡ every g (downFrom n)
 every-same f g zero h = refl
 every-same f g (suc n) h = rw (h (suc n) (omega arith) (omega arith), every-same f g n (λ t a b. h t a (omega arith)))
-
-pub every-all : (f : ℕ → Bool) (n : ℕ) → ((t : ℕ) → f t ≡ true) → every f (downFrom n) ≡ true
-every-all f zero h = refl
-every-all f (suc n) h = rw (h (suc n), every-all f n h)
-
-pub every-at : (f : ℕ → Bool) (n t : ℕ) → every f (downFrom n) ≡ true → 0 < t → t ≤ n → f t ≡ true
-every-at f zero t e a b = absurd (omega arith)
-every-at f (suc n) t e a b =
-    by-eq t (suc n)
-    (λ q. rw q (and-first (f (suc n)) (every f (downFrom n)) e))
-    (λ q. every-at f n t (and-second (f (suc n)) (every f (downFrom n)) e) a (omega arith))
-
-pub every-miss : (f : ℕ → Bool) (n t : ℕ) → 0 < t → t ≤ n → f t ≡ false → every f (downFrom n) ≡ false
-every-miss f n t a b e = by-bool (every f (downFrom n)) (λ q. clash (every-at f n t q a b) e) (λ q. q)
 
 eqb-suc : (k : ℕ) → eqb k 0 ≡ eqb (1 + k) 1
 eqb-suc k = by-eq k 0 (λ e. rw e) (λ e. rw (ne-eqb k 0 e, ne-eqb (1 + k) 1 (λ z. e (omega arith))))
@@ -114,14 +100,13 @@ counts n m l = every (λ t. eqb (count t l) (bit (hasMark m t))) (downFrom n)
 none-left : (n : ℕ) (m : Marks) → Whole m → Within n m → isNone m ≡ counts n m []
 none-left n m w h =
     by-bool (isNone m)
-    (λ e. e ∙ sym (every-all (λ t. eqb (count t []) (bit (hasMark m t))) n (λ t. rw (none-has m t e))))
+    (λ e. e ∙ sym (every-of (λ t. eqb (count t []) (bit (hasMark m t))) (downFrom n) (λ t _. rw (none-has m t e))))
     (λ e. e ∙ sym (by-bool (counts n m []) (λ q. clash (has-all m w (λ t. missing t q)) e) (λ q. q)))
   where
     missing : (t : ℕ) → counts n m [] ≡ true → hasMark m t ≡ false
     missing t q =
         by-bool (hasMark m t)
-        (λ y. let k = h t y in
-        clash (every-at (λ t. eqb (count t []) (bit (hasMark m t))) n t q (ltb-true 0 t (and-first (ltb 0 t) (leb t n) k)) (leb-true t n (and-second (ltb 0 t) (leb t n) k))) (rw y))
+        (λ y. let i = between t n (h t y) in clash (down-at (λ t. eqb (count t []) (bit (hasMark m t))) n q t (i .0) (i .1)) (rw y))
         (λ y. y)
 
 -- x is met: it stands once more in the list than in the rest, where it is not to be met again
@@ -138,15 +123,17 @@ met n m x l w k e = every-same _ _ n (λ t a b. one t)
 -- x is not to be met: the list has it too often
 unmet : (n : ℕ) (m : Marks) (x : ℕ) (l : List ℕ) → named n x ≡ true → hasMark m x ≡ false → counts n m (x ∷ l) ≡ false
 unmet n m x l k e =
-    every-miss (λ t. eqb (count t (x ∷ l)) (bit (hasMark m t))) n x (ltb-true 0 x (and-first (ltb 0 x) (leb x n) k)) (leb-true x n (and-second (ltb 0 x) (leb x n) k))
-    (rw (e, eq-eqb x x refl) (ne-eqb (1 + count x l) 0 (λ z. omega arith)))
+    let i = between x n k in
+    by-bool (counts n m (x ∷ l))
+    (λ q. clash (down-at (λ t. eqb (count t (x ∷ l)) (bit (hasMark m t))) n q x (i .0) (i .1)) (rw (e, eq-eqb x x refl) (ne-eqb (1 + count x l) 0 (λ z. omega arith))))
+    (λ q. q)
 
 emptied-is : (n : ℕ) (m : Marks) (l : List ℕ) → n ≤ 31 → Whole m → Within n m → emptied m l ≡ (every (named n) l && counts n m l)
 emptied-is n m [] l w h = none-left n m w h
 emptied-is n m (x ∷ xs) l w h =
     let ih = emptied-is n (withoutMark m x) xs l in
     by-bool (hasMark m x)
-    (λ e. let k = h x e in let low : x < 32 = omega (arith, leb-true x n (and-second (ltb 0 x) (leb x n) k)) in
+    (λ e. let k = h x e in let low : x < 32 = omega (arith, between x n k) in
     rw (e, k) (ih (without-whole m x w) (onward low e) ∙ ap (λ (b : Bool). every (named n) xs && b) (met n m x xs w low e)))
     (λ e. rw e
     (by-bool (named n x)

@@ -8,9 +8,9 @@ use native.Mathlib.Omega.{arith}
 use types.Run.{miss}
 use lib.Dec.{ltb, leb}
 use lib.ListN.{getD}
-use borrow.Author.Tests.{lt-ltb, le-ltb, le-leb, leb-true, leb-false, ltb-true, ltb-false}
+use borrow.Author.Tests.{lt-ltb, le-ltb, le-leb, leb-true, leb-false, ltb-false}
 use Rattle.lists.proofs.ListLaws.{by-bool, clash}
-use Rattle.lists.proofs.Tests.{and-first, and-second}
+use Rattle.lists.proofs.Tests.{between}
 use Rattle.rules.specs.State.{blank, taskOf, partnerOf, hasTime, left}
 use Rattle.rules.specs.Sound.{timeInRange, goodTask}
 use Rattle.rules.specs.Whole.{view, isBlank, isOff}
@@ -52,12 +52,9 @@ in-time-due now d l e h = rw e (sym (and-last (ltb 0 (left now d) && leb (left n
 pub named-is : (n t : ℕ) → 0 < t → t ≤ n → named n t ≡ true
 named-is n t a b = rw (lt-ltb 0 t a, le-leb t n b)
 
-pub named-range : (n t : ℕ) → named n t ≡ true → (0 < t) × (t ≤ n)
-named-range n t e = (ltb-true 0 t (and-first (ltb 0 t) (leb t n) e), leb-true t n (and-second (ltb 0 t) (leb t n) e))
-
 -- the task of the number u, where one has it, and where none has
 pub called-one : (s : Supervisor) (u : ℕ) → named (s .created) u ≡ true → getD (s .tasks) (u - 1) blank ≡ taskOf (view s) u
-called-one s u e = let r = named-range (s .created) u e in task-in (s .tasks) (s .created) u (λ z. omega arith) (r .1)
+called-one s u e = let r = between u (s .created) e in task-in (s .tasks) (s .created) u (λ z. omega arith) (r .1)
 
 pub called-none : (s : Supervisor) (u : ℕ) → named (s .created) u ≡ false → blank ≡ taskOf (view s) u
 called-none s u e =

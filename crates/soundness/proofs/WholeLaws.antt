@@ -2,7 +2,7 @@
 -- Assumes nothing.
 use Prim.Native.Nat.{ℕ, _≤_, _<_}
 use mathlib.Core.Path.{_≡_, refl, sym, ap, _∙_}
-use mathlib.Core.Bool.{Bool, true, false, _&&_, and-false}
+use mathlib.Core.Bool.{Bool, true, false, _&&_, and-false, and-assoc, and-comm}
 use mathlib.Core.List.{List, [], _∷_, _++_}
 use native.Mathlib.Omega.{arith}
 use lib.Dec.{eqb, leb}
@@ -81,28 +81,16 @@ stand-is s d =
 
 -- ── the whole ──
 
+-- the first two of three tests change places: with this, `simp` sorts tests that are taken together
+and-swap : (a b c : Bool) → (a && (b && c)) ≡ (b && (a && c))
+and-swap true b c = refl
+and-swap false b c = sym (and-false b)
+
 -- the same fourteen tests and the order, in the code's grouping and in the rules'
 regroup : (u t1 t2 t3 t4 g c1 c2 c3 c4 n1 n2 n3 n4 o : Bool)
     → (((u && g) && ((((t1 && n1) && c1) && ((t2 && n2) && c2)) && ((t3 && n3) && c3))) && (((t4 && n4) && c4) && o))
     ≡ (((((u && t1) && t2) && t3) && t4) && ((((((g && c1) && c2) && c3) && c4) && (((n1 && n2) && n3) && n4)) && o))
-regroup u t1 t2 t3 t4 g c1 c2 c3 c4 n1 n2 n3 n4 o = go u t1 t2 t3 t4 g c1 c2 c3 c4 n1 n2 n3 n4
-  where
-    go : (u t1 t2 t3 t4 g c1 c2 c3 c4 n1 n2 n3 n4 : Bool) → (((u && g) && ((((t1 && n1) && c1) && ((t2 && n2) && c2)) && ((t3 && n3) && c3))) && (((t4 && n4) && c4) && o)) ≡ (((((u && t1) && t2) && t3) && t4) && ((((((g && c1) && c2) && c3) && c4) && (((n1 && n2) && n3) && n4)) && o))
-    go false t1 t2 t3 t4 g c1 c2 c3 c4 n1 n2 n3 n4 = refl
-    go true false t2 t3 t4 g c1 c2 c3 c4 n1 n2 n3 n4 = simp and-false
-    go true true false t3 t4 g c1 c2 c3 c4 n1 n2 n3 n4 = simp and-false
-    go true true true false t4 g c1 c2 c3 c4 n1 n2 n3 n4 = simp and-false
-    go true true true true false g c1 c2 c3 c4 n1 n2 n3 n4 = simp and-false
-    go true true true true true false c1 c2 c3 c4 n1 n2 n3 n4 = simp and-false
-    go true true true true true true false c2 c3 c4 n1 n2 n3 n4 = simp and-false
-    go true true true true true true true false c3 c4 n1 n2 n3 n4 = simp and-false
-    go true true true true true true true true false c4 n1 n2 n3 n4 = simp and-false
-    go true true true true true true true true true false n1 n2 n3 n4 = simp and-false
-    go true true true true true true true true true true false n2 n3 n4 = simp and-false
-    go true true true true true true true true true true true false n3 n4 = simp and-false
-    go true true true true true true true true true true true true false n4 = simp and-false
-    go true true true true true true true true true true true true true false = simp and-false
-    go true true true true true true true true true true true true true true = refl
+regroup u t1 t2 t3 t4 g c1 c2 c3 c4 n1 n2 n3 n4 o = simp (and-assoc, and-comm, and-swap)
 
 pub unsound-many : (s : Supervisor) → 31 < s .created → false ≡ soundWhole s
 unsound-many s h = rw (lt-leb (s .created) 31 h)

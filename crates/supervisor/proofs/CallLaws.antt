@@ -1,13 +1,14 @@
 -- CALL.
 -- Assumes nothing.
 use Prim.Native.Nat.{ℕ, zero, suc, _≤_}
-use mathlib.Core.Path.{_≡_, refl, ap, _∙_}
+use mathlib.Core.Path.{_≡_, refl, _∙_}
 use mathlib.Core.Bool.{Bool, true, false, not, _&&_}
 use mathlib.Core.List.{[], _∷_}
 use native.Mathlib.Omega.{arith}
 use lib.Dec.{ltb, leb}
 use lib.ListN.{length}
 use borrow.Author.Tests.{not-true, not-false}
+use Rattle.lists.proofs.Tests.{between}
 use Rattle.rules.specs.State.{State, created, taskOf, wake, running, after, isTask, placeOf, isCompleted, accepts, meet}
 use Rattle.rules.specs.Step.{refused, took, NO-TASK, NO-TARGET, NO-ENTRY, item, WAITS, CALL-EXPIRED, TASKING-ERROR, ACCEPTED, ticks, enqueue, timedCall, callBusy, call, takeCall}
 use Rattle.rules.specs.Sound.{sound}
@@ -20,7 +21,6 @@ use lib.IntN.{ℤ}
 use Rattle.calls.specs.declared.CallMode.{CallMode}
 use Rattle.calls.specs.declared.CallMode.the-variants.{Simple, Timed, Conditional}
 use Rattle.rules.specs.declared.Timer.{Timer}
-use Rattle.rules.proofs.StepSound.{between}
 use Rattle.rules.proofs.MoveLaws.{wake-sound, length-move}
 use Rattle.table.specs.Moved.{movedOf, metOf}
 use Rattle.supervisor.specs.Taken.{Stands, endedBy}
@@ -86,5 +86,5 @@ pub woken-met : (s n k : Supervisor) (g t e : ℕ) → Stands s → isTask (view
     → k ≡ pack (meet (wake (view s) g) g t e)
 woken-met s n k g t e h q b en ek =
     let v = view s in
-    let i = between g (created v) (ap not q) in
+    let i = between g (created v) q in
     ek ∙ met-state g t e n (wake v g) (en ∙ moved-packed s g Ready Off h (i .1)) (wake-sound v g (i .0) (i .1) (h .sound)) (omega (arith, i .1, length-move v g Ready Off)) (omega (arith, b, length-move v g Ready Off))

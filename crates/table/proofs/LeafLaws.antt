@@ -12,7 +12,6 @@ use lib.Seq.{getD-take, set-out, set-getD}
 use borrow.Author.Tests.{ltb-true, ltb-false, leb-true, leb-false}
 use Rattle.lists.specs.Line.{line, pad}
 use Rattle.lists.proofs.ListLaws.{by-bool, by-eq, clash}
-use Rattle.lists.proofs.Tests.{and-first, and-second}
 use Rattle.lists.proofs.LineLaws.{left-over, line-picked}
 use Rattle.lists.proofs.MarkLaws.{insert-by}
 use Rattle.lists.specs.Lists.{if_then_else_, remove, rejoin}
@@ -72,9 +71,6 @@ none-beyond t e z =
 
 set-none : (ts : List Task) (x : Task) (t : ℕ) → length ts ≡ 31 → isNumber t ≡ false → ts ≡ setNth ts t x
 set-none ts x t l e = by-eq t 0 (λ z. rw z) (λ z. set-beyond ts x t (omega (arith, none-beyond t e z, l)))
-
-pub number-range : (t : ℕ) → isNumber t ≡ true → (1 ≤ t) × (t ≤ 31)
-number-range t e = (ltb-true 0 t (and-first (ltb 0 t) (leb t 31) e), leb-true t 31 (and-second (ltb 0 t) (leb t 31) e))
 
 -- task t, from what the code's test says of its number
 module _ (n t : ℕ) (k : Task) (b : Bool) (e : b ≡ isNumber t) where

@@ -4,7 +4,7 @@ use mathlib.Core.Path.{_≡_, sym, _∙_, ap}
 use Prim.Native.Nat.{ℕ, _≤_}
 use native.Mathlib.Omega.{arith}
 use mathlib.Core.Bool.{Bool, true, false, _&&_}
-use mathlib.Core.List.{List}
+use mathlib.Core.List.{List, [], _∷_}
 use lib.ListN.{length, take, drop}
 use lib.Seq.{length-take-le}
 use lib.Dec.{leb}
@@ -16,8 +16,8 @@ use Rattle.workspace.specs.Rules.{isNone, isKept, rulesKept}
 use Rattle.workspace.specs.Seen.{tableOf, lookOf}
 use Rattle.workspace.specs.Check.{tiled}
 use Rattle.workspace.specs.Steps.{keepsSeen}
-use Rattle.lists.proofs.Tests.{and-first, and-second, and-both as both}
-use Rattle.workspace.proofs.Basics.{same-test, split7}
+use Rattle.lists.proofs.Tests.{each, and-first, and-second, and-both as both}
+use Rattle.workspace.proofs.Basics.{same-test}
 use Rattle.workspace.proofs.Pieces.{Sound, suffice}
 use Rattle.workspace.proofs.CheckLaws.{check-sound, sound-check}
 use Rattle.workspace.proofs.Words.{kept-sound, sound-kept}
@@ -43,15 +43,15 @@ module _ (b f : List Stretch) (u : Used) where
   pub kept-stands : rulesKept b f u ≡ true → Stands
   unfolding rulesKept
   kept-stands e =
-      let w = split7 (leb 31 (length b)) (leb 32 (length f)) (leb (u .blocks) 31) (leb (u .free) (length f)) (every isNone (drop (u .blocks) b)) (every isNone (drop (u .free) f)) (isKept bs fs) e in
+      let w = each (leb 31 (length b)) (leb 32 (length f) ∷ leb (u .blocks) 31 ∷ leb (u .free) (length f) ∷ every isNone (drop (u .blocks) b) ∷ every isNone (drop (u .free) f) ∷ isKept bs fs ∷ []) e in
       record {
-        block-places = leb-true 31 (length b) (w .0);
-        free-places = leb-true 32 (length f) (w .1);
-        few-blocks = leb-true (u .blocks) 31 (w .2);
-        few-free = leb-true (u .free) (length f) (w .3);
-        unused-blocks = w .4;
-        unused-free = w .5;
-        sound = kept-sound bs fs (w .6);
+        block-places = leb-true 31 (length b) (w 0);
+        free-places = leb-true 32 (length f) (w 1);
+        few-blocks = leb-true (u .blocks) 31 (w 2);
+        few-free = leb-true (u .free) (length f) (w 3);
+        unused-blocks = w 4;
+        unused-free = w 5;
+        sound = kept-sound bs fs (w 6);
       }
 
   pub stands-kept : Stands → rulesKept b f u ≡ true
@@ -112,19 +112,14 @@ module _ (b f : List Stretch) (u : Used) where
       let xb : Bool = every isNone (drop (u .blocks) (pad 32 b)) in
       let xf : Bool = every isNone (drop (u .free) (pad 32 f)) in
       let t : Bool = tiled 64 false 0 (take (u .blocks) (pad 32 b)) (take (u .free) (pad 32 f)) in
-      let long : Bool = leb 31 (length b) && leb 32 (length f) in
-      let clear : Bool = every isNone (drop 32 b) && every isNone (drop 32 f) in
-      let e₄ : long && clear && leb (u .blocks) 31 && leb (u .free) 32 ≡ true = and-first (long && clear && leb (u .blocks) 31 && leb (u .free) 32) (xb && xf && t) e in
-      let r : xb && xf && t ≡ true = and-second (long && clear && leb (u .blocks) 31 && leb (u .free) 32) (xb && xf && t) e in
-      let e₃ : long && clear && leb (u .blocks) 31 ≡ true = and-first (long && clear && leb (u .blocks) 31) (leb (u .free) 32) e₄ in
-      let e₂ : long && clear ≡ true = and-first (long && clear) (leb (u .blocks) 31) e₃ in
-      let el : long ≡ true = and-first long clear e₂ in
-      let ec : clear ≡ true = and-second long clear e₂ in
-      let pb : 31 ≤ length b = leb-true 31 (length b) (and-first (leb 31 (length b)) (leb 32 (length f)) el) in
-      let pf : 32 ≤ length f = leb-true 32 (length f) (and-second (leb 31 (length b)) (leb 32 (length f)) el) in
-      let hb : u .blocks ≤ 31 = leb-true (u .blocks) 31 (and-second (long && clear) (leb (u .blocks) 31) e₃) in
-      let hf : u .free ≤ 32 = leb-true (u .free) 32 (and-second (long && clear && leb (u .blocks) 31) (leb (u .free) 32) e₄) in
-      let x : xb && xf ≡ true = and-first (xb && xf) t r in
+      let yb : Bool = every isNone (drop 32 b) in
+      let yf : Bool = every isNone (drop 32 f) in
+      let p = each (leb 31 (length b)) (leb 32 (length f) ∷ (yb && yf) ∷ leb (u .blocks) 31 ∷ leb (u .free) 32 ∷ (xb && xf && t) ∷ []) e in
+      let x = and-first (xb && xf) t (p 5) in
+      let pb : 31 ≤ length b = leb-true 31 (length b) (p 0) in
+      let pf : 32 ≤ length f = leb-true 32 (length f) (p 1) in
+      let hb : u .blocks ≤ 31 = leb-true (u .blocks) 31 (p 3) in
+      let hf : u .free ≤ 32 = leb-true (u .free) 32 (p 4) in
       let sb : take (u .blocks) (pad 32 b) ≡ bs = take-seen (u .blocks) 32 b (omega (arith, hb)) (omega (arith, hb, pb)) in
       let sf : take (u .free) (pad 32 f) ≡ fs = take-seen (u .free) 32 f hf (omega (arith, hf, pf)) in
       record {
@@ -132,9 +127,9 @@ module _ (b f : List Stretch) (u : Used) where
         free-places = pf;
         few-blocks = hb;
         few-free = omega (arith, hf, pf);
-        unused-blocks = sym (unused-seen (u .blocks) 32 b (omega (arith, hb))) ∙ both (and-first xb xf x) (and-first (every isNone (drop 32 b)) (every isNone (drop 32 f)) ec);
-        unused-free = sym (unused-seen (u .free) 32 f hf) ∙ both (and-second xb xf x) (and-second (every isNone (drop 32 b)) (every isNone (drop 32 f)) ec);
-        sound = check-sound 64 bs fs ((λ i. tiled 64 false 0 (sym sb i) (sym sf i)) ∙ and-second (xb && xf) t r);
+        unused-blocks = sym (unused-seen (u .blocks) 32 b (omega (arith, hb))) ∙ both (and-first xb xf x) (and-first yb yf (p 2));
+        unused-free = sym (unused-seen (u .free) 32 f hf) ∙ both (and-second xb xf x) (and-second yb yf (p 2));
+        sound = check-sound 64 bs fs ((λ i. tiled 64 false 0 (sym sb i) (sym sf i)) ∙ and-second (xb && xf) t (p 5));
       }
 
   -- the code's check passes exactly where the rules are kept

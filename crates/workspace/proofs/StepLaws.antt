@@ -10,7 +10,7 @@ use lib.Dec.{leb, ltb, eqb}
 use mir.Val.{boolByte}
 use borrow.Author.Tests.{leb-true, ltb-true, lt-ltb, le-ltb, ne-eqb}
 use Rattle.lists.specs.Lists.{if_then_else_, bit, every}
-use Rattle.lists.proofs.Tests.{no, and-first, and-second, byte-bit}
+use Rattle.lists.proofs.Tests.{no, each, and-first, byte-bit}
 use Rattle.lists.proofs.ListLaws.{by-bool}
 use Rattle.workspace.specs.declared.Stretch.{Stretch}
 use Rattle.workspace.specs.declared.Used.{Used}
@@ -36,8 +36,8 @@ break-law s u e = λ i. sym e i && (every isNone (drop (u .blocks) (s .blocks)) 
 -- where that is so, the numbers of places used are in range
 pub in-range : (s : Look) (u : Used) → isCounted s u ≡ true → (u .blocks ≤ 31) × (u .free ≤ 32)
 in-range s u c =
-    let b : s .long && s .clear && leb (u .blocks) 31 ≡ true = and-first (s .long && s .clear && leb (u .blocks) 31) (leb (u .free) 32) c in
-    (leb-true (u .blocks) 31 (and-second (s .long && s .clear) (leb (u .blocks) 31) b), leb-true (u .free) 32 (and-second (s .long && s .clear && leb (u .blocks) 31) (leb (u .free) 32) c))
+    let p = each (s .long) (s .clear ∷ leb (u .blocks) 31 ∷ leb (u .free) 32 ∷ []) c in
+    (leb-true (u .blocks) 31 (p 2), leb-true (u .free) 32 (p 3))
 
 pub counted : (s : Look) (u : Used) → keepsSeen s u ≡ true → (u .blocks ≤ 31) × (u .free ≤ 32)
 unfolding keepsSeen

@@ -15,9 +15,8 @@ use borrow.Author.Tests.{ltb-true, leb-true, leb-false, eqb-true, eqb-false, lt-
 use Rattle.workspace.specs.declared.Stretch.{Stretch}
 use Rattle.lists.specs.Lists.{every, bit}
 use Rattle.workspace.specs.Rules.{pairs, units, stretch, end, total, isBefore, isLong, isInside, isApart, isLoose, isKept}
-use Rattle.lists.proofs.Tests.{ways, no, and-first, and-second, and-both as both, or-first, or-left, or-right}
+use Rattle.lists.proofs.Tests.{ways, no, each, and-first, and-second, and-both as both, or-first, or-left, or-right}
 use Rattle.lists.proofs.ListLaws.{by-bool}
-use Rattle.workspace.proofs.Basics.{split7}
 use Rattle.workspace.proofs.Pieces.{Piece, taken, spare, blocksFrom, freeFrom, measure, Good, Sound, Within, adds-up, wider, blocks-within, free-within}
 use Rattle.workspace.proofs.CheckLaws.{Cut}
 
@@ -249,8 +248,8 @@ module _ (bs fs : List Stretch) where
   pub kept-words : isKept bs fs ≡ true → Words
   unfolding isKept
   kept-words e =
-      let w = split7 (pairs isBefore bs) (pairs isBefore fs) (every isLong (bs ++ fs)) (every isInside (bs ++ fs)) (pairs isApart (bs ++ fs)) (pairs isLoose fs) (eqb (total (bs ++ fs)) units) e in
-      record { blocks-before = w .0; free-before = w .1; long = w .2; inside = w .3; apart = w .4; loose = w .5; add-up = eqb-true (total (bs ++ fs)) units (w .6) }
+      let w = each (pairs isBefore bs) (pairs isBefore fs ∷ every isLong (bs ++ fs) ∷ every isInside (bs ++ fs) ∷ pairs isApart (bs ++ fs) ∷ pairs isLoose fs ∷ eqb (total (bs ++ fs)) units ∷ []) e in
+      record { blocks-before = w 0; free-before = w 1; long = w 2; inside = w 3; apart = w 4; loose = w 5; add-up = eqb-true (total (bs ++ fs)) units (w 6) }
 
   pub words-kept : Words → isKept bs fs ≡ true
   unfolding isKept

@@ -8,7 +8,7 @@ use mathlib.Core.Path.{_≡_, refl, sym, ap, _∙_}
 use mathlib.Core.List.{[]}
 use lib.ListN.{length, getD}
 use Rattle.lists.specs.Lists.{every, downFrom}
-use Rattle.lists.proofs.Tests.{ways}
+use Rattle.lists.proofs.Tests.{ways, between}
 use Rattle.lists.proofs.ListLaws.{mapped-long}
 use Rattle.rules.specs.State.{blank, taskOf}
 use Rattle.rules.specs.Whole.{view}
@@ -16,7 +16,7 @@ use Rattle.rules.specs.declared.Supervisor.{Supervisor}
 use Rattle.table.proofs.LeafLaws.{task-in}
 use Rattle.soundness.specs.Check.{Line, Ready, Callers, Held, Delays, belongs, goodIn, marked}
 use Rattle.soundness.specs.Marks.{noMarks, nextMark}
-use Rattle.soundness.proofs.TaskLaws.{and-last, named-range, called-one, called-none, good-is}
+use Rattle.soundness.proofs.TaskLaws.{and-last, called-one, called-none, good-is}
 use Rattle.soundness.proofs.Turns.{and-turn, down-on, down-end, mark-on}
 use Rattle.soundness.proofs.told_of.Statement.{statement}
 use Rattle.soundness.proofs.told_of.Tie as tie
@@ -45,7 +45,7 @@ in-range : (c : tie.Then1 Inv-loop μ-loop) →
 in-range c =
     let p = c .before .before .before in
     let l = p .before .before .before in
-    let r = named-range (l .before .args .t1 .created) (p .partner-of .result) (sym (c .before .is-between .ensures) ∙ c .if1 .taken) in
+    let r = between (p .partner-of .result) (l .before .args .t1 .created) (sym (c .before .is-between .ensures) ∙ c .if1 .taken) in
     (r .0, r .1, l .loop .inv .0)
 
 -- what stands beside task t is the task that it has called

@@ -2,12 +2,12 @@ use native.Mathlib.Omega.{arith}
 use borrow.Author.Needs.{needs}
 use Prim.Native.Nat.{_≤_}
 use mathlib.Core.Path.{sym, _∙_}
-use Rattle.table.proofs.LeafLaws.{number-range}
+use Rattle.lists.proofs.Tests.{between}
 use Rattle.table.proofs.tasks.index_of.Statement.{statement}
 use Rattle.table.proofs.tasks.index_of.Tie as tie
 
 number-here : (c : tie.Then1) → (1 ≤ c .before .before .args .t) × (c .before .before .args .t ≤ 31)
-number-here c = number-range (c .before .before .args .t) (sym (c .before .is-number .ensures) ∙ c .if1 .taken)
+number-here c = between (c .before .before .args .t) 31 (sym (c .before .is-number .ensures) ∙ c .if1 .taken)
 
 sub-result : tie.Need-sub-result
 sub-result c = number-here c .0

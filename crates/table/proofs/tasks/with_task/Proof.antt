@@ -5,12 +5,13 @@ use mathlib.Core.Path.{_≡_, refl, sym, _∙_}
 use lib.ListN.{length}
 use Rattle.lists.proofs.Parts.{need, Field}
 use Rattle.lists.proofs.ListLaws.{mapped-long}
-use Rattle.table.proofs.LeafLaws.{number-range, set-in, with-out}
+use Rattle.lists.proofs.Tests.{between}
+use Rattle.table.proofs.LeafLaws.{set-in, with-out}
 use Rattle.table.proofs.tasks.with_task.Statement.{statement}
 use Rattle.table.proofs.tasks.with_task.Tie as tie
 
 number-here : (c : tie.Then1) → (1 ≤ c .before .before .args .t) × (c .before .before .args .t ≤ 31)
-number-here c = number-range (c .before .before .args .t) (sym (c .before .is-number .ensures) ∙ c .if1 .taken)
+number-here c = between (c .before .before .args .t) 31 (sym (c .before .is-number .ensures) ∙ c .if1 .taken)
 
 -- task t is x
 tasks-here : Field (need tie.Need-returns) (λ s. s .tasks)

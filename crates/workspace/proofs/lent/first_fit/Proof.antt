@@ -10,9 +10,8 @@ use Rattle.workspace.specs.Rules.{none}
 use Rattle.workspace.specs.declared.Test.the-variants.{HasUnits}
 use Rattle.workspace.specs.Places.{placeOf, passesOf}
 use Rattle.workspace.proofs.PlaceLaws.{Passed, begin, pass, found, passed-all}
-use Rattle.workspace.proofs.Walks.{tail, is-not}
+use Rattle.workspace.proofs.Walks.{tail, is-so, is-not}
 use Rattle.workspace.proofs.Going.{word, Locals, Waiting, visits, leaves}
-use Rattle.lists.proofs.ListLaws.{is-true}
 use Rattle.workspace.proofs.Stretch as T
 use Rattle.workspace.proofs.Stretch.Laws as T′
 use Rattle.workspace.proofs.lent.first_fit.Key.{name as #workspace·first-fit}
@@ -92,7 +91,7 @@ module _ {M : Type 1} (𝓤 : URA M) (H : Heap 𝓤) (A : Atoms 𝓤) (W : Given
         (λ less g.
         assigns ! (bin ! (load ! (from ! (stop !)) (look ! 12 refl)) (load ! (from ! (stop !)) (look ! 2 refl)) tt) (from ! (stop !)) (store ! 6 refl (tt, tt)) $
         first ! $ branches ! (load ! (from ! (stop !)) (look ! 6 refl))
-        (λ long. jumps ! $ forget ! 2 refl $ forget ! 4 refl $ forget ! 6 refl $ forget ! 8 refl $ by ! (left i (found (passesOf HasUnits size) ys (i .0) (getD ys (i .0) none) _ less refl refl (is-true _ long) (i .2))))
+        (λ long. jumps ! $ forget ! 2 refl $ forget ! 4 refl $ forget ! 6 refl $ forget ! 8 refl $ by ! (left i (found (passesOf HasUnits size) ys (i .0) (getD ys (i .0) none) _ less refl refl (is-so _ long) (i .2))))
         (λ short. skips ! $ exec ! C Λ En onward (anyQ (Turned i)) $
         assigns-last ! (bin ! (load ! (from ! (stop !)) (look ! 10 refl)) (lit ! tt) (record { fits = fits (next i less (is-not _ short)) })) (from ! (stop !)) (store ! 10 refl (tt, record { fits = fits (next i less (is-not _ short)) })) $
         forget ! 2 refl $ forget ! 4 refl $ forget ! 6 refl $ forget ! 8 refl $ again ! Nearer At i (next i less (is-not _ short)) (add-one-dec n (i .0) less)))
