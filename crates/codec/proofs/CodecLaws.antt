@@ -85,9 +85,6 @@ next-place i = omega arith
 pub turns : (n i : ℕ) → i < n → n - i ≡ suc (n - (i + 1))
 turns n i h = omega arith
 
-pub all-turns : (n : ℕ) → n - 0 ≡ n
-all-turns n = omega arith
-
 module _ (b : List ℕ) (n i : ℕ) (h : i < n) where
   pub are-next : areTasks (n - i) (drop (5 + i * 10) b) ≡ (isTask (drop (5 + i * 10) b) && areTasks (n - (i + 1)) (drop (5 + (i + 1) * 10) b))
   are-next = rw (turns n i h, next-place i) (are-turn (n - (i + 1)) (5 + i * 10) b)

@@ -3,11 +3,10 @@ use Prim.Native.Nat.{ℕ, zero, suc, _+_, _*_, _/_, _%_, _≤_}
 use mathlib.Core.Path.{_≡_, refl, sym, ap, _∙_}
 use mathlib.Core.Bool.{true, false, _&&_}
 use mathlib.Core.List.{List, [], _∷_, _++_}
-use native.Mathlib.Nat.{zero-add}
 use native.Mathlib.Omega.{arith}
 use borrow.Author.Tests.{eqb-true, ne-eqb, lt-leb, leb-true}
 use lib.ListN.{length, take, drop, length-drop}
-use lib.Seq.{take-append-add, getD-drop}
+use lib.Seq.{take-add, take-append-add, getD-drop}
 use lib.Dec.{eqb, leb}
 use Rattle.lists.proofs.ListLaws.{by-bool}
 use Rattle.lists.proofs.Tests.{differ, and-first, and-second}
@@ -93,14 +92,6 @@ tasks-exact (suc n) b all h e =
 
 -- ── a state ──
 
--- a start of m + n bytes is one of m, and n behind it
-start : (m n : ℕ) (b : List ℕ) → m ≤ length b → take (m + n) b ≡ take m b ++ take n (drop m b)
-start zero n b h = ap (λ (k : ℕ). take k b) (zero-add n)
-start (suc m) n [] h = absurd (omega arith)
-start (suc m) n (x ∷ b) h =
-    let k : suc m + n ≡ suc (m + n) = omega arith in
-    ap (λ (k : ℕ). take k (x ∷ b)) k ∙ ap (λ (l : List ℕ). x ∷ l) (start m n b (omega arith))
-
 pub encode-decode : (b : List ℕ) → Bytes b → isEncoding b ≡ true → encode (decode b) ≡ take 439 b
 unfolding isEncoding encode decode
 encode-decode b all e =
@@ -108,11 +99,11 @@ encode-decode b all e =
     let room : 31 * 10 ≤ length (drop 5 b) = simp length-drop (omega arith) in
     let t = tasks-exact 31 (drop 5 b) (rest-bytes b 5 all) room (and-second (leb 439 (length b)) (areTasks 31 (drop 5 b)) e) in
     let h : bytesOf (fourFrom b 0) ++ (byte b 4 ∷ []) ≡ take 5 b = ap (λ (l : List ℕ). l ++ (byte b 4 ∷ [])) (four-bytes b 0 all) ∙ sym (five b (omega arith)) in
-    let s₁ = start 5 310 b (omega arith) in
-    let s₂ = start 315 31 b (omega arith) in
-    let s₃ = start 346 31 b (omega arith) in
-    let s₄ = start 377 31 b (omega arith) in
-    let s₅ = start 408 31 b (omega arith) in
+    let s₁ = take-add 5 310 b in
+    let s₂ = take-add 315 31 b in
+    let s₃ = take-add 346 31 b in
+    let s₄ = take-add 377 31 b in
+    let s₅ = take-add 408 31 b in
     ap (λ (l : List ℕ). l ++ tasksBytes (tasksFrom 31 (drop 5 b)) ++ take 31 (drop 315 b) ++ take 31 (drop 346 b) ++ take 31 (drop 377 b) ++ take 31 (drop 408 b)) h
     ∙ ap (λ (l : List ℕ). take 5 b ++ l ++ take 31 (drop 315 b) ++ take 31 (drop 346 b) ++ take 31 (drop 377 b) ++ take 31 (drop 408 b)) t
     ∙ ap (λ (l : List ℕ). l ++ take 31 (drop 315 b) ++ take 31 (drop 346 b) ++ take 31 (drop 377 b) ++ take 31 (drop 408 b)) (sym s₁)

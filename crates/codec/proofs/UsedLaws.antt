@@ -3,6 +3,7 @@ use Prim.Native.Nat.{ℕ, zero, suc, _+_, _-_, _*_, _<_, _≤_}
 use mathlib.Core.Path.{_≡_, refl, sym, ap, subst, _∙_}
 use mathlib.Core.Bool.{Bool, true, false, _&&_, and-true, and-assoc}
 use mathlib.Core.List.{List, [], _∷_, _++_, append-nil}
+use native.Mathlib.Nat.{sub-zero}
 use native.Mathlib.Omega.{arith}
 use borrow.Author.Tests.{eqb-true, ltb-true, ltb-false, lt-ltb, le-ltb}
 use lib.ListN.{length, replicate, set, take, drop, take-append-drop, length-set}
@@ -18,7 +19,7 @@ use Rattle.rules.specs.declared.Task.{Task}
 use Rattle.rules.specs.declared.Supervisor.{Supervisor}
 use Rattle.codec.specs.Layout.{isTask, taskFrom, areTasks, tasksFrom, decode, lost, stateIn}
 use Rattle.codec.specs.Used.{areZero, tableFrom, usedTasks, withTasks, bareIn}
-use Rattle.codec.proofs.CodecLaws.{turns, all-turns, are-turn, from-turn, are-next, from-next, state-short, state-tested}
+use Rattle.codec.proofs.CodecLaws.{turns, are-turn, from-turn, are-next, from-next, state-short, state-tested}
 
 -- ── bytes that are 0 ──
 
@@ -153,7 +154,7 @@ Filled b n i tasks = (length tasks ≡ 31) × (take i tasks ++ tasksFrom (n - i)
 
 filled-start : (b : List ℕ) (n : ℕ) → Filled b n 0 (lost .tasks)
 unfolding lost
-filled-start b n = (refl, ap (λ (k : ℕ). tasksFrom k (drop 5 b)) (all-turns n), refl)
+filled-start b n = (refl, ap (λ (k : ℕ). tasksFrom k (drop 5 b)) (sub-zero n), refl)
 
 filled-next : (b : List ℕ) (n i : ℕ) (tasks : List Task) (x : Task) → i < n → n ≤ 31 → x ≡ taskFrom (drop (5 + i * 10) b) → Filled b n i tasks → Filled b n (i + 1) (set tasks i x)
 filled-next b n i tasks x h k e f =
@@ -194,7 +195,7 @@ bare-tasks b = by-test (λ (s : Supervisor). s .tasks ≡ lost .tasks) (ltb (len
 pub reading-start : (b : List ℕ) (n : ℕ) (s : Supervisor) → s ≡ bareIn b → Reading b n 0 s true
 reading-start b n s e =
     let filled = subst (Filled b n 0) (sym (bare-tasks b)) (filled-start b n) in
-    subst (λ (s : Supervisor). Reading b n 0 s true) (sym e) (ap (λ (k : ℕ). areTasks k (drop 5 b)) (all-turns n), refl, filled)
+    subst (λ (s : Supervisor). Reading b n 0 s true) (sym e) (ap (λ (k : ℕ). areTasks k (drop 5 b)) (sub-zero n), refl, filled)
 
 pub reading-next : (b : List ℕ) (n i : ℕ) (s : Supervisor) (good right : Bool) (x : Task) → i < n → n ≤ 31 → right ≡ isTask (drop (5 + i * 10) b) → x ≡ taskFrom (drop (5 + i * 10) b)
     → Reading b n i s good → Reading b n (i + 1) (withTasks s (set (s .tasks) i x)) (good && right)

@@ -8,7 +8,7 @@ use mathlib.Core.Bool.{Bool, true, false, _||_}
 use mathlib.Core.List.{List, [], _∷_, _++_, append-nil}
 use lib.ListN.{length, replicate, take, drop, getD, set, drop-of-length-le}
 use lib.Seq.{drop-cons, take-suc-set, take-all, length-take-le, append-snoc}
-use Rattle.lists.specs.Lists.{insert}
+use Rattle.lists.specs.Lists.{insert, every}
 use Rattle.lists.specs.Line.{line, pad, padTo}
 use Rattle.lists.proofs.ListLaws.{clash}
 use Rattle.lists.proofs.LineLaws.{take-pad, length-padTo, padTo-full}
@@ -34,6 +34,17 @@ rest-entry a i l n = rw (drop-cons a i 0 l, add-one i) (entry (getD a i 0) n)
 -- from the end on there is nothing
 pub rest-end : (a : List ℕ) (i : ℕ) → length a ≤ i → line (drop i a) ≡ []
 rest-end a i l = ap line (drop-of-length-le a l)
+
+-- a test of all from place i on: the next passes, the next fails, there is none
+module _ {A : Type 0} (f : A → Bool) (l : List A) (i : ℕ) (d : A) where
+  pub every-pass : i < length l → f (getD l i d) ≡ true → every f (drop i l) ≡ every f (drop (i + 1) l)
+  every-pass h e = rw (add-one i, drop-cons l i d h, e)
+
+  pub every-fail : i < length l → f (getD l i d) ≡ false → every f (drop i l) ≡ false
+  every-fail h e = rw (drop-cons l i d h, e)
+
+  pub every-done : length l ≤ i → every f (drop i l) ≡ true
+  every-done h = rw (drop-of-length-le l h)
 
 -- ---- writing: an array that holds its first j entries and blanks behind them, `r ≡ pad (take j r)`
 

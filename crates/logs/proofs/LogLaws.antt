@@ -1,6 +1,7 @@
 -- The window on the bytes of a log that stand unread, the rest of a log that is skipped, and numbers in a head.
 -- Assumes nothing.
 use Prim.Native.Nat.{ℕ, zero, suc, _+_, _-_, _≤_, _<_, min}
+use native.Mathlib.Nat.{min-eq-left, min-eq-right, min-le-left}
 use native.Mathlib.Omega.{arith}
 use mathlib.Core.Path.{_≡_, sym, ap, _∙_}
 use mathlib.Core.Bool.{Bool, _||_}
@@ -57,23 +58,13 @@ module _ (l : Log) (b : List ℕ) where
 
 -- ---- what is taken is taken off the front
 
--- the least of two, by which it is
-least-first : (a b : ℕ) → a ≤ b → min a b ≡ a
-least-first a b h = omega arith
-
-least-second : (a b : ℕ) → b ≤ a → min a b ≡ b
-least-second a b h = omega arith
-
 -- a window that goes on behind k of its bytes shows those behind them
 unread-taken : (w : Window) (b : List ℕ) (k : ℕ) → k ≤ length (unreadIn w b) → unreadIn (movedTo w (placeBehind w k)) b ≡ drop k (unreadIn w b)
 unread-taken w b k h =
     by-bool (leb (w .at) (endIn w b))
-    (λ q. inside (leb-true (w .at) (endIn w b) q) (cut (w .end) (length b)) (rw (unread-length w b) at h))
-    (λ q. outside (leb-false (w .at) (endIn w b) q) (cut (w .end) (length b)) (rw (unread-length w b) at h))
+    (λ q. inside (leb-true (w .at) (endIn w b) q) (min-le-left (w .end) (length b)) (rw (unread-length w b) at h))
+    (λ q. outside (leb-false (w .at) (endIn w b) q) (min-le-left (w .end) (length b)) (rw (unread-length w b) at h))
   where
-    cut : (e n : ℕ) → min e n ≤ e
-    cut e n = omega arith
-
     nothing : (a c : ℕ) → k ≤ a - c → c ≡ a → k ≡ 0
     nothing a c f e = omega arith
 
@@ -82,16 +73,16 @@ unread-taken w b k h =
 
     inside : w .at ≤ endIn w b → endIn w b ≤ w .end → k ≤ endIn w b - startIn w b → unreadIn (movedTo w (placeBehind w k)) b ≡ drop k (unreadIn w b)
     inside p c f =
-        let start : startIn w b ≡ w .at = least-first (w .at) (endIn w b) p in
-        let front : min (w .at) (w .end) ≡ w .at = least-first (w .at) (w .end) (omega arith) in
+        let start : startIn w b ≡ w .at = min-eq-left p in
+        let front : min (w .at) (w .end) ≡ w .at = min-eq-left (omega arith) in
         let few : k ≤ w .end - w .at = omega (arith, start) in
-        let place : placeBehind w k ≡ startIn w b + k = rw (front, least-first k (w .end - w .at) few, start) in
+        let place : placeBehind w k ≡ startIn w b + k = rw (front, min-eq-left few, start) in
         rw place (unread-behind w b k h)
 
     outside : endIn w b < w .at → endIn w b ≤ w .end → k ≤ endIn w b - startIn w b → unreadIn (movedTo w (placeBehind w k)) b ≡ drop k (unreadIn w b)
     outside p c f =
-        let start : startIn w b ≡ endIn w b = least-second (w .at) (endIn w b) (omega arith) in
-        let place : min (placeBehind w k) (endIn w b) ≡ endIn w b = least-second (placeBehind w k) (endIn w b) (under (endIn w b) (w .at) (w .end) (min k (w .end - min (w .at) (w .end))) (omega arith) c) in
+        let start : startIn w b ≡ endIn w b = min-eq-right (omega arith) in
+        let place : min (placeBehind w k) (endIn w b) ≡ endIn w b = min-eq-right (under (endIn w b) (w .at) (w .end) (min k (w .end - min (w .at) (w .end))) (omega arith) c) in
         let none = nothing (endIn w b) (startIn w b) f start in
         rw (place, none, start)
 

@@ -5,6 +5,7 @@ use mathlib.Core.Path.{_≡_, refl, sym, ap, subst, _∙_}
 use mathlib.Core.List.{List, [], _∷_, _++_, append-assoc, append-nil}
 use native.Mathlib.Omega.{arith}
 use lib.ListN.{length, take, length-take}
+use lib.Seq.{take-all}
 use Rattle.text.specs.Text.{over, putAt, behind, Put}
 use Rattle.text.proofs.Puts.{put-kept}
 use Rattle.script.specs.Rows.{textIn, cut, Grown}
@@ -16,12 +17,6 @@ take-again : (n : ℕ) (a b : List ℕ) → take n (take n a ++ b) ≡ take n (a
 take-again zero a b = refl
 take-again (suc n) [] b = refl
 take-again (suc n) (x ∷ a) b = ap (λ (l : List ℕ). x ∷ l) (take-again n a b)
-
-pub take-whole : (n : ℕ) (l : List ℕ) → length l ≤ n → take n l ≡ l
-take-whole zero [] h = refl
-take-whole zero (x ∷ l) h = absurd (omega arith)
-take-whole (suc n) [] h = refl
-take-whole (suc n) (x ∷ l) h = ap (λ (l : List ℕ). x ∷ l) (take-whole n l (omega arith))
 
 take-least : (n : ℕ) (l : List ℕ) → take (min n (length l)) l ≡ take n l
 take-least zero l = let z : min 0 (length l) ≡ 0 = omega arith in ap (λ (k : ℕ). take k l) z
@@ -60,7 +55,7 @@ put-grown row {text} h p =
 
 -- a text that fits is all there
 pub all-fits : (row : Row) → length (row .bytes) ≡ 64 → textIn row ≡ cut (textIn row ++ [])
-all-fits row h = sym (ap cut (append-nil (textIn row)) ∙ take-whole 64 (textIn row) (rw (length-take (row .place) (row .bytes)) (omega (arith, h))))
+all-fits row h = sym (ap cut (append-nil (textIn row)) ∙ take-all 64 (textIn row) (rw (length-take (row .place) (row .bytes)) (omega (arith, h))))
 
 -- nothing more
 pub none-grown : (row : Row) → length (row .bytes) ≡ 64 → Grown row [] row
@@ -96,4 +91,4 @@ pub text-taken : (row : Row) (n : ℕ) (text : List ℕ) → length (row .bytes)
     → take (n - 0) (row .bytes) ≡ text
 text-taken row n text h e t s =
     let k : n - 0 ≡ min (row .place) (length (row .bytes)) = omega (arith, h, e) in
-    ap (λ (n : ℕ). take n (row .bytes)) k ∙ take-least (row .place) (row .bytes) ∙ t ∙ take-whole 64 text s
+    ap (λ (n : ℕ). take n (row .bytes)) k ∙ take-least (row .place) (row .bytes) ∙ t ∙ take-all 64 text s

@@ -7,7 +7,7 @@ use mathlib.Core.List.{List, [], _∷_}
 use native.Mathlib.Omega.{arith}
 use lib.Dec.{eqb}
 use lib.ListN.{length, take, drop, length-take}
-use lib.Seq.{take-at}
+use lib.Seq.{take-all, take-at}
 use borrow.Author.Tests.{eqb-true, eq-eqb, le-ltb}
 use Rattle.lists.proofs.Tests.{and-first, and-second}
 use Rattle.calls.specs.Record.{encode}
@@ -22,7 +22,7 @@ use Rattle.script.specs.Guess.{alike, hear, unseen, guessBy, guessOf}
 use Rattle.script.specs.declared.guess.Seen.{Seen}
 use Rattle.script.specs.declared.row.Row.{Row}
 use Rattle.script.specs.declared.Line.the-variants as L
-use Rattle.script.proofs.Growing.{take-whole, then-grown, alone}
+use Rattle.script.proofs.Growing.{then-grown, alone}
 use Rattle.script.proofs.Back.{guess-back}
 use Rattle.script.proofs.Shape.{text-short}
 
@@ -59,7 +59,7 @@ alike-self (x ∷ a) = rw (eq-eqb x x refl) (alike-self a)
 
 -- the text of a call behind a blank is what was printed
 pub printed : (c : C.Call) (e b row : Row) → Fits c → textIn e ≡ [] → Grown e (32 ∷ []) b → Grown b (textOf c) row → textIn row ≡ 32 ∷ textOf c
-printed c e b row f p q r = let s = text-short c f in alone p (then-grown q r) ∙ take-whole 64 (32 ∷ textOf c) (omega arith)
+printed c e b row f p q r = let s = text-short c f in alone p (then-grown q r) ∙ take-all 64 (32 ∷ textOf c) (omega arith)
 
 -- the print is what the words are
 pub said : (words text : List ℕ) (c : C.Call) → Fits c → text ≡ 32 ∷ textOf c → alike words text ≡ true → Says words (L.Says c)
@@ -87,4 +87,4 @@ too-long words row g p h =
 pub all-there : (words : List ℕ) (row : Row) → length (row .bytes) ≡ 64 → textIn row ≡ cut words → row .place < 64 → textIn row ≡ words
 all-there words row g p h =
     let k : length (textIn row) ≡ length (cut words) = ap length p in
-    p ∙ take-whole 64 words (omega (arith, k, length-take (row .place) (row .bytes), length-take 64 words, g))
+    p ∙ take-all 64 words (omega (arith, k, length-take (row .place) (row .bytes), length-take 64 words, g))

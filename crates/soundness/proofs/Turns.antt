@@ -1,8 +1,8 @@
--- Turns of the loops: over the table, down from a number, and over a line.
+-- Turns of the loops: down from a number, and over a line.
 -- Assumes nothing.
 use Prim.Native.Nat.{ℕ, zero, suc, _+_, _-_, _≤_, _<_}
 use mathlib.Core.Path.{_≡_, refl, sym, ap, _∙_}
-use mathlib.Core.Bool.{Bool, true, false, _&&_, and-assoc}
+use mathlib.Core.Bool.{Bool, true, _&&_, and-assoc}
 use mathlib.Core.List.{List, [], _∷_}
 use native.Mathlib.Omega.{arith}
 use native.Mathlib.Numerals.{add-one, unary-clauses}
@@ -12,20 +12,10 @@ use lib.ListN.{length, getD, drop, drop-of-length-le}
 use lib.Seq.{drop-cons}
 use borrow.Author.Tests.{ne-eqb}
 use Rattle.lists.specs.Line.{blanks}
-use Rattle.lists.specs.Lists.{every, downFrom}
+use Rattle.lists.specs.Lists.{downFrom}
 use Rattle.soundness.specs.Marks.{Marks, hasMark, nextMark, withoutMark, isNone}
 use Rattle.soundness.specs.Check.{marked, walked}
 use Rattle.soundness.proofs.TaskLaws.{and-last}
-
-module _ {A : Type 0} (f : A → Bool) (l : List A) (i : ℕ) (d : A) where
-  pub every-pass : i < length l → f (getD l i d) ≡ true → every f (drop i l) ≡ every f (drop (i + 1) l)
-  every-pass h e = rw (add-one i, drop-cons l i d h, e)
-
-  pub every-fail : i < length l → f (getD l i d) ≡ false → every f (drop i l) ≡ false
-  every-fail h e = rw (drop-cons l i d h, e)
-
-  pub every-done : length l ≤ i → every f (drop i l) ≡ true
-  every-done h = rw (drop-of-length-le l h)
 
 -- task t, and those below it
 pub down-on : (t : ℕ) → 0 < t → downFrom t ≡ t ∷ downFrom (t - 1)

@@ -6,6 +6,7 @@ use mathlib.Core.Bool.{false, not}
 use native.Mathlib.Nat.{div-eq-of-lt, pow-le-pow-right, div-add-mod', div-one}
 use native.Mathlib.Omega.{arith}
 use lib.Dec.{eqb, leb}
+use lib.Pow.{pow-pos}
 use borrow.Author.Tests.{ne-eqb, leb-true, leb-false, lt-leb}
 use Rattle.rules.specs.State.{opens}
 use Rattle.lists.proofs.ListLaws.{by-bool}
@@ -28,8 +29,5 @@ set-test o n =
     (λ e. rw (e, ne-eqb (o / 2 ^ n) 0 (λ z. low (2 ^ n) (leb-true (2 ^ n) o e) (pow-pos n) z)))
     (λ e. rw (e, div-eq-of-lt {n = o} {m = 2 ^ n} (leb-false (2 ^ n) o e)))
   where
-    pow-pos : (n : ℕ) → 0 < 2 ^ n
-    pow-pos n = let w : 2 ^ 0 ≤ 2 ^ n = pow-le-pow-right {n = 2} (omega arith) {i = 0} {j = n} (omega arith) in omega arith
-
     low : (m : ℕ) → m ≤ o → 0 < m → o / m ≡ 0 → ⊥
     low m a p z = omega (arith, rw z at (div-add-mod' o m), native.Mathlib.Nat.mod-lt o {m = m} p)

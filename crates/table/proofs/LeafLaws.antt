@@ -3,11 +3,11 @@
 use Prim.Native.Nat.{ℕ, zero, suc, _-_, _≤_, _<_}
 use mathlib.Core.Path.{_≡_, refl, sym, ap, _∙_}
 use mathlib.Core.Bool.{Bool, true, false, _&&_}
-use mathlib.Core.List.{List, [], _∷_, _++_}
+use mathlib.Core.List.{List, _∷_, _++_}
 use native.Mathlib.Numerals.{unary-clauses}
 use native.Mathlib.Omega.{arith}
 use lib.Dec.{eqb, ltb, leb}
-use lib.ListN.{length, getD, set, take}
+use lib.ListN.{length, getD, set, take, length-take}
 use lib.Seq.{getD-take, set-out, set-getD}
 use borrow.Author.Tests.{ltb-true, ltb-false, leb-true, leb-false}
 use Rattle.lists.specs.Line.{line, pad}
@@ -30,16 +30,6 @@ use Rattle.table.specs.Numbers.{isNumber, indexOf, shownOf}
 
 -- ---- the table
 
-take-low : {A : Type 0} (n : ℕ) (l : List A) → length (take n l) ≤ n
-take-low zero l = omega arith
-take-low (suc n) [] = omega arith
-take-low (suc n) (x ∷ l) = omega (arith, take-low n l)
-
-take-short : {A : Type 0} (n : ℕ) (l : List A) → length (take n l) ≤ length l
-take-short zero l = omega arith
-take-short (suc n) [] = omega arith
-take-short (suc n) (x ∷ l) = omega (arith, take-short n l)
-
 module _ (ts : List Task) (n t : ℕ) where
   pub task-in : (t ≡ 0 → ⊥) → t ≤ n → getD ts (t - 1) blank ≡ nth (take n ts) t
   task-in z h = go t z h
@@ -49,10 +39,10 @@ module _ (ts : List Task) (n t : ℕ) where
       go (suc k) z h = simp unary-clauses (sym (getD-take n ts k blank (omega arith)))
 
   pub task-past : n < t → blank ≡ nth (take n ts) t
-  task-past h = sym (nth-beyond (take n ts) t (omega (arith, take-low n ts)))
+  task-past h = sym (nth-beyond (take n ts) t (omega (arith, length-take n ts)))
 
   pub task-out : length ts < t → blank ≡ nth (take n ts) t
-  task-out h = sym (nth-beyond (take n ts) t (omega (arith, take-short n ts)))
+  task-out h = sym (nth-beyond (take n ts) t (omega (arith, length-take n ts)))
 
 module _ (ts : List Task) (x : Task) where
   pub set-in : (t : ℕ) → (t ≡ 0 → ⊥) → set ts (t - 1) x ≡ setNth ts t x

@@ -5,7 +5,7 @@ use Prim.Native.Nat.{ℕ, _≤_}
 use native.Mathlib.Omega.{arith}
 use mathlib.Core.Bool.{true}
 use mathlib.Core.List.{List}
-use lib.ListN.{length, take, replicate, drop-of-length-le}
+use lib.ListN.{length, take, replicate, length-replicate, drop-of-length-le}
 use lib.Seq.{take-all}
 use Rattle.workspace.specs.declared.Stretch.{Stretch}
 use Rattle.workspace.specs.declared.Table.{Table}
@@ -21,13 +21,13 @@ use Rattle.workspace.specs.Owning.{tablesAs}
 use Rattle.workspace.specs.Places.{placeOf, passesOf}
 use Rattle.workspace.specs.Seen.{tableOf, laid, seenAs, lookOf}
 use Rattle.workspace.proofs.PlaceLaws.{over-same}
-use Rattle.workspace.proofs.SeenLaws.{replicate-length, under, under-length}
+use Rattle.workspace.proofs.SeenLaws.{under, under-length}
 use Rattle.workspace.proofs.Bridge.{Says}
 
 -- all of a table of 32 places is seen
 table-32 : (l : List Stretch) → length l ≡ 32 → _≡_ {A = Table} (record { places = l; clear = true }) (tableOf l)
 unfolding tableOf
-table-32 l h = λ i. record { places = sym (over-same (replicate 32 none) l (replicate-length 32 none ∙ sym h)) i; clear = ap (every isNone) (sym (drop-of-length-le l (let k : length l ≤ 32 = omega (arith, h) in k))) i }
+table-32 l h = λ i. record { places = sym (over-same (replicate 32 none) l (length-replicate 32 none ∙ sym h)) i; clear = ap (every isNone) (sym (drop-of-length-le l (let k : length l ≤ 32 = omega (arith, h) in k))) i }
 
 pub looked-law : (b f : List Stretch) (n p : ℕ) → length b ≡ 32 → length f ≡ 32 → p ≡ placeOf (passesOf HasUnits n) (take 32 f) → record { blocks = b; free = f; long = true; clear = true; place = p } ≡ lookOf b f n
 unfolding lookOf

@@ -2,13 +2,13 @@
 -- Assumes nothing.
 use mathlib.Core.Path.{_≡_, refl, sym, _∙_, ap}
 use Prim.Native.Nat.{ℕ, zero, suc, _+_, _-_, _<_, _≤_, min, zero-le}
-use native.Mathlib.Nat.{not-suc-le-zero, le-of-suc-le-suc}
+use native.Mathlib.Nat.{not-suc-le-zero, le-of-suc-le-suc, suc-inj}
 use native.Mathlib.Omega.{arith}
 use native.Mathlib.Numerals.{add-one}
 use mathlib.Core.Bool.{Bool, true, false, _&&_, _||_, and-true}
 use mathlib.Core.List.{List, [], _∷_, _++_}
-use lib.ListN.{length, getD, set, take, drop, replicate, drop-of-length-le}
-use lib.Seq.{take-all}
+use lib.ListN.{length, getD, set, take, drop, replicate, length-append, drop-of-length-le}
+use lib.Seq.{take-all, take-nil, drop-nil}
 use lib.Dec.{ltb}
 use borrow.Author.Tests.{ltb-true, ltb-false, lt-ltb, le-ltb}
 use Rattle.workspace.specs.declared.Stretch.{Stretch}
@@ -42,14 +42,6 @@ over-next xs ys i d h = rw add-one (over-suc xs ys i d h)
 
 pub over-none : {A : Type 0} (xs ys : List A) → over xs (take 0 ys) ≡ xs
 over-none xs ys = over-nil xs
-
-take-nil : {A : Type 0} (i : ℕ) → take {A = A} i [] ≡ []
-take-nil zero = refl
-take-nil (suc i) = refl
-
-drop-nil : {A : Type 0} (i : ℕ) → drop {A = A} i [] ≡ []
-drop-nil zero = refl
-drop-nil (suc i) = refl
 
 -- all that has a place is laid over
 over-full : {A : Type 0} (xs ys : List A) (i : ℕ) → length xs ≤ i → over xs (take i ys) ≡ over xs ys
@@ -117,30 +109,17 @@ remove-front zero l = sym (over-nil l)
 remove-front (suc p) [] = refl
 remove-front (suc p) (x ∷ xs) = ap (λ (l : List Stretch). x ∷ l) (remove-front p xs)
 
-snoc-length : (l : List Stretch) → length (l ++ none ∷ []) ≡ suc (length l)
-snoc-length [] = refl
-snoc-length (x ∷ xs) = ap suc (snoc-length xs)
-
 pub remove-length : (p : ℕ) (l : List Stretch) → length (removeAt p l) ≡ length l
 remove-length p [] = refl
-remove-length zero (x ∷ xs) = snoc-length xs
+remove-length zero (x ∷ xs) = length-append xs (none ∷ []) ∙ add-one (length xs)
 remove-length (suc p) (x ∷ xs) = ap suc (remove-length p xs)
 
 -- one list laid over another of the same length is that list
 pub over-same : {A : Type 0} (xs ys : List A) → length xs ≡ length ys → over xs ys ≡ ys
 over-same [] [] e = refl
-over-same [] (y ∷ ys) e = absurd (no-suc e)
-  where
-    no-suc : {n : ℕ} → zero ≡ suc n → ⊥
-    no-suc q = omega (arith, q)
-over-same (x ∷ xs) [] e = absurd (no-suc e)
-  where
-    no-suc : {n : ℕ} → suc n ≡ zero → ⊥
-    no-suc q = omega (arith, q)
+over-same [] (y ∷ ys) e = absurd (omega arith)
+over-same (x ∷ xs) [] e = absurd (omega arith)
 over-same (x ∷ xs) (y ∷ ys) e = ap (λ (l : List _). y ∷ l) (over-same xs ys (suc-inj e))
-  where
-    suc-inj : {n m : ℕ} → suc n ≡ suc m → n ≡ m
-    suc-inj q = omega (arith, q)
 
 -- a list of the same length is laid over in full
 pub over-laid : {A : Type 0} (xs ys : List A) (i : ℕ) → length ys ≡ length xs → length xs ≤ i → over xs (take i ys) ≡ ys
@@ -191,29 +170,7 @@ insert-suc (suc p) x (y ∷ ys) (suc i) h k = insert-suc p x ys i (le-of-suc-le-
 pub insert-behind : (p : ℕ) (x : Stretch) (l : List Stretch) (i : ℕ) → p ≤ i → i + 1 < length l → getD (insertAt p x l) (i + 1) none ≡ getD l i none
 insert-behind p x l i h k = rw add-one (insert-suc p x l i h (let m : suc i < length l = omega (arith, k) in m))
 
--- ---- the places used
-pub take-in : (n : ℕ) (l : List Stretch) (i : ℕ) → i < n → getD (take n l) i none ≡ getD l i none
-take-in zero l i h = absurd (not-suc-le-zero h)
-take-in (suc n) [] i h = refl
-take-in (suc n) (x ∷ xs) zero h = refl
-take-in (suc n) (x ∷ xs) (suc i) h = take-in n xs i (le-of-suc-le-suc h)
-
-pub take-out : (n : ℕ) (l : List Stretch) (i : ℕ) → n ≤ i → getD (take n l) i none ≡ none
-take-out zero l i h = refl
-take-out (suc n) [] i h = refl
-take-out (suc n) (x ∷ xs) zero h = absurd (not-suc-le-zero h)
-take-out (suc n) (x ∷ xs) (suc i) h = take-out n xs i (le-of-suc-le-suc h)
-
--- ---- loops that look at one place after another
-pub unused-on : (l : List Stretch) (i : ℕ) (x : Stretch) → i < length l → x ≡ getD l i none → isNone x ≡ true → every isNone (drop i l) ≡ every isNone (drop (i + 1) l)
-unused-on l i x h ex e = ap (every isNone) (rest-cons l i none h) ∙ ap (λ (c : Bool). c && every isNone (drop (i + 1) l)) (ap isNone (sym ex) ∙ e)
-
-pub unused-stop : (l : List Stretch) (i : ℕ) (x : Stretch) → i < length l → x ≡ getD l i none → isNone x ≡ false → every isNone (drop i l) ≡ false
-unused-stop l i x h ex e = ap (every isNone) (rest-cons l i none h) ∙ ap (λ (c : Bool). c && every isNone (drop (i + 1) l)) (ap isNone (sym ex) ∙ e)
-
-pub unused-end : (l : List Stretch) (i : ℕ) → length l ≤ i → every isNone (drop i l) ≡ true
-unused-end l i h = ap (every isNone) (drop-of-length-le l h)
-
+-- ---- a loop that looks at one place after another
 place-on : (p : Stretch → Bool) (l : List Stretch) (i : ℕ) (x : Stretch) (b : Bool) → i < length l → x ≡ getD l i none → b ≡ p x → b ≡ false → placeOf p (drop i l) ≡ suc (placeOf p (drop (i + 1) l))
 place-on p l i x b h ex eb e = ap (placeOf p) (rest-cons l i none h) ∙ ap (λ (c : Bool). if c then 0 else suc (placeOf p (drop (i + 1) l))) (ap p (sym ex) ∙ sym eb ∙ e)
 

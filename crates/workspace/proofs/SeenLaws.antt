@@ -6,7 +6,7 @@ use native.Mathlib.Nat.{not-suc-le-zero, le-of-suc-le-suc}
 use native.Mathlib.Omega.{arith}
 use mathlib.Core.Bool.{Bool, true, false, _&&_, _||_}
 use mathlib.Core.List.{List, [], _∷_, _++_}
-use lib.ListN.{length, getD, set, take, replicate}
+use lib.ListN.{length, getD, set, take, replicate, length-replicate}
 use lib.Dec.{ltb}
 use borrow.Author.Tests.{ltb-true, ltb-false}
 use Rattle.workspace.specs.declared.Stretch.{Stretch}
@@ -19,10 +19,6 @@ use Rattle.workspace.specs.Seen.{tableOf, noteOf, placeAfter, laid}
 use Rattle.lists.proofs.ListLaws.{by-bool}
 use Rattle.workspace.proofs.PlaceLaws.{over-length, over-next, over-laid, over-own}
 use Rattle.workspace.proofs.Padded.{pad, pad-nil, none-over}
-
-pub replicate-length : (n : ℕ) (x : Stretch) → length (replicate n x) ≡ n
-replicate-length zero x = refl
-replicate-length (suc n) x = ap suc (replicate-length n x)
 
 replicate-at : (n i : ℕ) → getD (replicate n none) i none ≡ none
 replicate-at zero i = refl
@@ -53,7 +49,7 @@ abbrev pub under : Bool → List Stretch → List Stretch
 under clear l = if clear then replicate (length l) none else l
 
 pub under-length : (clear : Bool) (l : List Stretch) → length (under clear l) ≡ length l
-under-length true l = replicate-length (length l) none
+under-length true l = length-replicate (length l) none
 under-length false l = refl
 
 under-at : (clear : Bool) (l : List Stretch) (i : ℕ) → getD (under clear l) i none ≡ (if clear then none else getD l i none)

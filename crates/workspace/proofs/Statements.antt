@@ -14,7 +14,8 @@ use native.Mathlib.Nat.{le-refl}
 use native.Mathlib.Omega.{arith}
 use mathlib.Core.Bool.{Bool, true, false, _&&_, true≢false}
 use mathlib.Core.List.{List, [], _∷_, _++_}
-use lib.ListN.{length, take, drop, replicate, length-append}
+use lib.ListN.{length, take, drop, replicate, length-append, length-replicate}
+use lib.Seq.{take-append-seam, drop-append-seam}
 use lib.Dec.{leb, ltb, eqb}
 use borrow.Author.Tests.{leb-true, leb-false, le-leb, lt-leb, ltb-true, lt-ltb, eq-eqb}
 use Rattle.workspace.specs.declared.Stretch.{Stretch}
@@ -29,23 +30,14 @@ use Rattle.workspace.proofs.Taking.{request-sound}
 use Rattle.workspace.proofs.Giving.{release-sound}
 use Rattle.workspace.proofs.Words.{kept-sound}
 use Rattle.workspace.proofs.Padded.{table-is, none-unused, placed-length, without-length}
-use Rattle.workspace.proofs.SeenLaws.{replicate-length}
 use Rattle.workspace.proofs.Found.{block-long}
 use Rattle.workspace.proofs.Standing.{Stands, bs, fs, kept-stands, stands-kept, count-blocks, count-free, at-most-31, few}
 
 -- ---- tables afterwards
-take-front : (l m : List Stretch) → take (length l) (l ++ m) ≡ l
-take-front [] m = refl
-take-front (x ∷ xs) m = ap (λ (l : List Stretch). x ∷ l) (take-front xs m)
-
-drop-front : (l m : List Stretch) → drop (length l) (l ++ m) ≡ m
-drop-front [] m = refl
-drop-front (x ∷ xs) m = drop-front xs m
-
 after-length : (table l : List Stretch) → length l ≤ length table → length (tableAfter table l) ≡ length table
 after-length table l h =
     let e : length (tableAfter table l) ≡ length l + length (replicate (length table - length l) none) = length-append l (replicate (length table - length l) none) in
-    let r : length (replicate (length table - length l) none) ≡ length table - length l = replicate-length (length table - length l) none in
+    let r : length (replicate (length table - length l) none) ≡ length table - length l = length-replicate (length table - length l) none in
     omega (arith, e, r, h)
 
 -- two lists that keep the rules are left in tables that keep the rules
@@ -59,9 +51,9 @@ took-stands b f bl fl pb pf hb s =
       free-places = omega (arith, ef, pf);
       few-blocks = hb;
       few-free = omega (arith, ef, hf, pf);
-      unused-blocks = ap (every isNone) (drop-front bl (replicate (length b - length bl) none)) ∙ none-unused (length b - length bl);
-      unused-free = ap (every isNone) (drop-front fl (replicate (length f - length fl) none)) ∙ none-unused (length f - length fl);
-      sound = subst (λ (l : List Stretch). Sound l (take (length fl) (tableAfter f fl))) (sym (take-front bl (replicate (length b - length bl) none))) (subst (Sound bl) (sym (take-front fl (replicate (length f - length fl) none))) s);
+      unused-blocks = ap (every isNone) (drop-append-seam bl (replicate (length b - length bl) none)) ∙ none-unused (length b - length bl);
+      unused-free = ap (every isNone) (drop-append-seam fl (replicate (length f - length fl) none)) ∙ none-unused (length f - length fl);
+      sound = subst (λ (l : List Stretch). Sound l (take (length fl) (tableAfter f fl))) (sym (take-append-seam bl (replicate (length b - length bl) none))) (subst (Sound bl) (sym (take-append-seam fl (replicate (length f - length fl) none))) s);
     }
 
 -- ---- the rules are kept
@@ -227,7 +219,7 @@ module _ (a : Area) (e : isSound a ≡ true) (b : Stretch) (ls : List Stretch) (
       rw e ((λ i. if startsAt (b .start) (w i) then took (lengthAt (b .start) (w i)) (without (b .start) (w i)) (joined (stretch (b .start) (lengthAt (b .start) (w i))) (fl a e)) else refused 16) ∙ rw (eq-eqb (b .start) (b .start) refl) refl)
 
   others-left : take (stepOf a (give (b .start)) .used .blocks) (stepOf a (give (b .start)) .blocks) ≡ ls
-  others-left = (λ i. take (after a (first-released i) .used .blocks) (after a (first-released i) .blocks)) ∙ take-front ls (replicate (length (a .blocks) - length ls) none)
+  others-left = (λ i. take (after a (first-released i) .used .blocks) (after a (first-released i) .blocks)) ∙ take-append-seam ls (replicate (length (a .blocks) - length ls) none)
 
 none-left : (a : Area) (l : List Stretch) → isSound a ≡ true → take (a .used .blocks) (a .blocks) ≡ l → runOf a (givesAll l) .used .blocks ≡ 0
 none-left a [] e w = sym (count-blocks (a .blocks) (a .free) (a .used) (stands a e)) ∙ ap length w
@@ -267,6 +259,6 @@ found-again a s e r v =
     let p : 0 < n = block-long (bl a e) (fl a e) (stands a e .sound) s q in
     let u : n ≤ 65535 = rw (e, q) at v in
     let m : length cl ≤ 30 = few-left a e s q in
-    let w : fits n (take (length gl) (tableAfter (a .free) gl)) ≡ true = ap (fits n) (take-front gl (replicate (length (a .free) - length gl) none)) ∙ joined-fits n (stretch s n) (fl a e) (le-refl n) in
+    let w : fits n (take (length gl) (tableAfter (a .free) gl)) ≡ true = ap (fits n) (take-append-seam gl (replicate (length (a .free) - length gl) none)) ∙ joined-fits n (stretch s n) (fl a e) (le-refl n) in
     rw (e, q) (rw (k, le-leb 1 n p, le-leb n 65535 u, lt-ltb (length cl) 31 (omega (arith, m)), w) refl))
     (λ q. let k : _≡_ {A = ℕ} 16 0 = rw (e, q) at r in no (omega (arith, k)))

@@ -7,7 +7,7 @@ use Rattle.lists.specs.Lists.{every}
 use Rattle.lists.proofs.ListLaws.{mapped-long}
 use Rattle.rules.specs.State.{blank}
 use Rattle.rules.specs.Whole.{unused}
-use Rattle.soundness.proofs.Turns.{every-pass, every-fail, every-done}
+use Rattle.lists.proofs.Turns.{every-pass, every-fail, every-done}
 use Rattle.soundness.proofs.all_unused.Statement.{statement}
 use Rattle.soundness.proofs.all_unused.Tie as tie
 

@@ -1,11 +1,12 @@
-use mathlib.Core.Path.{_≡_, refl, sym, _∙_}
+use mathlib.Core.Path.{_≡_, refl, sym, ap, _∙_}
 use Prim.Native.Nat.{_≤_, _<_, _-_}
 use native.Mathlib.Omega.{arith}
 use borrow.Author.Needs.{needs}
 use lib.ListN.{length, drop}
 use Rattle.lists.specs.Lists.{every}
-use Rattle.workspace.specs.Rules.{isNone}
-use Rattle.workspace.proofs.PlaceLaws.{mapped-long, unused-on, unused-stop, unused-end}
+use Rattle.lists.proofs.Turns.{every-pass, every-fail, every-done}
+use Rattle.workspace.specs.Rules.{none, isNone}
+use Rattle.workspace.proofs.PlaceLaws.{mapped-long}
 use Rattle.workspace.proofs.places.all_none.Statement.{statement}
 use Rattle.workspace.proofs.places.all_none.Tie as tie
 
@@ -28,7 +29,7 @@ loop-again c =
     let a = x .before .before .before .args .a in
     let h : l .i < 32 = search needs in
     let n : length a ≡ 32 = l .inv .0 in
-    (l .inv .0, l .inv .1 ∙ unused-on a (l .i) (x .nth .result) (omega (arith, h, n)) (x .nth .ensures) (c .if1 .taken))
+    (l .inv .0, l .inv .1 ∙ every-pass isNone a (l .i) none (omega (arith, h, n)) (ap isNone (sym (x .nth .ensures)) ∙ c .if1 .taken))
 
 returns : tie.Need-returns Inv-loop μ-loop
 returns c =
@@ -37,7 +38,7 @@ returns c =
     let a = x .before .before .before .args .a in
     let h : l .i < 32 = search needs in
     let n : length a ≡ 32 = l .inv .0 in
-    sym (l .inv .1 ∙ unused-stop a (l .i) (x .nth .result) (omega (arith, h, n)) (x .nth .ensures) (c .if1 .left))
+    sym (l .inv .1 ∙ every-fail isNone a (l .i) none (omega (arith, h, n)) (ap isNone (sym (x .nth .ensures)) ∙ c .if1 .left))
 
 returns-2 : tie.Need-returns-2 Inv-loop μ-loop
 returns-2 c =
@@ -45,7 +46,7 @@ returns-2 c =
     let a = c .before .before .args .a in
     let h : 32 ≤ l .i = search needs in
     let n : length a ≡ 32 = l .inv .0 in
-    sym (l .inv .1 ∙ unused-end a (l .i) (omega (arith, h, n)))
+    sym (l .inv .1 ∙ every-done isNone a (l .i) none (omega (arith, h, n)))
 
 pub all-none-spec : {M : Type 1} → statement M
 all-none-spec =

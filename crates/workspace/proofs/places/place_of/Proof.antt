@@ -3,9 +3,10 @@ use Prim.Native.Nat.{_≤_, _<_, _-_, zero-le}
 use native.Mathlib.Omega.{arith}
 use borrow.Author.Needs.{needs}
 use lib.ListN.{length, take}
-use lib.Seq.{length-take-le}
+use lib.Seq.{length-take-le, getD-take}
+use Rattle.workspace.specs.Rules.{none}
 use Rattle.workspace.specs.Places.{passesOf}
-use Rattle.workspace.proofs.PlaceLaws.{mapped-long, take-in, Passed, begin, pass, found, passed-all}
+use Rattle.workspace.proofs.PlaceLaws.{mapped-long, Passed, begin, pass, found, passed-all}
 use Rattle.workspace.proofs.places.place_of.Statement.{statement}
 use Rattle.workspace.proofs.places.place_of.Tie as tie
 
@@ -28,7 +29,7 @@ returns c =
     let a = r .before .before .before .before .args in
     let h : l .i < a .n = search needs in
     let n : length (take (a .n) (a .a)) ≡ a .n = l .inv .1 in
-    found (passesOf (a .test) (a .s)) (take (a .n) (a .a)) (l .i) (r .before .nth .result) (r .passes .result) (omega (arith, h, n)) (r .before .nth .ensures ∙ sym (take-in (a .n) (a .a) (l .i) h)) (r .passes .ensures) (c .if1 .taken) (l .inv .2)
+    found (passesOf (a .test) (a .s)) (take (a .n) (a .a)) (l .i) (r .before .nth .result) (r .passes .result) (omega (arith, h, n)) (r .before .nth .ensures ∙ sym (getD-take (a .n) (a .a) (l .i) none h)) (r .passes .ensures) (c .if1 .taken) (l .inv .2)
 
 loop-less : tie.Need-loop-less Inv-loop μ-loop
 loop-less c = let h : c .before .before .before .before .loop .i < c .before .before .before .before .before .args .n = search needs in omega (arith, h)
@@ -40,7 +41,7 @@ loop-again c =
     let a = r .before .before .before .before .args in
     let h : l .i < a .n = search needs in
     let n : length (take (a .n) (a .a)) ≡ a .n = l .inv .1 in
-    (omega (arith, h), n, pass (passesOf (a .test) (a .s)) (take (a .n) (a .a)) (l .i) (r .before .nth .result) (r .passes .result) (omega (arith, h, n)) (r .before .nth .ensures ∙ sym (take-in (a .n) (a .a) (l .i) h)) (r .passes .ensures) (c .if1 .left) (l .inv .2))
+    (omega (arith, h), n, pass (passesOf (a .test) (a .s)) (take (a .n) (a .a)) (l .i) (r .before .nth .result) (r .passes .result) (omega (arith, h, n)) (r .before .nth .ensures ∙ sym (getD-take (a .n) (a .a) (l .i) none h)) (r .passes .ensures) (c .if1 .left) (l .inv .2))
 
 returns-2 : tie.Need-returns-2 Inv-loop μ-loop
 returns-2 c =
