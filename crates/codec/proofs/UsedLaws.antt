@@ -5,45 +5,42 @@ use mathlib.Core.Bool.{Bool, true, false, _&&_, and-true, and-assoc}
 use mathlib.Core.List.{List, [], _∷_, _++_, append-nil}
 use native.Mathlib.Nat.{sub-zero}
 use native.Mathlib.Omega.{arith}
-use borrow.Author.Tests.{eqb-true, ltb-true, ltb-false, lt-ltb, le-ltb}
+use borrow.Author.Tests.{ltb-true, ltb-false, lt-ltb, le-ltb}
 use lib.ListN.{length, replicate, set, take, drop, take-append-drop, length-set}
 use lib.Seq.{getD-take, getD-drop, drop-drop, drop-set-lt}
 use lib.Dec.{eqb, ltb}
 use Rattle.lists.specs.Lists.{if_then_else_}
+use Rattle.lists.specs.Line.{blanks}
 use Rattle.lists.proofs.ListLaws.{by-bool, by-test}
-use Rattle.lists.proofs.Tests.{and-first, and-second}
+use Rattle.lists.proofs.LineLaws.{blanks-at}
 use Rattle.lists.proofs.Turns.{rest-cons}
 use Rattle.calls.specs.Record.{byte}
 use Rattle.rules.specs.State.{blank}
 use Rattle.rules.specs.declared.Task.{Task}
 use Rattle.rules.specs.declared.Supervisor.{Supervisor}
+use Rattle.table.specs.Moved.{withTasks}
 use Rattle.codec.specs.Layout.{isTask, taskFrom, areTasks, tasksFrom, decode, lost, stateIn}
-use Rattle.codec.specs.Used.{areZero, tableFrom, usedTasks, withTasks, bareIn}
+use Rattle.codec.specs.Used.{tableFrom, usedTasks, bareIn}
 use Rattle.codec.proofs.CodecLaws.{turns, are-turn, from-turn, are-next, from-next, state-short, state-tested}
 
 -- ── bytes that are 0 ──
 
 -- one turn further over the table, and its end
 pub zero-next : (b : List ℕ) (i : ℕ) (all : Bool) → i < 315 → 315 ≤ length b
-    → (all && areZero (tableFrom b i)) ≡ ((all && eqb (byte b i) 0) && areZero (tableFrom b (i + 1)))
+    → (all && blanks (tableFrom b i)) ≡ ((all && eqb (byte b i) 0) && blanks (tableFrom b (i + 1)))
 zero-next b i true h long = rw (turns 315 i h, rest-cons b i 0 (omega arith))
 zero-next b i false h long = refl
 
-pub zero-end : (b : List ℕ) (i : ℕ) (all : Bool) → 315 ≤ i → (all && areZero (tableFrom b i)) ≡ all
+pub zero-end : (b : List ℕ) (i : ℕ) (all : Bool) → 315 ≤ i → (all && blanks (tableFrom b i)) ≡ all
 zero-end b i all h = let z : 315 - i ≡ 0 = omega arith in rw z (and-true all)
 
-zero-in : (l : List ℕ) (j : ℕ) → areZero l ≡ true → byte l j ≡ 0
-zero-in [] j e = refl
-zero-in (x ∷ l) zero e = eqb-true x 0 (and-first (eqb x 0) (areZero l) e)
-zero-in (x ∷ l) (suc j) e = zero-in l j (and-second (eqb x 0) (areZero l) e)
-
-zero-at : (b : List ℕ) (from : ℕ) → areZero (tableFrom b from) ≡ true → (j : ℕ) → from ≤ j → j < 315 → byte b j ≡ 0
+zero-at : (b : List ℕ) (from : ℕ) → blanks (tableFrom b from) ≡ true → (j : ℕ) → from ≤ j → j < 315 → byte b j ≡ 0
 zero-at b from e j h k =
     let sum : j ≡ from + (j - from) = omega arith in
     ap (λ (n : ℕ). byte b n) sum
     ∙ sym (getD-drop from b (j - from) 0)
     ∙ sym (getD-take (315 - from) (drop from b) (j - from) 0 (omega arith))
-    ∙ zero-in (tableFrom b from) (j - from) e
+    ∙ blanks-at (tableFrom b from) e (j - from)
 
 -- ── ten bytes that are 0 are a blank task ──
 
@@ -107,7 +104,7 @@ unfolding usedTasks
 used-fits b h =
     rw (le-ltb (length b) 439 h)
     (by-test (Fits b) (ltb 31 (byte b 4)) (λ e. all-fit b)
-    (λ e. by-test (Fits b) (areZero (tableFrom b (5 + byte b 4 * 10)))
+    (λ e. by-test (Fits b) (blanks (tableFrom b (5 + byte b 4 * 10)))
     (λ f. (ltb-false 31 (byte b 4) e, zero-at b (5 + byte b 4 * 10) f))
     (λ f. all-fit b)))
 
@@ -120,7 +117,7 @@ pub used-over : (b : List ℕ) → 439 ≤ length b → 31 < byte b 4 → 31 ≡
 unfolding usedTasks
 used-over b long h = rw (le-ltb (length b) 439 long, lt-ltb 31 (byte b 4) h)
 
-pub used-tested : (b : List ℕ) (t : Bool) → 439 ≤ length b → byte b 4 ≤ 31 → areZero (tableFrom b (5 + byte b 4 * 10)) ≡ t → (if t then byte b 4 else 31) ≡ usedTasks b
+pub used-tested : (b : List ℕ) (t : Bool) → 439 ≤ length b → byte b 4 ≤ 31 → blanks (tableFrom b (5 + byte b 4 * 10)) ≡ t → (if t then byte b 4 else 31) ≡ usedTasks b
 unfolding usedTasks
 used-tested b t long h e = rw (le-ltb (length b) 439 long, le-ltb 31 (byte b 4) h, e)
 

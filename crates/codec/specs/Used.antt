@@ -1,18 +1,14 @@
 -- The parts in which a state is read: how many of its tasks, and all but the tasks. The contracts of the functions for C and Ada do not speak of them.
 use Prim.Native.Nat.{ℕ, _+_, _-_, _*_}
-use mathlib.Core.Bool.{Bool}
 use mathlib.Core.List.{List}
 use lib.ListN.{length, take, drop}
-use lib.Dec.{eqb, ltb}
-use Rattle.lists.specs.Lists.{if_then_else_, every}
+use lib.Dec.{ltb}
+use Rattle.lists.specs.Lists.{if_then_else_}
+use Rattle.lists.specs.Line.{blanks}
+use Rattle.table.specs.Moved.{withTasks}
 use Rattle.calls.specs.Record.{byte}
-use Rattle.rules.specs.declared.Task.{Task}
 use Rattle.rules.specs.declared.Supervisor.{Supervisor}
 use Rattle.codec.specs.Layout.{decode, lost}
-
--- every byte is 0
-abbrev pub areZero : List ℕ → Bool
-areZero = every (λ x. eqb x 0)
 
 -- the bytes of the table of tasks from an index on
 abbrev pub tableFrom : List ℕ → ℕ → List ℕ
@@ -23,20 +19,8 @@ unfoldable pub usedTasks : List ℕ → ℕ
 usedTasks b =
     if ltb (length b) 439 then 0
     else if ltb 31 (byte b 4) then 31
-    else if areZero (tableFrom b (5 + byte b 4 * 10)) then byte b 4
+    else if blanks (tableFrom b (5 + byte b 4 * 10)) then byte b 4
     else 31
-
--- a state with other tasks
-abbrev pub withTasks : Supervisor → List Task → Supervisor
-withTasks s tasks = record {
-  clock = s .clock;
-  created = s .created;
-  tasks = tasks;
-  ready = s .ready;
-  callers = s .callers;
-  held = s .held;
-  delays = s .delays;
-}
 
 -- the state with which bytes begin before its tasks are read: all are blank
 unfoldable pub bareIn : List ℕ → Supervisor

@@ -3,9 +3,10 @@ ghost use mathlib.Core.Path.{_≡_};
 ghost use Prim.Native.Nat.{_+_, _≤_};
 ghost use mathlib.Core.List.{[], _∷_};
 ghost use lib.ListN.{length, take, drop};
+ghost use Rattle.lists.specs.Line.{blanks};
 ghost use Rattle.rules.specs.State.{entryOf};
 ghost use Rattle.codec.specs.Layout.{placeTag, placeFirst, timerTag, timerDue, taskBytes, tasksBytes, isPlace, isTimer, placeFrom, timerFrom, fieldsOf, fieldsGood, fieldsTask, lost, stateIn, putAt, placedAt, placedLines, stored};
-ghost use Rattle.codec.specs.Used.{areZero, tableFrom, usedTasks, bareIn};
+ghost use Rattle.codec.specs.Used.{tableFrom, usedTasks, bareIn};
 use calls::bytes_of;
 use calls::word;
 use rules::Meeting;
@@ -173,7 +174,7 @@ fn task_from(f: Fields) -> Task
 // Whether the bytes of the table of tasks are 0 from an index on.
 fn are_zero(b: &[u8], from: usize) -> bool
     requires { ⌜ 439 ≤ length (now b) ⌝ }
-    ensures { λ r. ⌜ r ≡ areZero (tableFrom (now (b .entry)) from) ⌝ }
+    ensures { λ r. ⌜ r ≡ blanks (tableFrom (now (b .entry)) from) ⌝ }
 {
     let mut all = true;
     let mut i = from;

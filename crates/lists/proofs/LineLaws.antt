@@ -80,6 +80,12 @@ pub length-pad : (xs : List ℕ) → length (pad xs) ≡ 31
 unfolding pad
 length-pad xs = length-padTo 31 xs
 
+-- each of zeros alone is 0
+pub blanks-at : (a : List ℕ) → blanks a ≡ true → (i : ℕ) → getD a i 0 ≡ 0
+blanks-at [] h i = refl
+blanks-at (x ∷ xs) h zero = eqb-true x 0 (and-first (eqb x 0) (blanks xs) h)
+blanks-at (x ∷ xs) h (suc i) = blanks-at xs (and-second (eqb x 0) (blanks xs) h) i
+
 -- zeros alone are nothing laid out
 blank-padTo : (xs : List ℕ) → blanks xs ≡ true → xs ≡ padTo (length xs) []
 unfolding padTo

@@ -5,7 +5,7 @@ use mathlib.Core.Path.{_≡_, refl, sym, _∙_, ap}
 use mathlib.Core.Bool.{Bool, true, false, not, true≢false}
 use mathlib.Core.List.{List, [], _∷_, _++_, map}
 use native.Mathlib.Omega.{arith}
-use lib.ListN.{length, length-map}
+use lib.ListN.{length, replicate, length-map}
 use lib.Dec.{eqb, ltb, leb}
 use borrow.Author.Tests.{eqb-true, eqb-false, eq-eqb, ne-eqb, ltb-true, ltb-false, leb-true, le-leb}
 use Rattle.lists.specs.Lists.{if_then_else_, bit, filter, remove, insert, count, every, inOrder, downFrom}
@@ -84,6 +84,11 @@ every-at g (y ∷ ys) h x k = by-eq y x (λ e. ap g (sym e) ∙ and-first (g y) 
 pub every-of : (g : ℕ → Bool) (l : List ℕ) → ((x : ℕ) → 0 < count x l → g x ≡ true) → every g l ≡ true
 every-of g [] h = refl
 every-of g (y ∷ ys) h = and-both (h y (rw (eq-eqb y y refl) (omega arith))) (every-of g ys (λ x k. h x (omega arith)))
+
+-- what holds of all is d: a list of d alone
+pub every-alike : {A : Type 0} (p : A → Bool) (d : A) → ((x : A) → p x ≡ true → x ≡ d) → (l : List A) → every p l ≡ true → l ≡ replicate (length l) d
+every-alike p d f [] h = refl
+every-alike p d f (x ∷ xs) h = λ i. f x (and-first (p x) (every p xs) h) i ∷ every-alike p d f xs (and-second (p x) (every p xs) h) i
 
 -- ── order ──
 

@@ -7,7 +7,7 @@ use mathlib.Core.List.{List, [], _∷_}
 use native.Mathlib.Omega.{arith}
 use lib.ListN.{getD, drop}
 use lib.Dec.{eqb}
-use borrow.Author.Tests.{eqb-true, eq-eqb, le-leb}
+use borrow.Author.Tests.{eq-eqb, le-leb}
 use Rattle.lists.specs.Lists.{bit, count, every}
 use Rattle.lists.specs.Line.{tidy, blanks}
 use Rattle.rules.specs.State.{State, blank, taskOf, placeOf, timerOf, priorityOf, created, isReady, isCompleted, partnerOf, hasTime, accepts, queue, heldBy, level, ticksLeft, waitsOn, holds, atLevel}
@@ -22,6 +22,7 @@ use Rattle.rules.specs.declared.Place.{Place}
 use Rattle.rules.specs.declared.Place.the-variants.{Blank, Ready, Delayed, Queued, Held, Accepting, Completed}
 use Rattle.rules.specs.declared.Supervisor.{Supervisor}
 use Rattle.lists.proofs.Tests.{no, and-first, and-second, and-both}
+use Rattle.lists.proofs.LineLaws.{blanks-at}
 use Rattle.lists.proofs.ListLaws.{clash, by-bool, count-filter-yes, count-filter-no, ordered-of, in-order}
 use Rattle.rules.proofs.Invariant.{Calls, Fits, InTime, Sound}
 use Rattle.rules.proofs.Members.{of-queue, of-held, queued-good, timed-there, there}
@@ -175,11 +176,6 @@ module _ (s : State) (f : SoundFacts s) where
   }
 
 -- ── unused places ──
-
-blanks-at : (a : List ℕ) → blanks a ≡ true → (i : ℕ) → getD a i 0 ≡ 0
-blanks-at [] h i = refl
-blanks-at (x ∷ xs) h zero = eqb-true x 0 (and-first (eqb x 0) (blanks xs) h)
-blanks-at (x ∷ xs) h (suc i) = blanks-at xs (and-second (eqb x 0) (blanks xs) h) i
 
 blanks-of : (a : List ℕ) → ((i : ℕ) → getD a i 0 ≡ 0) → blanks a ≡ true
 blanks-of [] h = refl

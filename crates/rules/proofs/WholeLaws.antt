@@ -19,8 +19,8 @@ use Rattle.rules.specs.Whole.{Typed, view, pack, isBlank, isOff, unused,
 use Rattle.rules.specs.declared.Supervisor.{Supervisor}
 use Rattle.calls.specs.declared.Call as C
 use Rattle.rules.specs.declared.Task.{Task}
-use Rattle.lists.proofs.Tests.{each, and-first, and-second}
-use Rattle.lists.proofs.ListLaws.{by-bool}
+use Rattle.lists.proofs.Tests.{each}
+use Rattle.lists.proofs.ListLaws.{by-bool, every-alike}
 pub use Rattle.lists.proofs.ListLaws.{at-most}
 use Rattle.rules.proofs.Invariant.{Sound}
 use Rattle.rules.proofs.Members.{bit-le, nth-beyond}
@@ -112,15 +112,11 @@ blank-is x e =
     timer Off h = refl
     timer (Due d) h = cc
 
-all-blank : (l : List Task) → every unused l ≡ true → l ≡ replicate (length l) blank
-all-blank [] h = refl
-all-blank (x ∷ xs) h = λ i. blank-is x (and-first (unused x) (every unused xs) h) i ∷ all-blank xs (and-second (unused x) (every unused xs) h) i
-
 pub tasks-packed : (n : ℕ) (ts : List Task) → n ≤ 31 → length ts ≡ 31 → every unused (drop n ts) ≡ true → ts ≡ take n ts ++ replicate (31 - length (take n ts)) blank
 tasks-packed n ts a l h =
     let k : length (take n ts) ≡ n = length-take-le n ts (omega arith) in
     let m : length (drop n ts) ≡ 31 - n = length-drop n ts ∙ ap (λ (x : ℕ). x - n) l in
-    sym (take-append-drop n ts) ∙ ap (λ (r : List Task). take n ts ++ r) (all-blank (drop n ts) h ∙ ap (λ (x : ℕ). replicate x blank) (m ∙ ap (λ (x : ℕ). 31 - x) (sym k)))
+    sym (take-append-drop n ts) ∙ ap (λ (r : List Task). take n ts ++ r) (every-alike unused blank blank-is (drop n ts) h ∙ ap (λ (x : ℕ). replicate x blank) (m ∙ ap (λ (x : ℕ). 31 - x) (sym k)))
 
 -- the parts of the test of a struct that is sound
 pub record Parts (s : Supervisor) : Type 0 where

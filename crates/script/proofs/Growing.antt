@@ -6,7 +6,8 @@ use mathlib.Core.List.{List, [], _∷_, _++_, append-assoc, append-nil}
 use native.Mathlib.Omega.{arith}
 use lib.ListN.{length, take, length-take}
 use lib.Seq.{take-all}
-use Rattle.text.specs.Text.{over, putAt, behind, Put}
+use Rattle.lists.specs.Over.{over}
+use Rattle.text.specs.Text.{putAt, behind, Put}
 use Rattle.text.proofs.Puts.{put-kept}
 use Rattle.script.specs.Rows.{textIn, cut, Grown}
 use Rattle.script.specs.declared.row.Row.{Row}

@@ -16,8 +16,9 @@ use Rattle.rules.specs.State.{created, isTask, taskOf}
 use Rattle.rules.specs.Sound.{standsRight, sound}
 use Rattle.rules.specs.Whole.{view, unused, soundWhole}
 use Rattle.rules.specs.declared.Supervisor.{Supervisor}
+use Rattle.table.specs.Moved.{leftOf}
 use Rattle.soundness.specs.declared.Told.{Told}
-use Rattle.soundness.specs.Check.{Line, Ready, Callers, Held, Delays, goodIn, leftOf, belongs, toldOf, holdsIn, anyOrder}
+use Rattle.soundness.specs.Check.{Line, Ready, Callers, Held, Delays, goodIn, belongs, toldOf, holdsIn, anyOrder}
 use Rattle.soundness.proofs.TaskLaws.{named}
 use Rattle.soundness.proofs.LineLaws.{arrayOf, lineHas, ascending, holds-is, stands-is}
 
@@ -98,7 +99,7 @@ unsound-many s h = rw (lt-leb (s .created) 31 h)
 -- what the code finds, of the table and of each line
 pub sound-is : (s : Supervisor) (told : Told) (u l d : Bool) → s .created ≤ 31 → length (s .tasks) ≡ 31 → told ≡ toldOf s → u ≡ every unused (drop (s .created) (s .tasks))
     → l ≡ ((holdsIn anyOrder (told .ready) (s .ready) && holdsIn anyOrder (told .callers) (s .callers)) && holdsIn anyOrder (told .held) (s .held))
-    → d ≡ holdsIn (leftOf (view s)) (told .delays) (s .delays) → (((u && told .good) && l) && d) ≡ soundWhole s
+    → d ≡ holdsIn (leftOf s) (told .delays) (s .delays) → (((u && told .good) && l) && d) ≡ soundWhole s
 unfolding sound lineHas
 sound-is s told u l d h k et eu el ed =
     let n : created (view s) ≡ s .created = length-take-le (s .created) (s .tasks) (omega arith) in
@@ -109,10 +110,10 @@ sound-is s told u l d h k et eu el ed =
     ∙ every-append f ((a ++ c) ++ d) w ∙ ap (λ (b : Bool). b && every f w) (every-append f (a ++ c) d ∙ ap (λ (b : Bool). b && every f d) (every-append f a c)) in
     let t = downFrom (s .created) in
     let stand = ap (λ (m : ℕ). every (standsRight (view s)) (downFrom m)) n ∙ stand-is s t in
-    let order = sym (order-whole (leftOf (view s)) w) in
+    let order = sym (order-whole (leftOf s) w) in
     let p = le-leb (s .created) 31 h in
     let q : leb (created (view s)) 31 ≡ true = le-leb (created (view s)) 31 (omega arith) in
-    rw (eu, el, ed, et, stands-is s Ready h, stands-is s Callers h, stands-is s Held h, holds-is s Delays (leftOf (view s)) h, p, q, stand, all, order)
+    rw (eu, el, ed, et, stands-is s Ready h, stands-is s Callers h, stands-is s Held h, holds-is s Delays (leftOf s) h, p, q, stand, all, order)
     (regroup (every unused (drop (s .created) (s .tasks))) (tidy (s .ready)) (tidy (s .callers)) (tidy (s .held)) (tidy (s .delays))
     (every (goodIn (view s)) t) (every (right s Ready) t) (every (right s Callers) t) (every (right s Held) t) (every (right s Delays) t)
-    (every f a) (every f c) (every f d) (every f w) (ascending (leftOf (view s)) 0 w))
+    (every f a) (every f c) (every f d) (every f w) (ascending (leftOf s) 0 w))

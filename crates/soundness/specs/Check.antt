@@ -7,7 +7,7 @@ use lib.Dec.{leb}
 use Rattle.lists.specs.Line.{blanks}
 use Rattle.lists.specs.Lists.{every, downFrom}
 use Rattle.rules.specs.Sound.{goodTask}
-use Rattle.rules.specs.State.{State, taskOf, placeOf, timerOf, partnerOf, isReady, isQueued, isHeld, hasTime, ticksLeft}
+use Rattle.rules.specs.State.{State, taskOf, placeOf, partnerOf, isReady, isQueued, isHeld, hasTime}
 use Rattle.rules.specs.Whole.{view}
 use Rattle.rules.specs.declared.Supervisor.{Supervisor}
 use Rattle.rules.specs.declared.Task.{Task}
@@ -17,10 +17,6 @@ use Rattle.soundness.specs.Marks.{Marks, noMarks, hasMark, nextMark, wit
 -- task t is good, beside the task that it has called
 abbrev pub goodIn : State → ℕ → Bool
 goodIn v t = goodTask (v .clock) (taskOf v t) (taskOf v (partnerOf (placeOf v t)))
-
--- ticks left of task x; 0 without a time
-abbrev pub leftOf : State → ℕ → ℕ
-leftOf v x = ticksLeft (v .clock) (timerOf v x)
 
 -- the four lines
 pub data Line : Type 0 where

@@ -2,8 +2,8 @@
 ghost use lib.ListN.{length, drop};
 ghost use mathlib.Core.Path.{_≡_};
 ghost use Rattle.lists.specs.Line.{blanks};
-ghost use Rattle.rules.specs.Whole.{view};
-ghost use Rattle.soundness.specs.Check.{leftOf, anyOrder, holdsIn};
+ghost use Rattle.table.specs.Moved.{leftOf};
+ghost use Rattle.soundness.specs.Check.{anyOrder, holdsIn};
 use crate::marks;
 use rules::Supervisor;
 use table::tasks::index_of;
@@ -45,7 +45,7 @@ pub fn holds(a: &[u8; 31], word: u32) -> bool
 
 // The same of the delay queue, where each has at least as many ticks left as the one before.
 pub fn delays_hold(s: Supervisor, word: u32) -> bool
-    ensures { λ r. ⌜ r ≡ holdsIn (leftOf (view s)) word (s .delays) ⌝ }
+    ensures { λ r. ⌜ r ≡ holdsIn (leftOf s) word (s .delays) ⌝ }
 {
     let mut rest = marks::next(word, false);
     let mut last: u32 = 0;

@@ -25,7 +25,7 @@ use Rattle.rules.specs.declared.Timer.the-variants.{Off, Due}
 use Rattle.rules.specs.declared.Place.the-variants.{Ready}
 use Rattle.rules.specs.declared.Task.{Task}
 use Rattle.rules.proofs.Members.{nth-beyond}
-use Rattle.table.specs.Moved.{withTask, movedOf, readiedTask, readiedOf, wokenOf, leftOf}
+use Rattle.table.specs.Moved.{withTasks, withTask, movedOf, readiedTask, readiedOf, wokenOf, leftOf}
 use Rattle.table.specs.Numbers.{isNumber, indexOf, shownOf}
 
 -- ---- the table
@@ -96,16 +96,10 @@ put-back ts t x l =
     (λ r. rw (p, r) (set-getD ts 0 blank ∙ set-beyond ts x t (omega (arith, leb-false t 31 r, l)))))
     (λ p. let z : t ≡ 0 = omega (arith, ltb-false 0 t p) in rw (p, z) (set-getD ts 0 blank))
 
--- ---- the struct
-
--- the struct with other tasks
-abbrev with-tasks : Supervisor → List Task → Supervisor
-with-tasks s ts = record { clock = s .clock; created = s .created; tasks = ts; ready = s .ready; callers = s .callers; held = s .held; delays = s .delays }
-
 -- ---- the move, from what its parts answer
 
 pub with-out : (s : Supervisor) (t : ℕ) (x : Task) → length (s .tasks) ≡ 31 → isNumber t ≡ false → s ≡ withTask s t x
-with-out s t x l e = ap (with-tasks s) (set-none (s .tasks) x t l e)
+with-out s t x l e = ap (withTasks s) (set-none (s .tasks) x t l e)
 
 -- the delay queue with t in its place: ordered insertion by the ticks left
 pub retime-due : (s : Supervisor) (t d n : ℕ) (l keys : List ℕ) → length (s .tasks) ≡ 31 → length (s .delays) ≡ 31 → l ≡ pad (remove t (line (s .delays))) → keys ≡ marked (leftOf s) (line l) noMarks → n ≡ ticksLeft (s .clock) (Due d)
@@ -159,10 +153,9 @@ readied-put s t at z l ea ez =
 
 -- one turn: the next of the list is ready in the table
 pub readied-on : (n : Supervisor) (t : ℕ) (xs ys : List ℕ) (ts : List Task) → xs ≡ t ∷ ys → ts ≡ setNth (n .tasks) t (placed (taskOf (view n) t) Ready Off)
-    → readiedOf n xs ≡ readiedOf (record { clock = n .clock; created = n .created; tasks = ts; ready = n .ready; callers = n .callers; held = n .held; delays = n .delays }) ys
+    → readiedOf n xs ≡ readiedOf (withTasks n ts) ys
 readied-on n t xs ys ts q e =
-    ap (readiedOf n) q
-    ∙ ap (λ (k : List Task). readiedOf (record { clock = n .clock; created = n .created; tasks = k; ready = n .ready; callers = n .callers; held = n .held; delays = n .delays }) ys) (sym e)
+    ap (readiedOf n) q ∙ ap (λ (k : List Task). readiedOf (withTasks n k) ys) (sym e)
 
 -- the lines, from what their parts answer
 pub woken-law : (s n : Supervisor) (l m still r c h d : List ℕ) → length (s .ready) ≡ 31 → n ≡ readiedOf s l → m ≡ marked (λ _. 1) l noMarks

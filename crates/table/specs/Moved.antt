@@ -20,17 +20,21 @@ use Rattle.table.specs.Numbers.{isNumber, shownOf}
 use Rattle.table.specs.declared.queues.Test.{Test}
 use Rattle.table.specs.declared.queues.Test.the-variants.{QueuedOn, HeldBy, DueWithin}
 
--- the struct with task t as x
-abbrev pub withTask : Supervisor → ℕ → Task → Supervisor
-withTask s t x = record {
+-- the struct with other tasks
+abbrev pub withTasks : Supervisor → List Task → Supervisor
+withTasks s tasks = record {
   clock = s .clock;
   created = s .created;
-  tasks = setNth (s .tasks) t x;
+  tasks = tasks;
   ready = s .ready;
   callers = s .callers;
   held = s .held;
   delays = s .delays;
 }
+
+-- the struct with task t as x
+abbrev pub withTask : Supervisor → ℕ → Task → Supervisor
+withTask s t x = withTasks s (setNth (s .tasks) t x)
 
 -- task t goes to place p with the time w, in the struct: the lines of `move`, laid out; the table as it is but for t
 unfoldable pub movedOf : Supervisor → ℕ → Place → Timer → Supervisor

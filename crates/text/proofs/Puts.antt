@@ -5,16 +5,9 @@ use mathlib.Core.Path.{_≡_, refl, sym, ap, subst, _∙_}
 use mathlib.Core.List.{List, [], _∷_, _++_}
 use native.Mathlib.Omega.{arith}
 use lib.ListN.{length, length-append, set}
-use Rattle.text.specs.Text.{over, putAt, behind, Put}
-
-over-nil : (row : List ℕ) → over row [] ≡ row
-over-nil [] = refl
-over-nil (x ∷ row) = refl
-
-over-length : (row text : List ℕ) → length (over row text) ≡ length row
-over-length [] text = refl
-over-length (x ∷ row) [] = refl
-over-length (x ∷ row) (t ∷ text) = ap suc (over-length row text)
+use Rattle.lists.specs.Over.{over}
+use Rattle.lists.proofs.OverLaws.{over-nil, over-length}
+use Rattle.text.specs.Text.{putAt, behind, Put}
 
 pub put-nil : (row : List ℕ) (at : ℕ) → putAt row at [] ≡ row
 put-nil [] at = refl

@@ -6,6 +6,7 @@ use mathlib.Core.Bool.{cond}
 use mathlib.Core.List.{List, [], _∷_, _++_}
 use lib.ListN.{length}
 use lib.Dec.{ltb}
+use Rattle.lists.specs.Over.{over}
 
 -- n in decimal, by at most k digits, the most significant first
 abbrev pub spelled : ℕ → ℕ → List ℕ
@@ -16,13 +17,7 @@ spelled (suc k) n = cond (ltb n 10) ((48 + n) ∷ []) (spelled k (n / 10) ++ ((4
 unfoldable pub decimal : ℕ → List ℕ
 decimal n = spelled (suc n) n
 
--- a row with text over its first bytes; what does not fit the row is left out
-abbrev pub over : List ℕ → List ℕ → List ℕ
-over [] text = []
-over (x ∷ row) [] = x ∷ row
-over (x ∷ row) (t ∷ text) = t ∷ over row text
-
--- a row with text over its bytes from `at` on; every other byte stays
+-- a row with text over its bytes from `at` on; every other byte stays, and what does not fit the row is left out
 abbrev pub putAt : List ℕ → ℕ → List ℕ → List ℕ
 putAt [] at text = []
 putAt (x ∷ row) zero text = over (x ∷ row) text

@@ -20,7 +20,7 @@ use Rattle.workspace.specs.Operations.{Outcome, blocksAfter, freeAfter, 
 use Rattle.workspace.specs.Owning.{tablesAs}
 use Rattle.workspace.specs.Places.{placeOf, passesOf}
 use Rattle.workspace.specs.Seen.{tableOf, laid, seenAs, lookOf}
-use Rattle.workspace.proofs.PlaceLaws.{over-same}
+use Rattle.lists.proofs.OverLaws.{over-same}
 use Rattle.workspace.proofs.SeenLaws.{under, under-length}
 use Rattle.workspace.proofs.Bridge.{Says}
 

@@ -1,60 +1,27 @@
--- Laws of tables' places: one list laid over another, place by place.
+-- Laws of tables' places: loaded, taken out and put in, place by place.
 -- Assumes nothing.
 use mathlib.Core.Path.{_≡_, refl, sym, _∙_, ap}
-use Prim.Native.Nat.{ℕ, zero, suc, _+_, _-_, _<_, _≤_, min, zero-le}
-use native.Mathlib.Nat.{not-suc-le-zero, le-of-suc-le-suc, suc-inj}
+use Prim.Native.Nat.{ℕ, zero, suc, _+_, _-_, _<_, _≤_, zero-le}
+use native.Mathlib.Nat.{not-suc-le-zero, le-of-suc-le-suc}
 use native.Mathlib.Omega.{arith}
 use native.Mathlib.Numerals.{add-one}
 use mathlib.Core.Bool.{Bool, true, false, _&&_, _||_, and-true}
 use mathlib.Core.List.{List, [], _∷_, _++_}
 use lib.ListN.{length, getD, set, take, drop, replicate, length-append, drop-of-length-le}
-use lib.Seq.{take-all, take-nil, drop-nil}
+use lib.Seq.{take-all, drop-nil}
 use lib.Dec.{ltb}
 use borrow.Author.Tests.{ltb-true, ltb-false, lt-ltb, le-ltb}
 use Rattle.workspace.specs.declared.Stretch.{Stretch}
 use Rattle.lists.proofs.ListLaws.{by-bool}
 use Rattle.lists.proofs.Turns.{rest-cons}
 use Rattle.lists.specs.Lists.{if_then_else_, every}
+use Rattle.lists.specs.Over.{over}
+use Rattle.lists.proofs.OverLaws.{over-nil, over-next, over-laid}
 use Rattle.workspace.specs.Rules.{none, isNone}
-use Rattle.workspace.specs.Places.{placeOf, over, removeAt, insertAt}
+use Rattle.workspace.specs.Places.{placeOf, removeAt, insertAt}
 use Rattle.workspace.specs.Seen.{tableOf, noteOf}
 -- handed on: who asks for a place asks how many there are
 pub use Rattle.lists.proofs.ListLaws.{mapped-long}
-
-pub over-nil : {A : Type 0} (xs : List A) → over xs [] ≡ xs
-over-nil [] = refl
-over-nil (x ∷ xs) = refl
-
-pub over-length : {A : Type 0} (xs ys : List A) → length (over xs ys) ≡ length xs
-over-length [] ys = refl
-over-length (x ∷ xs) [] = refl
-over-length (x ∷ xs) (y ∷ ys) = ap suc (over-length xs ys)
-
--- one place more is laid over
-over-suc : {A : Type 0} (xs ys : List A) (i : ℕ) (d : A) → i < length ys → set (over xs (take i ys)) i (getD ys i d) ≡ over xs (take (suc i) ys)
-over-suc xs [] i d h = absurd (not-suc-le-zero h)
-over-suc [] (y ∷ ys) i d h = refl
-over-suc (x ∷ xs) (y ∷ ys) zero d h = ap (λ (l : List _). y ∷ l) (sym (over-nil xs))
-over-suc (x ∷ xs) (y ∷ ys) (suc i) d h = ap (λ (l : List _). y ∷ l) (over-suc xs ys i d (le-of-suc-le-suc h))
-
-pub over-next : {A : Type 0} (xs ys : List A) (i : ℕ) (d : A) → i < length ys → set (over xs (take i ys)) i (getD ys i d) ≡ over xs (take (i + 1) ys)
-over-next xs ys i d h = rw add-one (over-suc xs ys i d h)
-
-pub over-none : {A : Type 0} (xs ys : List A) → over xs (take 0 ys) ≡ xs
-over-none xs ys = over-nil xs
-
--- all that has a place is laid over
-over-full : {A : Type 0} (xs ys : List A) (i : ℕ) → length xs ≤ i → over xs (take i ys) ≡ over xs ys
-over-full [] ys i h = refl
-over-full {A} (x ∷ xs) [] i h = ap (over (x ∷ xs)) (take-nil {A = A} i)
-over-full (x ∷ xs) (y ∷ ys) zero h = absurd (not-suc-le-zero h)
-over-full (x ∷ xs) (y ∷ ys) (suc i) h = ap (λ (l : List _). y ∷ l) (over-full xs ys i (le-of-suc-le-suc h))
-
-pub over-all : {A : Type 0} (xs ys : List A) (i : ℕ) → min (length xs) (length ys) ≤ i → over xs (take i ys) ≡ over xs ys
-over-all xs ys i h =
-    by-bool (ltb i (length xs))
-    (λ e. ap (over xs) (take-all i ys (let f : i < length xs = ltb-true i (length xs) e in omega (arith, f, h))))
-    (λ e. over-full xs ys i (ltb-false i (length xs) e))
 
 -- ---- all places from the k-th on are unused
 ltb-suc : (i k : ℕ) → ltb (suc i) (suc k) ≡ ltb i k
@@ -113,17 +80,6 @@ pub remove-length : (p : ℕ) (l : List Stretch) → length (removeAt p l) ≡ l
 remove-length p [] = refl
 remove-length zero (x ∷ xs) = length-append xs (none ∷ []) ∙ add-one (length xs)
 remove-length (suc p) (x ∷ xs) = ap suc (remove-length p xs)
-
--- one list laid over another of the same length is that list
-pub over-same : {A : Type 0} (xs ys : List A) → length xs ≡ length ys → over xs ys ≡ ys
-over-same [] [] e = refl
-over-same [] (y ∷ ys) e = absurd (omega arith)
-over-same (x ∷ xs) [] e = absurd (omega arith)
-over-same (x ∷ xs) (y ∷ ys) e = ap (λ (l : List _). y ∷ l) (over-same xs ys (suc-inj e))
-
--- a list of the same length is laid over in full
-pub over-laid : {A : Type 0} (xs ys : List A) (i : ℕ) → length ys ≡ length xs → length xs ≤ i → over xs (take i ys) ≡ ys
-over-laid xs ys i e h = over-all xs ys i (omega (arith, h)) ∙ over-same xs ys (sym e)
 
 -- ---- r is 32 places that are written anew, place by place from p on: before place i they are those of l, and from there on still those of a
 abbrev pub Written : (a l : List Stretch) (p i : ℕ) (r : List Stretch) → Type 0

@@ -14,10 +14,11 @@ use Rattle.workspace.specs.declared.Table.{Table}
 use Rattle.lists.specs.Lists.{if_then_else_}
 use Rattle.workspace.specs.Rules.{none, isNone}
 use Rattle.workspace.specs.Operations.{tableAfter}
-use Rattle.workspace.specs.Places.{over}
+use Rattle.lists.specs.Over.{over}
+use Rattle.lists.proofs.OverLaws.{over-length, over-next, over-laid}
 use Rattle.workspace.specs.Seen.{tableOf, noteOf, placeAfter, laid}
 use Rattle.lists.proofs.ListLaws.{by-bool}
-use Rattle.workspace.proofs.PlaceLaws.{over-length, over-next, over-laid, over-own}
+use Rattle.workspace.proofs.PlaceLaws.{over-own}
 use Rattle.workspace.proofs.Padded.{pad, pad-nil, none-over}
 
 replicate-at : (n i : ℕ) → getD (replicate n none) i none ≡ none

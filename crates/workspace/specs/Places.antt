@@ -20,12 +20,6 @@ passesOf StartsAt n = λ s. eqb (s .start) n
 passesOf StartsBehind n = λ s. ltb n (s .start)
 passesOf HasUnits n = λ s. leb n (s .length)
 
--- the second list laid over the first, from its start; what is behind it stays, and what has no place is left out
-abbrev pub over : {A : Type 0} → List A → List A → List A
-over [] ys = []
-over (x ∷ xs) [] = x ∷ xs
-over (x ∷ xs) (y ∷ ys) = y ∷ over xs ys
-
 -- the place p is taken out, those behind it move up, and the last is unused
 abbrev pub removeAt : ℕ → List Stretch → List Stretch
 removeAt p [] = []

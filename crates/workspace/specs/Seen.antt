@@ -10,7 +10,8 @@ use Rattle.workspace.specs.declared.Look.{Look}
 use Rattle.lists.specs.Lists.{if_then_else_, every}
 use Rattle.workspace.specs.Rules.{none, isNone}
 use Rattle.workspace.specs.declared.Test.the-variants.{HasUnits}
-use Rattle.workspace.specs.Places.{placeOf, passesOf, over}
+use Rattle.lists.specs.Over.{over}
+use Rattle.workspace.specs.Places.{placeOf, passesOf}
 
 -- its first 32 places, and whether all places behind them are unused
 unfoldable pub tableOf : List Stretch → Table

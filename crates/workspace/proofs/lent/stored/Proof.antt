@@ -8,9 +8,10 @@ use denote.Struct.Laws as LL
 use Rattle.workspace.specs.declared.Stretch.{Stretch}
 use Rattle.workspace.specs.declared.Table.{Table}
 use Rattle.workspace.specs.Rules.{none}
-use Rattle.workspace.specs.Places.{over}
+use Rattle.lists.specs.Over.{over}
+use Rattle.lists.proofs.OverLaws.{over-nil, over-length}
 use Rattle.workspace.specs.Seen.{placeAfter, laid}
-use Rattle.workspace.proofs.PlaceLaws.{mapped-long, over-none, over-length}
+use Rattle.workspace.proofs.PlaceLaws.{mapped-long}
 use Rattle.workspace.proofs.SeenLaws.{lay-next, lay-all}
 use Rattle.workspace.proofs.Walks.{lets-go, tail, scaled}
 use Rattle.workspace.proofs.Calls.{Told, tells-struct, seen, Seen, calls-told}
@@ -219,7 +220,7 @@ module _ {M : Type 1} (𝓤 : URA M) (H : Heap 𝓤) (A : Atoms 𝓤) (W : Given
         assigns ! (of-opd ! (lit ! tt)) (from ! (stop !)) (init ! 14 refl (tt, record { fits = lit< tt })) $
         move ! (23 ∷ []) $ fsplit ! $ fsplit ! $ move ! (1 ∷ []) $ fsplit ! $ move ! (26 ∷ []) $ split ! $
         -- [the token; true; obs; the borrow; table's fact; t's; _10; …]
-        rewrite ! 2 Obs (sym (over-none ys (laid t ys))) refl $ rewrite ! 3 Bor (sym (over-none ys (laid t ys))) refl $
+        rewrite ! 2 Obs (sym (over-nil ys)) refl $ rewrite ! 3 Bor (sym (over-nil ys)) refl $
         keep ! (2 ∷ 3 ∷ 0 ∷ 6 ∷ 7 ∷ 8 ∷ 9 ∷ 10 ∷ 11 ∷ 12 ∷ 13 ∷ 14 ∷ 15 ∷ 16 ∷ 17 ∷ 18 ∷ 19 ∷ 20 ∷ 21 ∷ 22 ∷ 23 ∷ 24 ∷ 25 ∷ 26 ∷ 27 ∷ []) $
         first ! $ blocks ! $ loops ! 𝓣 Nearer Nearer-wf At turns (0, zero-le)
 
