@@ -24,9 +24,9 @@ use Rattle.rules.proofs.Members.{bit-le, in-filter, timed-there}
 use Rattle.rules.proofs.SoundTest.{sound-test}
 use Rattle.rules.proofs.Advances.{advances}
 use Rattle.table.specs.declared.queues.Test.the-variants.{DueWithin}
-use Rattle.supervisor.specs.Taken.{Stands, EachOnce, WokenAs, takenOf, endedBy, passing}
+use Rattle.supervisor.specs.Taken.{Stands, EachOnce, WokenAs, takenAs, takenOf, endedBy, passing}
 use Rattle.supervisor.specs.declared.answers.Taken.{Taken}
-use Rattle.supervisor.proofs.AnswerLaws.{list-answers}
+use Rattle.supervisor.proofs.AnswerLaws.{answers}
 use Rattle.supervisor.proofs.MoveLaws.{picked-line, long-delays}
 
 -- ── those whose time comes ──
@@ -64,30 +64,21 @@ module _ (f : ℕ → ℕ) (w n k : ℕ) (xs : List ℕ) (q : w ≡ n + changes 
 
 -- ── what is answered ──
 
-clock-packed : (n : Supervisor) (st : State) (now : ℕ) → n ≡ pack st
-    → _≡_ {A = Supervisor} (record { clock = now; created = n .created; tasks = n .tasks; ready = n .ready; callers = n .callers; held = n .held; delays = n .delays }) (pack (setClock st now))
-clock-packed n st now e = ap (λ (z : Supervisor). record { clock = now; created = z .created; tasks = z .tasks; ready = z .ready; callers = z .callers; held = z .held; delays = z .delays }) e
+-- the struct with the clock at another reading
+abbrev clocked : ℕ → Supervisor → Supervisor
+clocked reading m = record { clock = reading; created = m .created; tasks = m .tasks; ready = m .ready; callers = m .callers; held = m .held; delays = m .delays }
 
 -- once those of the line l have been woken, and the clock stands at its reading
 pub passed-answers : (s : Supervisor) (v : State) (l : List ℕ) (m : Supervisor) (n k e reading : ℕ) (room last : List ℕ) {r : Taken}
-    → l ≡ dueWithin v n → reading ≡ after (v .clock) n → WokenAs v false l m k room last
-    → r ≡ record {
-      state = record { clock = reading; created = m .created; tasks = m .tasks; ready = m .ready; callers = m .callers; held = m .held; delays = m .delays };
-      refusal = 0;
-      task = 0;
-      result = DONE;
-      entry = e;
-      partner = 0;
-      ended = k;
-    }
+    → l ≡ dueWithin v n → reading ≡ after (v .clock) n → WokenAs v false l m k room last → r ≡ takenAs (clocked reading m) (item 0 DONE e 0) k
     → (r ≡ takenOf s (passing v n e)) × (last ≡ roomAfter room (endedBy (passing v n e)))
 passed-answers s v l m n k e reading room last q c w a =
-    let d = dueWithin v n in
-    let t : Supervisor = record { clock = reading; created = m .created; tasks = m .tasks; ready = m .ready; callers = m .callers; held = m .held; delays = m .delays } in
-    list-answers s t (setClock (wakeAll v d) (after (v .clock) n)) (item 0 DONE e 0) (map (expired v) d) k room last refl a
-    (clock-packed m (wakeAll v d) reading (w .state ∙ ap (λ (x : List ℕ). pack (wakeAll v x)) q) ∙ ap (λ (x : ℕ). pack (setClock (wakeAll v d) x)) c)
-    (w .number ∙ ap length q ∙ sym (length-map d (expired v)))
-    (w .written ∙ ap (λ (x : List ℕ). roomAfter room (map (expired v) x)) q)
+    let d = dueWithin v n in (
+      answers s (clocked reading m) (setClock (wakeAll v d) (after (v .clock) n)) (item 0 DONE e 0) (map (expired v) d) a
+          (λ i. clocked (c i) ((w .state ∙ ap (λ (x : List ℕ). pack (wakeAll v x)) q) i))
+          (w .number ∙ ap length q ∙ sym (length-map d (expired v))),
+      w .written ∙ ap (λ (x : List ℕ). roomAfter room (map (expired v) x)) q,
+    )
 
 -- ── the calls ──
 

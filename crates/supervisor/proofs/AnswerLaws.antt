@@ -3,8 +3,8 @@
 use Prim.Native.Nat.{ℕ, zero, suc, _≤_}
 use mathlib.Core.Path.{_≡_, refl, sym, ap, _∙_}
 use mathlib.Core.Bool.{Bool}
-use mathlib.Core.List.{List, [], map}
-use lib.ListN.{length, length-map}
+use mathlib.Core.List.{List, []}
+use lib.ListN.{length}
 use Rattle.rules.specs.State.{State, taskOf, move, running, meet, part}
 use Rattle.rules.specs.Step.{Outcome, refused, took, NO-TASK, ofRunning, roomAfter}
 use Rattle.rules.specs.Sound.{sound}
@@ -16,7 +16,7 @@ use Rattle.rules.specs.declared.Place.{Place}
 use Rattle.rules.specs.declared.Timer.{Timer}
 use Rattle.rules.proofs.Members.{Runs, runs}
 use Rattle.table.specs.Moved.{movedOf, metOf, partedOf}
-use Rattle.supervisor.specs.Taken.{Stands, takenOf, endedBy}
+use Rattle.supervisor.specs.Taken.{Stands, takenAs, takenOf, endedBy}
 use Rattle.supervisor.specs.declared.answers.Taken.{Taken}
 use Rattle.supervisor.proofs.MoveLaws.{moved-packed, met-packed, parted-packed}
 
@@ -45,41 +45,27 @@ by-ended x y e k = k ∙ sym (ap (λ (o : Outcome). roomAfter y (endedBy o)) e)
 pub by-both : (s : Supervisor) {o q : Outcome} {r : Taken} (x y : List ℕ) → o ≡ q → r ≡ takenOf s q → x ≡ roomAfter y (endedBy q) → (r ≡ takenOf s o) × (x ≡ roomAfter y (endedBy o))
 by-both s x y e h k = (by-outcome s e h, by-ended x y e k)
 
--- the state of an answer
-pub answers : (s m : Supervisor) (st : State) (a : Item) (l : List Item) {r : Taken} → r ≡ record { state = m; refusal = 0; task = a .task; result = a .result; entry = a .entry; partner = a .partner; ended = length l } → m ≡ pack st → r ≡ takenOf s (took st a l)
-answers s m st a l e q = e ∙ ap (λ (x : Supervisor). record { state = x; refusal = 0; task = a .task; result = a .result; entry = a .entry; partner = a .partner; ended = length l }) q
+-- an answer, its state and its list
+pub answers : (s m : Supervisor) (st : State) (a : Item) (l : List Item) {n : ℕ} {r : Taken} → r ≡ takenAs m a n → m ≡ pack st → n ≡ length l → r ≡ takenOf s (took st a l)
+answers s m st a l e q k = e ∙ λ i. takenAs (q i) a (k i)
 
 -- an answer after one move, and one that leaves the state as it is
 pub move-answers : (s m : Supervisor) (t : ℕ) (p : Place) (w : Timer) (a : Item) (l : List Item) {r : Taken} → Stands s → t ≤ length (view s .tasks)
-    → r ≡ record { state = m; refusal = 0; task = a .task; result = a .result; entry = a .entry; partner = a .partner; ended = length l } → m ≡ movedOf s t p w → r ≡ takenOf s (took (move (view s) t p w) a l)
-move-answers s m t p w a l h k e q = answers s m (move (view s) t p w) a l e (q ∙ moved-packed s t p w h k)
+    → r ≡ takenAs m a (length l) → m ≡ movedOf s t p w → r ≡ takenOf s (took (move (view s) t p w) a l)
+move-answers s m t p w a l h k e q = answers s m (move (view s) t p w) a l e (q ∙ moved-packed s t p w h k) refl
 
 -- answers that come with them
 module _ (g c e : ℕ) where
   pub meet-answers : (s m : Supervisor) (a : Item) (l : List Item) {r : Taken} → Stands s → g ≤ length (view s .tasks) → c ≤ length (view s .tasks)
-      → r ≡ record { state = m; refusal = 0; task = a .task; result = a .result; entry = a .entry; partner = a .partner; ended = length l } → m ≡ metOf s g c e → r ≡ takenOf s (took (meet (view s) g c e) a l)
-  meet-answers s m a l h i k y q = answers s m (meet (view s) g c e) a l y (q ∙ met-packed g c e s h i k)
+      → r ≡ takenAs m a (length l) → m ≡ metOf s g c e → r ≡ takenOf s (took (meet (view s) g c e) a l)
+  meet-answers s m a l h i k y q = answers s m (meet (view s) g c e) a l y (q ∙ met-packed g c e s h i k) refl
 
   pub part-answers : (s m : Supervisor) (a : Item) (l : List Item) {r : Taken} → Stands s → g ≤ length (view s .tasks) → c ≤ length (view s .tasks)
-      → r ≡ record { state = m; refusal = 0; task = a .task; result = a .result; entry = a .entry; partner = a .partner; ended = length l } → m ≡ partedOf s g c → r ≡ takenOf s (took (part (view s) g c) a l)
-  part-answers s m a l h i k y q = answers s m (part (view s) g c) a l y (q ∙ parted-packed g c e s h i k)
+      → r ≡ takenAs m a (length l) → m ≡ partedOf s g c → r ≡ takenOf s (took (part (view s) g c) a l)
+  part-answers s m a l h i k y q = answers s m (part (view s) g c) a l y (q ∙ parted-packed g c e s h i k) refl
 
-pub stay-answers : (s : Supervisor) (a : Item) (l : List Item) {r : Taken} → Stands s → r ≡ record { state = s; refusal = 0; task = a .task; result = a .result; entry = a .entry; partner = a .partner; ended = length l } → r ≡ takenOf s (took (view s) a l)
-stay-answers s a l h e = answers s s (view s) a l e (h .packs)
-
--- an answer with a list
-pub many-answers : (s m : Supervisor) (st : State) (a : Item) (f : ℕ → Item) (l xs : List ℕ) (n : ℕ) {r : Taken} → r ≡ record { state = m; refusal = 0; task = a .task; result = a .result; entry = a .entry; partner = a .partner; ended = n } → m ≡ pack st → n ≡ length l → l ≡ xs
-    → r ≡ takenOf s (took st a (map f xs))
-many-answers s m st a f l xs n e q k z =
-    e ∙ ap (λ (x : Supervisor). record { state = x; refusal = 0; task = a .task; result = a .result; entry = a .entry; partner = a .partner; ended = n }) q
-    ∙ ap (λ (j : ℕ). record { state = pack st; refusal = 0; task = a .task; result = a .result; entry = a .entry; partner = a .partner; ended = j }) (k ∙ ap length z ∙ sym (length-map xs f))
-
--- an answer with a list that was written
-pub list-answers : (s m : Supervisor) (st : State) (a : Item) (l : List Item) (k : ℕ) (room after : List ℕ) {o : Outcome} {r : Taken} → o ≡ took st a l
-    → r ≡ record { state = m; refusal = 0; task = a .task; result = a .result; entry = a .entry; partner = a .partner; ended = k } → m ≡ pack st → k ≡ length l → after ≡ roomAfter room l → (r ≡ takenOf s o) × (after ≡ roomAfter room (endedBy o))
-list-answers s m st a l k room after e h q n w =
-    by-both s after room e
-    (h ∙ ap (λ (x : Supervisor). record { state = x; refusal = 0; task = a .task; result = a .result; entry = a .entry; partner = a .partner; ended = k }) q ∙ ap (λ (j : ℕ). record { state = pack st; refusal = 0; task = a .task; result = a .result; entry = a .entry; partner = a .partner; ended = j }) n) w
+pub stay-answers : (s : Supervisor) (a : Item) (l : List Item) {r : Taken} → Stands s → r ≡ takenAs s a (length l) → r ≡ takenOf s (took (view s) a l)
+stay-answers s a l h e = answers s s (view s) a l e (h .packs) refl
 
 -- a test of the called task, made on its record
 pub of-task : (v : State) (g : ℕ) (x : Task) (f : Task → Bool) (b c : Bool) → x ≡ taskOf v g → b ≡ f x → b ≡ c → f (taskOf v g) ≡ c

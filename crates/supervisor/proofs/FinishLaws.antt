@@ -4,11 +4,11 @@ use Prim.Native.Nat.{ℕ, zero, suc, _+_, _-_, _≤_, _<_}
 use mathlib.Core.Path.{_≡_, refl, sym, ap, _∙_}
 use mathlib.Core.Bool.{true}
 use mir.Val.{boolByte}
-use mathlib.Core.List.{List, [], _∷_, _++_, append-assoc, append-nil, tail-eq-of-cons-eq}
+use mathlib.Core.List.{List, [], _∷_, _++_, map, append-assoc, append-nil, tail-eq-of-cons-eq}
 use native.Mathlib.Omega.{arith}
 use native.Mathlib.Numerals.{add-one}
 use lib.Dec.{eqb, ltb}
-use lib.ListN.{length, drop, getD, drop-of-length-le, List·getD-eq-default}
+use lib.ListN.{length, drop, getD, length-map, drop-of-length-le, List·getD-eq-default}
 use lib.Seq.{drop-cons}
 use borrow.Author.Tests.{ltb-true, lt-ltb, le-ltb, ltb-false, eq-eqb, ne-eqb, eqb-true}
 use Rattle.lists.proofs.LineLaws.{line-line, line-append, line-pad}
@@ -26,17 +26,17 @@ use Rattle.rules.specs.declared.Timer.the-variants.{Off}
 use Rattle.calls.specs.declared.Call.the-variants.{Finish}
 use Rattle.rules.proofs.Invariant.{Sound}
 use Rattle.rules.proofs.Members.{queued-there, nth-beyond}
-use Rattle.lists.proofs.Tests.{byte-bit}
+use Rattle.lists.proofs.Tests.{no, byte-bit}
 use Rattle.lists.proofs.ListLaws.{by-bool, by-test}
 use Rattle.rules.proofs.StepSound.{of-queuedFrom, wakeAll-sound, wakeAll-length}
 use Rattle.rules.proofs.WholeLaws.{at-most, no-zero}
 use Rattle.table.specs.Moved.{movedOf}
 use Rattle.supervisor.specs.Lowest.{openCall, callOf}
-use Rattle.supervisor.specs.Taken.{Stands, takenOf, endedBy, completing, AllThere, EachOnce, WokenAs}
+use Rattle.supervisor.specs.Taken.{Stands, takenAs, takenOf, endedBy, completing, AllThere, EachOnce, WokenAs}
 use Rattle.supervisor.specs.declared.answers.Taken.{Taken}
 use Rattle.rules.proofs.Fate.{queued-once}
 use Rattle.supervisor.proofs.MoveLaws.{moved-state}
-use Rattle.supervisor.proofs.AnswerLaws.{no-runner, of-runner, many-answers}
+use Rattle.supervisor.proofs.AnswerLaws.{no-runner, of-runner, answers}
 use Rattle.supervisor.proofs.LowestLaws.{at-open, all-open}
 
 -- ---- a line that is laid out, read back and added to
@@ -45,7 +45,7 @@ padTo-again : (n : ℕ) (xs ys : List ℕ) → line xs ≡ xs → padTo n (line 
 unfolding padTo
 padTo-again zero xs ys h = refl
 padTo-again (suc n) [] ys h = refl
-padTo-again (suc n) (zero ∷ xs) ys h = let z : _≡_ {A = ℕ} 0 1 = cc in absurd (omega arith)
+padTo-again (suc n) (zero ∷ xs) ys h = no (cc)
 padTo-again (suc n) (suc x ∷ xs) ys h = ap (λ (r : List ℕ). suc x ∷ r) (padTo-again n xs ys (tail-eq-of-cons-eq h))
 
 pub pad-again : (xs ys : List ℕ) → line xs ≡ xs → pad (line (pad xs) ++ ys) ≡ pad (xs ++ ys)
@@ -186,9 +186,9 @@ module _ (v : State) (t : ℕ) where
 
 -- all of a list woken, and then t completes
 pub completes : (s : Supervisor) (t : ℕ) (l : List ℕ) (n m : Supervisor) (k : ℕ) (room last : List ℕ) {r : Taken} → Stands s → AllThere (view s) l → t ≤ length (view s .tasks) → WokenAs (view s) true l n k room last
-    → m ≡ movedOf n t Completed Off → r ≡ record { state = m; refusal = 0; task = t; result = DONE; entry = 0; partner = 0; ended = k }
+    → m ≡ movedOf n t Completed Off → r ≡ takenAs m (item t DONE 0 0) k
     → (r ≡ takenOf s (completing (view s) t l)) × (last ≡ roomAfter room (endedBy (completing (view s) t l)))
 completes s t l n m k room last h a b w em e =
     let v = view s in
     let q = em ∙ moved-state n (wakeAll v l) t Completed Off (w .state) (wakeAll-sound l v (h .sound) a) (omega (arith, b, wakeAll-length l v)) in
-    (many-answers s m (move (wakeAll v l) t Completed Off) (item t DONE 0 0) (failed v) l l k e q (w .number) refl, w .written)
+    (answers s m (move (wakeAll v l) t Completed Off) (item t DONE 0 0) (map (failed v) l) e q (w .number ∙ sym (length-map l (failed v))), w .written)

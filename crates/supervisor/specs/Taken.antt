@@ -24,10 +24,14 @@ pub record Stands (s : Supervisor) : Type 0 where
   pub packs : s ≡ pack (view s)
   pub sound : Sound (view s)
 
+-- what a step function answers for a call that is taken: the struct afterwards, the answer's numbers, and how many waits have ended
+abbrev pub takenAs : Supervisor → Item → ℕ → Taken
+takenAs m a n = record { state = m; refusal = 0; task = a .task; result = a .result; entry = a .entry; partner = a .partner; ended = n }
+
 -- what a step function answers for an outcome of the rules: a refused call leaves the struct as it was
 abbrev pub takenOf : Supervisor → Outcome → Taken
 takenOf s (refused r) = record { state = s; refusal = number r; task = 0; result = 0; entry = 0; partner = 0; ended = 0 }
-takenOf s (took st a l) = record { state = pack st; refusal = 0; task = a .task; result = a .result; entry = a .entry; partner = a .partner; ended = length l }
+takenOf s (took st a l) = takenAs (pack st) a (length l)
 
 -- the ended waits of an outcome
 abbrev pub endedBy : Outcome → List Item

@@ -41,7 +41,7 @@ new-task c few =
     let m = c .before .with-task in
     by-outcome (a .s) (create-new (view (a .s)) (a .priority) (a .entries) (r .in-range .result) _ (r .in-range .ensures) (e1 .if1 .left) (omega (arith, k, few)) (omega (arith, k)))
     (answers (a .s) _ (add (view (a .s)) (a .priority) (a .entries)) _ [] (c .answered .ensures)
-    (add-packed (a .s) (m .result) (a .priority) (a .entries) _ _ h few refl (c .before .before .fresh-task .ensures) (c .before .before .before .joined .ensures) (m .ensures)))
+    (add-packed (a .s) (m .result) (a .priority) (a .entries) _ _ h few refl (c .before .before .fresh-task .ensures) (c .before .before .before .joined .ensures) (m .ensures)) refl)
 
 returns-3 : tie.Need-returns-3
 returns-3 c = new-task c (room (c .before .before .before .before .before .before))
