@@ -7,7 +7,7 @@ use mathlib.Core.List.{List, [], _∷_}
 use native.Mathlib.Omega.{arith}
 use lib.ListN.{length, List·getD-eq-default}
 use lib.Dec.{eqb, leb}
-use borrow.Author.Tests.{eqb-true, eq-eqb}
+use borrow.Author.Tests.{eqb-true, eq-eqb, leb-true, leb-false}
 use Rattle.lists.specs.Lists.{bit, count, filter, first, last}
 use Rattle.rules.specs.State.{State, blank, nth, taskOf, placeOf, timerOf, isReady, isQueued, isHeld, partnerOf, entryOf, hasTime, queue, heldBy, level, headUpTo, running, waitsOn, holds, atLevel}
 use Rattle.rules.specs.declared.Task.{Task}
@@ -16,7 +16,7 @@ use Rattle.rules.specs.declared.Meeting.{Meeting}
 use Rattle.rules.specs.declared.Place.{Place}
 use Rattle.rules.specs.declared.Place.the-variants.{Blank, Ready, Delayed, Queued, Held, Accepting, Completed}
 use Rattle.lists.proofs.Tests.{no, and-first, and-second}
-use Rattle.lists.proofs.ListLaws.{clash, count-filter-yes, count-filter-no}
+use Rattle.lists.proofs.ListLaws.{clash, by-bool, count-filter-yes, count-filter-no}
 use Rattle.rules.proofs.Invariant.{Calls, Sound}
 
 -- ── members of a filtered list, the first and the last ──
@@ -65,14 +65,13 @@ pub nth-beyond : (l : List Task) (u : ℕ) → length l < u → nth l u ≡ blan
 nth-beyond l zero h = absurd (omega arith)
 nth-beyond l (suc u) h = List·getD-eq-default l blank (omega arith)
 
--- a task whose place is not blank was created
+-- a task that is not blank was created
+given : (ts : List Task) (u : ℕ) → (nth ts u ≡ blank → ⊥) → (0 < u) × (u ≤ length ts)
+given ts zero h = absurd (h refl)
+given ts (suc u) h = by-bool (leb (suc u) (length ts)) (λ e. (omega arith, leb-true (suc u) (length ts) e)) (λ e. absurd (h (nth-beyond ts (suc u) (leb-false (suc u) (length ts) e))))
+
 pub there : (ts : List Task) (u : ℕ) → (nth ts u .place ≡ Blank → ⊥) → (0 < u) × (u ≤ length ts)
-there ts zero h = absurd (h refl)
-there ts (suc u) h = go (leb (suc u) (length ts)) refl
-  where
-    go : (b : Bool) → leb (suc u) (length ts) ≡ b → (0 < suc u) × (suc u ≤ length ts)
-    go true e = (omega arith, borrow.Author.Tests.leb-true (suc u) (length ts) e)
-    go false e = absurd (h (ap (λ (x : Task). x .place) (nth-beyond ts (suc u) (borrow.Author.Tests.leb-false (suc u) (length ts) e))))
+there ts u h = given ts u (λ b. h (ap (λ (x : Task). x .place) b))
 
 pub not-blank : (p : Place) → p ≡ Ready → p ≡ Blank → ⊥
 not-blank p a b = no (cc)
@@ -153,11 +152,4 @@ pub queued-good : (s : State) (u : ℕ) (q : Waiting) → Sound s → placeOf s 
 queued-good s u q h e = let i = queued-there s u q e in (rw e at (h .good u (i .0) (i .1) .place)) .0
 
 pub timed-there : (s : State) (u : ℕ) → hasTime (timerOf s u) ≡ true → (0 < u) × (u ≤ length (s .tasks))
-timed-there s zero h = no (cc)
-timed-there s (suc u) h = go (leb (suc u) (length (s .tasks))) refl
-  where
-    go : (b : Bool) → leb (suc u) (length (s .tasks)) ≡ b → (0 < suc u) × (suc u ≤ length (s .tasks))
-    go true e = (omega arith, borrow.Author.Tests.leb-true (suc u) (length (s .tasks)) e)
-    go false e =
-        let q = ap (λ (x : Task). hasTime (x .timer)) (nth-beyond (s .tasks) (suc u) (borrow.Author.Tests.leb-false (suc u) (length (s .tasks)) e)) in
-        no (cc)
+timed-there s u h = given (s .tasks) u (λ b. clash h (ap (λ (x : Task). hasTime (x .timer)) b))

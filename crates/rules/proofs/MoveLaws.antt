@@ -156,22 +156,30 @@ module _ (s : State) (t : ℕ) (p : Place) (w : Timer) (pos : 0 < t) (fit : t �
     order = order-move (s .tasks) t (moved s t p w) pos fit (s .clock) (s .delays) (h .order);
   }
 
+-- whoever has called t is still right to, where those queued on it and those held by it are
+welcome-by : (ts : List Task) (t : ℕ) (x : Task) (pos : 0 < t) (fit : t ≤ length ts)
+    → ((u : ℕ) (q : Waiting) → nth ts u .place ≡ Queued q → q .target ≡ t → Calls (nth ts t) (q .entry) → Calls x (q .entry) × (accepts (x .place) (q .entry) ≡ false))
+    → ((u : ℕ) (m : Meeting) → nth ts u .place ≡ Held m → m .holder ≡ t → Calls (nth ts t) (m .entry) → Calls x (m .entry)) → Welcome ts t x pos fit
+welcome-by ts t x pos fit a b u n g h = go (nth ts u .place) refl g h
+  where
+    go : (p : Place) → nth ts u .place ≡ p → partnerOf p ≡ t → Fits (nth ts u) (nth ts t) p (nth ts u .timer) → Fits (nth ts u) x p (nth ts u .timer)
+    go Blank e g f = f
+    go Ready e g f = f
+    go Delayed e g f = f
+    go (Queued q) e g f = a u q e g (f .0)
+    go (Held m) e g f = (b u m e g (f .0), f .1)
+    go (Accepting o) e g f = f
+    go Completed e g f = f
+
+-- a task with the same entries that has not completed may be called as before
+calls-kept : {x y : Task} → y .entries ≡ x .entries → isCompleted (y .place) ≡ false → (e : ℕ) → Calls x e → Calls y e
+calls-kept en nc e c = record { low = c .low; high = omega (arith, c .high, en); alive = nc }
+
 -- a place in which a task neither has completed nor accepts: whoever has called it may stay
 pub welcome-plain : (ts : List Task) (t : ℕ) (x : Task) (pos : 0 < t) (fit : t ≤ length ts) → x .entries ≡ nth ts t .entries
     → isCompleted (x .place) ≡ false → ((e : ℕ) → accepts (x .place) e ≡ false) → Welcome ts t x pos fit
-welcome-plain ts t x pos fit en nc na u n g h = go (nth ts u .place) h
-  where
-    kept : (e : ℕ) → Calls (nth ts t) e → Calls x e
-    kept e c = record { low = c .low; high = omega (arith, c .high, en); alive = nc }
-
-    go : (p : Place) → Fits (nth ts u) (nth ts t) p (nth ts u .timer) → Fits (nth ts u) x p (nth ts u .timer)
-    go Blank f = f
-    go Ready f = f
-    go Delayed f = f
-    go (Queued q) f = (kept (q .entry) (f .0), na (q .entry))
-    go (Held m) f = (kept (m .entry) (f .0), f .1)
-    go (Accepting o) f = f
-    go Completed f = f
+welcome-plain ts t x pos fit en nc na =
+    welcome-by ts t x pos fit (λ u q e g c. (calls-kept en nc (q .entry) c, na (q .entry))) (λ u m e g c. calls-kept en nc (m .entry) c)
 
 -- ── the moves that steps are made of ──
 
@@ -235,33 +243,11 @@ module _ (s : State) (g c : ℕ) (low : 0 < g) (high : g ≤ length (s .tasks)) 
 pub accept-sound : (s : State) (t : ℕ) (o : Offer) (w : Timer) → 0 < t → t ≤ length (s .tasks) → Sound s → o .opens < 2 ^ (taskOf s t .entries) → (o .opens ≡ 0 → hasTime w ≡ true) → InTime (s .clock) w
     → ((u : ℕ) (q : Waiting) → placeOf s u ≡ Queued q → q .target ≡ t → opens (o .opens) (q .entry) ≡ false) → Sound (move s t (Accepting o) w)
 accept-sound s t o w pos fit h b z i q =
-    move-sound s t (Accepting o) w pos fit h (b, z) i (λ u n g f. go u (placeOf s u) refl g f)
-  where
-    x : Task
-    x = moved s t (Accepting o) w
-
-    go : (u : ℕ) (p : Place) → placeOf s u ≡ p → partnerOf p ≡ t → Fits (taskOf s u) (taskOf s t) p (taskOf s u .timer) → Fits (taskOf s u) x p (taskOf s u .timer)
-    go u Blank e g f = f
-    go u Ready e g f = f
-    go u Delayed e g f = f
-    go u (Queued a) e g f = (record { low = f .0 .low; high = f .0 .high; alive = refl }, q u a e g)
-    go u (Held m) e g f = (record { low = f .0 .low; high = f .0 .high; alive = refl }, f .1)
-    go u (Accepting a) e g f = f
-    go u Completed e g f = f
+    move-sound s t (Accepting o) w pos fit h (b, z) i
+    (welcome-by (s .tasks) t (moved s t (Accepting o) w) pos fit (λ u a e g c. (calls-kept refl refl (a .entry) c, q u a e g)) (λ u m e g c. calls-kept refl refl (m .entry) c))
 
 -- t completes, where nobody is queued on it or held by it
 pub complete-sound : (s : State) (t : ℕ) → 0 < t → t ≤ length (s .tasks) → Sound s
     → ((u : ℕ) (q : Waiting) → placeOf s u ≡ Queued q → q .target ≡ t → ⊥) → ((u : ℕ) (m : Meeting) → placeOf s u ≡ Held m → m .holder ≡ t → ⊥) → Sound (move s t Completed Off)
-complete-sound s t pos fit h q r = move-sound s t Completed Off pos fit h refl tt (λ u n g f. go u (placeOf s u) refl g f)
-  where
-    x : Task
-    x = moved s t Completed Off
-
-    go : (u : ℕ) (p : Place) → placeOf s u ≡ p → partnerOf p ≡ t → Fits (taskOf s u) (taskOf s t) p (taskOf s u .timer) → Fits (taskOf s u) x p (taskOf s u .timer)
-    go u Blank e g f = f
-    go u Ready e g f = f
-    go u Delayed e g f = f
-    go u (Queued a) e g f = absurd (q u a e g)
-    go u (Held m) e g f = absurd (r u m e g)
-    go u (Accepting a) e g f = f
-    go u Completed e g f = f
+complete-sound s t pos fit h q r =
+    move-sound s t Completed Off pos fit h refl tt (welcome-by (s .tasks) t (moved s t Completed Off) pos fit (λ u a e g c. absurd (q u a e g)) (λ u m e g c. absurd (r u m e g)))
