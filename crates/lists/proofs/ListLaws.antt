@@ -33,6 +33,14 @@ by-eq u t f g = by-bool (eqb u t) (λ e. f (eqb-true u t e)) (λ e. g (eqb-false
 
 -- ── count ──
 
+-- in the list or not
+pub by-member {κ} : {P : Type κ} (u : ℕ) (l : List ℕ) → (0 < count u l → P) → (count u l ≡ 0 → P) → P
+by-member u l f g = by-eq (count u l) 0 g (λ n. f (omega arith))
+
+-- who cannot be in the list is not
+pub not-in : (u : ℕ) (l : List ℕ) → (0 < count u l → ⊥) → count u l ≡ 0
+not-in u l f = by-member u l (λ k. absurd (f k)) (λ z. z)
+
 -- how often in two lists joined
 pub count-append : (u : ℕ) (l m : List ℕ) → count u (l ++ m) ≡ count u l + count u m
 count-append u [] m = omega arith
@@ -113,11 +121,7 @@ in-order k (x ∷ xs) o =
 
 -- a filtered list has nobody more often
 pub count-filter-le : (f : ℕ → Bool) (u : ℕ) (l : List ℕ) → count u (filter f l) ≤ count u l
-count-filter-le f u l = go (f u) refl
-  where
-    go : (b : Bool) → f u ≡ b → count u (filter f l) ≤ count u l
-    go true e = omega (arith, count-filter-yes f u l e)
-    go false e = omega (arith, count-filter-no f u l e)
+count-filter-le f u l = by-bool (f u) (λ e. omega (arith, count-filter-yes f u l e)) (λ e. omega (arith, count-filter-no f u l e))
 
 -- a filtered list stays in order
 pub ordered-filter : (k : ℕ → ℕ) (g : ℕ → Bool) (l : List ℕ) → Ordered k l → Ordered k (filter g l)

@@ -7,7 +7,7 @@ use mathlib.Core.List.{List, [], _∷_, _++_, append-assoc, append-nil}
 use native.Mathlib.Omega.{arith}
 use lib.ListN.{length}
 use lib.Dec.{eqb, ltb}
-use borrow.Author.Tests.{eq-eqb, ne-eqb, ltb-true, ltb-false}
+use borrow.Author.Tests.{eq-eqb, ne-eqb}
 use Rattle.lists.specs.Lists.{if_then_else_, bit, count}
 use Rattle.rules.specs.State.{State, left, after}
 use Rattle.rules.specs.Step.{Refusal, tick, tickTo, endsAt, advance, advanced, advanceEnds, readings}
@@ -18,7 +18,7 @@ use Rattle.rules.specs.declared.Item.{Item}
 use Rattle.rules.specs.declared.Supervisor.{Supervisor}
 use Rattle.calls.specs.declared.Call as C
 use Rattle.calls.specs.declared.Call.the-variants.{Create, Delay, Call, Select, End, Finish, Tick, Advance}
-use Rattle.lists.proofs.ListLaws.{by-eq, by-bool, by-test}
+use Rattle.lists.proofs.ListLaws.{by-eq, by-test, not-in}
 use Rattle.rules.proofs.Invariant.{Sound}
 use Rattle.rules.proofs.StepSound.{tick-kept}
 use Rattle.rules.proofs.StateRuns.{stepped}
@@ -96,7 +96,7 @@ apart (suc n) s room e h i r =
     first : Q → P (now ∷ m)
     first q =
         by-eq now r
-        (λ z. let o : count r m ≡ 0 = by-bool (ltb 0 (count r m)) (λ b. absurd (let j = q .1 (ltb-true 0 (count r m) b) in omega (arith, j .0, j .2, z))) (λ b. omega (arith, ltb-false 0 (count r m) b)) in
+        (λ z. let o : count r m ≡ 0 = not-in r m (λ k. let j = q .1 k in omega (arith, j .0, j .2, z)) in
         rw (eq-eqb now r z) (omega (arith, o), λ k. (omega (arith, z, h .clock), omega (arith, z, h .clock), omega (arith, z))))
         (λ z. rw (ne-eqb now r z) (omega (arith, q .0), λ k. later q (omega (arith, k))))
 

@@ -7,7 +7,7 @@ use mathlib.Core.List.{List, [], _∷_, _++_, map}
 use native.Mathlib.Omega.{arith}
 use lib.ListN.{length, length-map}
 use lib.Dec.{ltb, leb}
-use borrow.Author.Tests.{eqb-false, eq-eqb, ne-eqb, ltb-true, ltb-false, lt-ltb, le-leb, lt-leb, leb-true, leb-false}
+use borrow.Author.Tests.{eqb-false, eq-eqb, ne-eqb, lt-ltb, le-leb, lt-leb, leb-true, leb-false}
 use Rattle.lists.specs.Lists.{bit, filter, remove, count}
 use Rattle.rules.specs.State.{State, taskOf, timerOf, entryOf, partnerOf, ticksLeft, left, after, wake, wakeAll, setClock}
 use Rattle.rules.specs.Step.{item, isDue, expired, expiry, dueAt, tickTo, endsAt}
@@ -16,7 +16,7 @@ use Rattle.rules.specs.declared.Item.{Item}
 use Rattle.rules.specs.declared.Task.{Task}
 use Rattle.rules.specs.declared.Timer.{Timer}
 use Rattle.rules.specs.declared.Timer.the-variants.{Off, Due}
-use Rattle.lists.proofs.ListLaws.{by-eq, by-bool, clash, count-filter-yes, count-filter-no, Ordered}
+use Rattle.lists.proofs.ListLaws.{by-eq, by-bool, clash, not-in, count-filter-yes, count-filter-no, Ordered}
 use Rattle.lists.proofs.MarkLaws.{filter-same}
 use Rattle.lists.proofs.Tests.{between}
 use Rattle.rules.proofs.Invariant.{Sound}
@@ -181,7 +181,7 @@ module _ (s : State) (n : ℕ) (h : Sound s) where
   stays t z = wakeAll-out due s t z
 
   soon-out : (t : ℕ) → soon t ≡ true → count t due ≡ 0
-  soon-out t e = by-bool (ltb 0 (count t due)) (λ b. clash e (woken-off t (ltb-true 0 (count t due) b))) (λ b. omega (arith, ltb-false 0 (count t due) b))
+  soon-out t e = not-in t due (λ k. clash e (woken-off t k))
 
   further : (t : ℕ) → 0 < count t (s .delays) → first t ≡ false → 1 < ticks t
   further t k e =

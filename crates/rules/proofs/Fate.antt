@@ -8,7 +8,7 @@ use native.Mathlib.Omega.{arith}
 use lib.IntN.{ℤ}
 use lib.ListN.{length}
 use lib.Dec.{eqb, ltb, leb}
-use borrow.Author.Tests.{eq-eqb, ne-eqb, ltb-true, ltb-false, leb-true, leb-false, not-false}
+use borrow.Author.Tests.{eq-eqb, ne-eqb, leb-true, leb-false, not-false}
 use Rattle.lists.specs.Lists.{count, first, last}
 use Rattle.rules.specs.State.{State, nth, taskOf, placeOf, timerOf, created, isTask, isQueued, isCompleted, entryOf, accepts, left, after, fresh, move, wake, meet, meeting, wakeAll, queue, heldBy, running, waiting, offer, waitsOn}
 use Rattle.rules.specs.Sound.{inRange}
@@ -30,7 +30,7 @@ use Rattle.calls.specs.declared.SelectMode.the-variants as S
 use Rattle.calls.specs.declared.Call as C
 use Rattle.calls.specs.declared.Call.the-variants.{Create, Delay, Call, Select, End, Finish, Tick, Advance}
 use Rattle.lists.proofs.Tests.{no, between}
-use Rattle.lists.proofs.ListLaws.{by-eq, by-bool, by-test, count-append, count-filter-le}
+use Rattle.lists.proofs.ListLaws.{by-eq, by-bool, by-test, by-member, not-in, count-append, count-filter-le}
 use Rattle.rules.proofs.Invariant.{Sound}
 use Rattle.rules.proofs.Members.{bit-le, of-queue, queued-there, of-held, held-there, last-in, nth-beyond, Runs}
 use Rattle.rules.proofs.MoveLaws.{Alike, alike, alike-trans, place-same, place-other, meet-same, meet-other, part-same, part-other, task-same, task-other, length-move}
@@ -185,7 +185,7 @@ pub queue-once : (s : State) (u t e : ℕ) → Sound s → count u (queue s t e)
 queue-once s u t e h = omega (arith, count-filter-le (waitsOn s t e) u (s .callers), h .callers u, bit-le (isQueued (placeOf s u)))
 
 queue-other : (s : State) (u t e : ℕ) → (entryOf (placeOf s u) ≡ e → ⊥) → count u (queue s t e) ≡ 0
-queue-other s u t e n = by-bool (ltb 0 (count u (queue s t e))) (λ b. absurd (let q = of-queue s u t e (ltb-true 0 _ b) in n (ap entryOf (q .1) ∙ q .3))) (λ b. omega (arith, ltb-false 0 (count u (queue s t e)) b))
+queue-other s u t e n = not-in u (queue s t e) (λ k. let q = of-queue s u t e k in n (ap entryOf (q .1) ∙ q .3))
 
 past : (s : State) (u t k e : ℕ) → entryOf (placeOf s u) < e → count u (queuedFrom s t k e) ≡ 0
 past s u t zero e h = refl
@@ -200,7 +200,7 @@ queued-once s u t (suc k) e h =
 
 finish-fate : (s : State) (u t : ℕ) → Sound s → Runs s t → FateOf s Finish u (finish s t)
 unfolding queuedOn
-finish-fate s u t h r = by-test (FateOf s Finish u) (ltb 0 (length (heldBy s t))) (λ _. tt) (λ _. by-bool (ltb 0 (count u l)) woken other)
+finish-fate s u t h r = by-test (FateOf s Finish u) (ltb 0 (length (heldBy s t))) (λ _. tt) (λ _. by-member u l woken other)
   where
     l : List ℕ
     l = queuedFrom s t 8 1
@@ -208,18 +208,16 @@ finish-fate s u t h r = by-test (FateOf s Finish u) (ltb 0 (length (heldBy s t))
     apart : (v : ℕ) → 0 < count v l → v ≡ t → ⊥
     apart v k z = let q = of-queuedFrom s v t 8 1 k .1 in let p = r .place in no (cc)
 
-    woken : ltb 0 (count u l) ≡ true → Fate s Finish u (move (wakeAll s l) t Completed Off) (item t DONE 0 0) (map (failed s) l)
-    woken b =
-        let k = ltb-true 0 (count u l) b in
+    woken : 0 < count u l → Fate s Finish u (move (wakeAll s l) t Completed Off) (item t DONE 0 0) (map (failed s) l)
+    woken k =
         let q = of-queuedFrom s u t 8 1 k in
         let i = queued-there s u (q .0) (q .1) in
         given-up refl (q .0) (q .1) (sym (q .2))
         (place-other (wakeAll s l) t Completed Off u (apart u k) ∙ wakeAll-in l s u (i .0) (i .1) k .0)
         (reasons-one (failed s) (λ x. refl) u l (omega (arith, k, queued-once s u t 8 1 h))) refl
 
-    other : ltb 0 (count u l) ≡ false → Fate s Finish u (move (wakeAll s l) t Completed Off) (item t DONE 0 0) (map (failed s) l)
-    other b =
-        let k : count u l ≡ 0 = omega (arith, ltb-false 0 (count u l) b) in
+    other : count u l ≡ 0 → Fate s Finish u (move (wakeAll s l) t Completed Off) (item t DONE 0 0) (map (failed s) l)
+    other k =
         by-eq u t
         (λ z. awake (rw (z, r .place)) (rw (z, place-same (wakeAll s l) t Completed Off (r .low) (omega (arith, r .high, wakeAll-length l s)))) (reasons-none (failed s) (λ x. refl) u l k) refl)
         (λ n. untouched (alike (task-other (wakeAll s l) t Completed Off u n ∙ wakeAll-out l s u k)) (reasons-none (failed s) (λ x. refl) u l k) refl)

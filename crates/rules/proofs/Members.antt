@@ -22,11 +22,7 @@ use Rattle.rules.proofs.Invariant.{Calls, Sound}
 -- ── members of a filtered list, the first and the last ──
 
 pub in-filter : (f : ℕ → Bool) (u : ℕ) (l : List ℕ) → 0 < count u (filter f l) → (f u ≡ true) × (0 < count u l)
-in-filter f u l h = go (f u) refl
-  where
-    go : (b : Bool) → f u ≡ b → (f u ≡ true) × (0 < count u l)
-    go true e = (e, omega (arith, count-filter-yes f u l e))
-    go false e = absurd (omega (arith, count-filter-no f u l e))
+in-filter f u l h = by-bool (f u) (λ e. (e, omega (arith, count-filter-yes f u l e))) (λ e. absurd (omega (arith, count-filter-no f u l e)))
 
 pub last-in : (t : ℕ) (l : List ℕ) → last l ≡ suc t → 0 < count (suc t) l
 last-in t [] e = absurd (omega arith)

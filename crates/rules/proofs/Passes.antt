@@ -2,11 +2,10 @@
 -- Assumes nothing.
 use Prim.Native.Nat.{ℕ, zero, suc, _+_, _≤_, _<_}
 use mathlib.Core.Path.{_≡_, refl, sym, _∙_, ap}
-use mathlib.Core.Bool.{true, false}
 use mathlib.Core.List.{List, [], _∷_, _++_, map}
 use native.Mathlib.Omega.{arith}
-use lib.Dec.{eqb, ltb}
-use borrow.Author.Tests.{eqb-false, eq-eqb, ne-eqb, ltb-true, ltb-false}
+use lib.Dec.{eqb}
+use borrow.Author.Tests.{eqb-false, eq-eqb, ne-eqb}
 use Rattle.lists.specs.Lists.{count}
 use Rattle.rules.specs.State.{State, taskOf, placeOf, timerOf, hasTime, left, after}
 use Rattle.rules.specs.Step.{dueAt, isDue, expired, expiry, tickTo, endsAt, advanced, advanceEnds}
@@ -16,7 +15,7 @@ use Rattle.rules.specs.declared.Task.{Task}
 use Rattle.rules.specs.declared.Timer.the-variants.{Off, Due}
 use Rattle.rules.specs.declared.Place.the-variants.{Ready}
 use Rattle.lists.proofs.Tests.{no}
-use Rattle.lists.proofs.ListLaws.{by-eq, by-bool, count-filter-yes, count-filter-le}
+use Rattle.lists.proofs.ListLaws.{by-eq, by-bool, by-member, count-filter-yes, count-filter-le}
 use Rattle.rules.proofs.Invariant.{InTime, Sound}
 use Rattle.rules.proofs.Members.{bit-le, in-filter, timed-there}
 use Rattle.rules.proofs.StepSound.{tick-kept, due-is, wakeAll-in, wakeAll-out}
@@ -65,7 +64,7 @@ pub data Passes (s : State) (n u : ℕ) (s′ : State) (l : List Item) : Type 0 
   comes : (d : ℕ) → timerOf s u ≡ Due d → left (s .clock) d ≤ n → placeOf s′ u ≡ Ready → timerOf s′ u ≡ Off → reasons u l ≡ expiry (placeOf s u) ∷ [] → Passes s n u s′ l
 
 pub tick-passes : (s : State) (u : ℕ) → Sound s → Passes s 1 u (tickTo s (after (s .clock) 1)) (endsAt s (after (s .clock) 1))
-tick-passes s u h = by-bool (ltb 0 (count u l)) woken other
+tick-passes s u h = by-member u l woken other
   where
     n : ℕ
     n = after (s .clock) 1
@@ -73,9 +72,8 @@ tick-passes s u h = by-bool (ltb 0 (count u l)) woken other
     l : List ℕ
     l = dueAt s n
 
-    woken : ltb 0 (count u l) ≡ true → Passes s 1 u (tickTo s n) (endsAt s n)
-    woken b =
-        let k = ltb-true 0 (count u l) b in
+    woken : 0 < count u l → Passes s 1 u (tickTo s n) (endsAt s n)
+    woken k =
         let d = due-is n (timerOf s u) (in-filter (λ t. isDue n (timerOf s t)) u (s .delays) k .0) in
         let i = timed-there s u (rw d) in
         let w = wakeAll-in l s u (i .0) (i .1) k in
@@ -88,8 +86,8 @@ tick-passes s u h = by-bool (ltb 0 (count u l)) woken other
         (λ e. absurd (omega (arith, z, count-filter-yes (λ t. isDue n (timerOf s t)) u (s .delays) e, rw q at (h .delays u))))
         (λ e. let i = in-time s u d h q in let m : d ≡ n → ⊥ = eqb-false d n (rw q at e) in omega (arith, h .clock, i .0, i .2, m))
 
-    other : ltb 0 (count u l) ≡ false → Passes s 1 u (tickTo s n) (endsAt s n)
-    other b = let k : count u l ≡ 0 = omega (arith, ltb-false 0 (count u l) b) in stays (wakeAll-out l s u k) (further k) (reasons-none (expired s) (λ x. refl) u l k)
+    other : count u l ≡ 0 → Passes s 1 u (tickTo s n) (endsAt s n)
+    other k = stays (wakeAll-out l s u k) (further k) (reasons-none (expired s) (λ x. refl) u l k)
 
 -- ── ADVANCE ──
 

@@ -7,7 +7,7 @@ use mathlib.Core.List.{List, [], _∷_, _++_}
 use native.Mathlib.Omega.{arith}
 use lib.Dec.{eqb, ltb, leb}
 use lib.ListN.{getD}
-use borrow.Author.Tests.{eqb-true, eq-eqb, ne-eqb, ltb-true, ltb-false, leb-true, leb-false, lt-ltb, le-leb, not-true}
+use borrow.Author.Tests.{eqb-true, eq-eqb, ne-eqb, ltb-true, leb-true, leb-false, lt-ltb, le-leb, not-true}
 use Rattle.lists.specs.Lists.{bit, count, every, inOrder, downFrom}
 use Rattle.rules.specs.State.{State, blank, taskOf, placeOf, timerOf, created, isTask, isReady, isQueued, isHeld, isCompleted, partnerOf, hasTime, ticksLeft}
 use Rattle.rules.specs.Sound.{calls, fits, timeInRange, goodTask, standsRight, sound}
@@ -17,7 +17,7 @@ use Rattle.rules.specs.declared.Timer.the-variants.{Off, Due}
 use Rattle.rules.specs.declared.Place.{Place}
 use Rattle.rules.specs.declared.Place.the-variants.{Blank, Ready, Delayed, Queued, Held, Accepting, Completed}
 use Rattle.lists.proofs.Tests.{each, between, differ, and-first, and-second, and-both}
-use Rattle.lists.proofs.ListLaws.{clash, by-eq, by-bool, every-at, every-of, count-append, in-order, ordered-of, down-at}
+use Rattle.lists.proofs.ListLaws.{clash, by-eq, by-bool, by-member, not-in, every-at, every-of, count-append, in-order, ordered-of, down-at}
 use Rattle.rules.proofs.Invariant.{Calls, Fits, InTime, Good, Sound}
 use Rattle.rules.proofs.Members.{nth-beyond}
 
@@ -60,6 +60,10 @@ line-test s q l b h (suc u) k =
     and-both (lt-ltb 0 (suc u) (omega arith))
     (by-bool (leb (suc u) (created s)) (λ e. e) (λ e. absurd (omega (arith, k, rw (nth-beyond (s .tasks) (suc u) (leb-false (suc u) (created s) e), b) at (h (suc u))))))
 
+-- how often a number stands in the lines together
+sum : (s : State) (u : ℕ) → count u (s .ready ++ s .callers ++ s .held ++ s .delays) ≡ count u (s .ready) + count u (s .callers) + count u (s .held) + count u (s .delays)
+sum s u = omega (arith, count-append u (s .ready ++ s .callers ++ s .held) (s .delays), count-append u (s .ready ++ s .callers) (s .held), count-append u (s .ready) (s .callers))
+
 pub sound-test : (s : State) → Sound s → sound s ≡ true
 unfolding sound
 sound-test s h =
@@ -82,20 +86,10 @@ sound-test s h =
 
     there : (u : ℕ) → 0 < count u lines → isTask s u ≡ true
     there u k =
-        by-bool (ltb 0 (count u (s .ready))) (λ e. line-test s (λ x. isReady (x .place)) (s .ready) refl (h .ready) u (ltb-true 0 _ e)) λ e1.
-        by-bool (ltb 0 (count u (s .callers))) (λ e. line-test s (λ x. isQueued (x .place)) (s .callers) refl (h .callers) u (ltb-true 0 _ e)) λ e2.
-        by-bool (ltb 0 (count u (s .held))) (λ e. line-test s (λ x. isHeld (x .place)) (s .held) refl (h .held) u (ltb-true 0 _ e)) λ e3.
-        line-test s (λ x. hasTime (x .timer)) (s .delays) refl (h .delays) u
-        (omega (
-          arith,
-          k,
-          count-append u (s .ready ++ s .callers ++ s .held) (s .delays),
-          count-append u (s .ready ++ s .callers) (s .held),
-          count-append u (s .ready) (s .callers),
-          ltb-false 0 (count u (s .ready)) e1,
-          ltb-false 0 (count u (s .callers)) e2,
-          ltb-false 0 (count u (s .held)) e3,
-        ))
+        by-member u (s .ready) (line-test s (λ x. isReady (x .place)) (s .ready) refl (h .ready) u) λ a.
+        by-member u (s .callers) (line-test s (λ x. isQueued (x .place)) (s .callers) refl (h .callers) u) λ b.
+        by-member u (s .held) (line-test s (λ x. isHeld (x .place)) (s .held) refl (h .held) u) λ c.
+        line-test s (λ x. hasTime (x .timer)) (s .delays) refl (h .delays) u (omega (arith, k, a, b, c, sum s u))
 
 -- ── from the test to the propositions ──
 
@@ -140,10 +134,10 @@ sound-props s hc e = record {
   clock = hc;
   few = leb-true (created s) 31 (parts 0);
   good = λ u p q. good-of (s .clock) (taskOf s u) (taskOf s (partnerOf (placeOf s u))) (stands u p q 0);
-  ready = λ u. lined (s .ready) (λ x. isReady (x .place)) u refl (λ p q. eqb-true _ _ (stands u p q 1)) (λ k. omega (arith, k, sum u));
-  callers = λ u. lined (s .callers) (λ x. isQueued (x .place)) u refl (λ p q. eqb-true _ _ (stands u p q 2)) (λ k. omega (arith, k, sum u));
-  held = λ u. lined (s .held) (λ x. isHeld (x .place)) u refl (λ p q. eqb-true _ _ (stands u p q 3)) (λ k. omega (arith, k, sum u));
-  delays = λ u. lined (s .delays) (λ x. hasTime (x .timer)) u refl (λ p q. eqb-true _ _ (stands u p q 4)) (λ k. omega (arith, k, sum u));
+  ready = λ u. lined (s .ready) (λ x. isReady (x .place)) u refl (λ p q. eqb-true _ _ (stands u p q 1)) (λ k. omega (arith, k, sum s u));
+  callers = λ u. lined (s .callers) (λ x. isQueued (x .place)) u refl (λ p q. eqb-true _ _ (stands u p q 2)) (λ k. omega (arith, k, sum s u));
+  held = λ u. lined (s .held) (λ x. isHeld (x .place)) u refl (λ p q. eqb-true _ _ (stands u p q 3)) (λ k. omega (arith, k, sum s u));
+  delays = λ u. lined (s .delays) (λ x. hasTime (x .timer)) u refl (λ p q. eqb-true _ _ (stands u p q 4)) (λ k. omega (arith, k, sum s u));
   order = ordered-of (λ u. ticksLeft (s .clock) (timerOf s u)) (s .delays) (parts 3);
 }
   where
@@ -157,9 +151,6 @@ sound-props s hc e = record {
 
     parts : (i : ℕ) → getD (leb (created s) 31 ∷ rest) i true ≡ true
     parts = each (leb (created s) 31) rest e
-
-    sum : (u : ℕ) → count u lines ≡ count u (s .ready) + count u (s .callers) + count u (s .held) + count u (s .delays)
-    sum u = omega (arith, count-append u (s .ready ++ s .callers ++ s .held) (s .delays), count-append u (s .ready ++ s .callers) (s .held), count-append u (s .ready) (s .callers))
 
     good : ℕ → Bool
     good u = goodTask (s .clock) (taskOf s u) (taskOf s (partnerOf (placeOf s u)))
@@ -178,6 +169,4 @@ sound-props s hc e = record {
         by-bool (isTask s u)
         (λ t. let i = between u (created s) t in f (i .0) (i .1))
         (λ t. rw (not-task s u t, z)
-        (by-bool (ltb 0 (count u l))
-        (λ k. clash (every-at (isTask s) lines (parts 2) u (m (ltb-true 0 (count u l) k))) t)
-        (λ k. omega (arith, ltb-false 0 (count u l) k))))
+        (not-in u l (λ k. clash (every-at (isTask s) lines (parts 2) u (m k)) t)))

@@ -27,7 +27,7 @@ use Rattle.calls.specs.declared.SelectMode.the-variants.{Plain, Else}
 use Rattle.calls.specs.declared.SelectMode.the-variants as S
 use Rattle.calls.specs.declared.Call as C
 use Rattle.calls.specs.declared.Call.the-variants.{Create, Delay, Call, Select, End, Finish, Tick, Advance}
-use Rattle.lists.proofs.ListLaws.{by-eq, by-test, count-append, count-filter-yes, ordered-cong}
+use Rattle.lists.proofs.ListLaws.{by-eq, by-bool, by-test, by-member, count-append, count-filter-yes, ordered-cong}
 use Rattle.lists.proofs.Tests.{no, each, between, and-second, and-fails}
 use Rattle.rules.proofs.Invariant.{Calls, InTime, Sound}
 use Rattle.rules.proofs.Members.{WaitsOn, in-filter, first-member, some-length, in-queue, of-queue, queued-good, queued-there, of-held, in-held, held-there, last-in, timed-there, bit-true, Runs, runs}
@@ -168,18 +168,11 @@ wakeAll-out (x ∷ xs) s u h =
 
 pub wakeAll-in : (l : List ℕ) (s : State) (u : ℕ) → 0 < u → u ≤ length (s .tasks) → 0 < count u l → (placeOf (wakeAll s l) u ≡ Ready) × (timerOf (wakeAll s l) u ≡ Off)
 wakeAll-in [] s u p q h = absurd (omega arith)
-wakeAll-in (x ∷ xs) s u p q h = go (ltb 0 (count u xs)) refl (wakeAll-in xs (wake s x) u p (omega (arith, length-move s x Ready Off)))
-  where
-    go : (b : Bool) → ltb 0 (count u xs) ≡ b → (0 < count u xs → (placeOf (wakeAll (wake s x) xs) u ≡ Ready) × (timerOf (wakeAll (wake s x) xs) u ≡ Off))
-        → (placeOf (wakeAll (wake s x) xs) u ≡ Ready) × (timerOf (wakeAll (wake s x) xs) u ≡ Off)
-    go true e ih = ih (ltb-true 0 (count u xs) e)
-    go false e ih =
-        by-eq x u
-        (λ z.
-        let e2 : taskOf (wake s x) u ≡ moved s u Ready Off = rw z (task-same s u Ready Off p q) in
-        let e3 = wakeAll-out xs (wake s x) u (omega (arith, ltb-false 0 (count u xs) e)) ∙ e2 in
-        (ap (λ (y : Task). y .place) e3, ap (λ (y : Task). y .timer) e3))
-        (λ n. absurd (omega (arith, ltb-false 0 (count u xs) e, rw (ne-eqb x u n) at h)))
+wakeAll-in (x ∷ xs) s u p q h =
+    by-member u xs (wakeAll-in xs (wake s x) u p (omega (arith, length-move s x Ready Off)))
+    (λ z. by-eq x u
+    (λ e. let y : taskOf (wakeAll (wake s x) xs) u ≡ moved s u Ready Off = wakeAll-out xs (wake s x) u z ∙ rw e (task-same s u Ready Off p q) in (ap (λ (y : Task). y .place) y, ap (λ (y : Task). y .timer) y))
+    (λ n. absurd (omega (arith, z, rw (ne-eqb x u n) at h))))
 
 pub wakeAll-sound : (l : List ℕ) (s : State) → Sound s → ((u : ℕ) → 0 < count u l → (0 < u) × (u ≤ length (s .tasks))) → Sound (wakeAll s l)
 wakeAll-sound [] s h k = h
@@ -202,11 +195,9 @@ Calling p t = (q : Waiting) × (p ≡ Queued q) × (q .target ≡ t)
 
 pub of-queuedFrom : (s : State) (u t k e : ℕ) → 0 < count u (queuedFrom s t k e) → Calling (placeOf s u) t
 of-queuedFrom s u t zero e h = absurd (omega arith)
-of-queuedFrom s u t (suc k) e h = go (ltb 0 (count u (queue s t e))) refl (of-queuedFrom s u t k (suc e))
-  where
-    go : (b : Bool) → ltb 0 (count u (queue s t e)) ≡ b → (0 < count u (queuedFrom s t k (suc e)) → Calling (placeOf s u) t) → Calling (placeOf s u) t
-    go true b f = let q = of-queue s u t e (ltb-true 0 _ b) in (q .0, q .1, q .2)
-    go false b f = f (omega (arith, count-append u (queue s t e) (queuedFrom s t k (suc e)), ltb-false 0 (count u (queue s t e)) b))
+of-queuedFrom s u t (suc k) e h =
+    by-member u (queue s t e) (λ i. let q = of-queue s u t e i in (q .0, q .1, q .2))
+    (λ z. of-queuedFrom s u t k (suc e) (omega (arith, z, count-append u (queue s t e) (queuedFrom s t k (suc e)))))
 
 pub finish-kept : (s : State) (t : ℕ) → Sound s → Runs s t → Kept (finish s t)
 unfolding queuedOn
@@ -220,11 +211,7 @@ finish-kept s t h r = by-test Kept (ltb 0 (length (heldBy s t))) (λ _. tt) (λ 
 
     -- who is not ready afterwards was not woken
     stays : (u : ℕ) → (placeOf (wakeAll s l) u ≡ Ready → ⊥) → placeOf (wakeAll s l) u ≡ placeOf s u
-    stays u n = go (ltb 0 (count u l)) refl
-      where
-        go : (b : Bool) → ltb 0 (count u l) ≡ b → placeOf (wakeAll s l) u ≡ placeOf s u
-        go true b = let i = in-l u (ltb-true 0 _ b) in absurd (n (wakeAll-in l s u (i .0) (i .1) (ltb-true 0 _ b) .0))
-        go false b = ap (λ (x : Task). x .place) (wakeAll-out l s u (omega (arith, ltb-false 0 (count u l) b)))
+    stays u n = by-member u l (λ k. let i = in-l u k in absurd (n (wakeAll-in l s u (i .0) (i .1) k .0))) (λ z. ap (λ (x : Task). x .place) (wakeAll-out l s u z))
 
     nobody : (u : ℕ) (a : Waiting) → placeOf (wakeAll s l) u ≡ Queued a → a .target ≡ t → ⊥
     nobody u a q g =
@@ -300,15 +287,14 @@ tick-kept s h =
     in-l u k = timed-there s u (rw (timed u k))
 
     not-due : (u : ℕ) → isDue (after (wakeAll s l .clock) 1) (timerOf (wakeAll s l) u) ≡ false
-    not-due u = rw (wakeAll-clock l s) (go (ltb 0 (count u l)) refl)
-      where
-        go : (b : Bool) → ltb 0 (count u l) ≡ b → isDue n (timerOf (wakeAll s l) u) ≡ false
-        go true b = let k = ltb-true 0 (count u l) b in rw (wakeAll-in l s u (in-l u k .0) (in-l u k .1) k .1)
-        go false b = rw (ap (λ (x : Task). x .timer) (wakeAll-out l s u (omega (arith, ltb-false 0 (count u l) b)))) (other (isDue n (timerOf s u)) refl (omega (arith, ltb-false 0 (count u l) b)))
-          where
-            other : (c : Bool) → isDue n (timerOf s u) ≡ c → count u l ≡ 0 → isDue n (timerOf s u) ≡ false
-            other false e z = e
-            other true e z = absurd (omega (arith, z, count-filter-yes (λ t. isDue n (timerOf s t)) u (s .delays) e, rw (due-is n (timerOf s u) e) at (h .delays u)))
+    not-due u =
+        rw (wakeAll-clock l s)
+        (by-member u l
+        (λ k. rw (wakeAll-in l s u (in-l u k .0) (in-l u k .1) k .1))
+        (λ z. rw (ap (λ (x : Task). x .timer) (wakeAll-out l s u z))
+        (by-bool (isDue n (timerOf s u))
+        (λ e. absurd (omega (arith, z, count-filter-yes (λ t. isDue n (timerOf s t)) u (s .delays) e, rw (due-is n (timerOf s u) e) at (h .delays u))))
+        (λ e. e))))
 
 -- ── ADVANCE ──
 

@@ -20,8 +20,7 @@ use Rattle.rules.specs.declared.Supervisor.{Supervisor}
 use Rattle.calls.specs.declared.Call as C
 use Rattle.rules.specs.declared.Task.{Task}
 use Rattle.lists.proofs.Tests.{each}
-use Rattle.lists.proofs.ListLaws.{by-bool, every-alike}
-pub use Rattle.lists.proofs.ListLaws.{at-most}
+use Rattle.lists.proofs.ListLaws.{by-bool, every-alike, at-most}
 use Rattle.rules.proofs.Invariant.{Sound}
 use Rattle.rules.proofs.Members.{bit-le, nth-beyond}
 use Rattle.rules.specs.declared.Place.{Place}

@@ -7,9 +7,9 @@ use mathlib.Core.List.{List, [], _∷_}
 use native.Mathlib.Omega.{arith}
 use lib.Dec.{eqb, ltb, leb}
 use lib.ListN.{length}
-use borrow.Author.Tests.{ne-eqb, ltb-true, ltb-false}
+use borrow.Author.Tests.{ne-eqb}
 use Rattle.lists.specs.Lists.{if_then_else_, count, last}
-use Rattle.lists.proofs.ListLaws.{by-bool}
+use Rattle.lists.proofs.ListLaws.{by-bool, not-in}
 use Rattle.rules.specs.State.{State, created, taskOf, placeOf, isTask, isCompleted, accepts, heldBy, running}
 use Rattle.rules.specs.Sound.{inRange}
 use Rattle.rules.specs.Step.{Outcome, refused, took, number, ticks, create, delayFor, timedCall, callBusy, call, selectAt, selectNone, selectDelay, select, openEntry, endLast, end, finish, ofRunning, takeCall}
@@ -41,10 +41,7 @@ last-some (x ∷ y ∷ ys) h =
 
 -- nobody whom a task holds has the number 0
 held-named : (v : State) (t : ℕ) → count 0 (heldBy v t) ≡ 0
-held-named v t =
-    by-bool (ltb 0 (count 0 (heldBy v t)))
-    (λ b. let q = of-held v 0 t (ltb-true 0 (count 0 (heldBy v t)) b) in absurd (omega (arith, held-there v 0 (q .0) (q .1) .0)))
-    (λ b. omega (arith, ltb-false 0 (count 0 (heldBy v t)) b))
+held-named v t = not-in 0 (heldBy v t) (λ k. let q = of-held v 0 t k in omega (arith, held-there v 0 (q .0) (q .1) .0))
 
 -- a call of the running task t, where there is one
 runner : (t : ℕ) (f : ℕ → Outcome) (x : ℕ) → ((t ≡ 0 → ⊥) → refusalOf (f t) ≡ x) → refusalOf (ofRunning t f) ≡ (if eqb t 0 then 4 else x)

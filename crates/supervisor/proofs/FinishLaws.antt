@@ -27,9 +27,9 @@ use Rattle.calls.specs.declared.Call.the-variants.{Finish}
 use Rattle.rules.proofs.Invariant.{Sound}
 use Rattle.rules.proofs.Members.{queued-there, nth-beyond}
 use Rattle.lists.proofs.Tests.{no, byte-bit}
-use Rattle.lists.proofs.ListLaws.{by-bool, by-test}
+use Rattle.lists.proofs.ListLaws.{by-bool, by-test, not-in, at-most}
 use Rattle.rules.proofs.StepSound.{of-queuedFrom, wakeAll-sound, wakeAll-length}
-use Rattle.rules.proofs.WholeLaws.{at-most, no-zero}
+use Rattle.rules.proofs.WholeLaws.{no-zero}
 use Rattle.table.specs.Moved.{movedOf}
 use Rattle.supervisor.specs.Lowest.{openCall, callOf}
 use Rattle.supervisor.specs.Taken.{Stands, takenAs, takenOf, endedBy, completing, AllThere, EachOnce, WokenAs}
@@ -160,7 +160,7 @@ module _ (v : State) (t : ℕ) where
   queued-line l h e = ap line e ∙ line-pad (queuedOn v t) (no-zero (queuedOn v t) nobody) (omega (arith, h .few, at-most (length (v .tasks)) (queuedOn v t) (λ u. queued-single u h) queued-all))
     where
       nobody : count 0 (queuedOn v t) ≡ 0
-      nobody = by-bool (ltb 0 (count 0 (queuedOn v t))) (λ b. absurd (omega (arith, queued-all 0 (ltb-true 0 (count 0 (queuedOn v t)) b) .0))) (λ b. omega (arith, ltb-false 0 (count 0 (queuedOn v t)) b))
+      nobody = not-in 0 (queuedOn v t) (λ k. omega (arith, queued-all 0 k .0))
 
   pub finish-holds : (n : ℕ) → n ≡ length (heldBy v t) → 0 < n → finish v t ≡ refused STILL-SERVING
   finish-holds n e k = rw (lt-ltb 0 (length (heldBy v t)) (omega arith))
