@@ -12,5 +12,5 @@ writtenOf bytes room =
     if ltb (length room) (length bytes) then record { refusal = 1; count = 0 } else record { refusal = 0; count = length bytes }
 
 -- a refused write leaves its room untouched; an accepted one changes only the record's bytes
-abbrev pub roomAfter : List ℕ → List ℕ → List ℕ
-roomAfter bytes room = if ltb (length room) (length bytes) then room else bytes ++ drop (length bytes) room
+abbrev pub roomWritten : List ℕ → List ℕ → List ℕ
+roomWritten bytes room = if ltb (length room) (length bytes) then room else bytes ++ drop (length bytes) room

@@ -3,7 +3,7 @@ ghost use mathlib.Core.Path.{_≡_};
 ghost use mathlib.Core.List.{[], _∷_};
 ghost use Rattle.calls.specs.Duration.{bytesOf};
 ghost use Rattle.calls.specs.Record.{encode};
-ghost use Rattle.calls.specs.Writing.{writtenOf, roomAfter};
+ghost use Rattle.calls.specs.Writing.{writtenOf, roomWritten};
 ghost use Rattle.calls.specs.Parts.{packet};
 use super::Call;
 use super::Written;
@@ -16,7 +16,7 @@ use super::numbers::SHORT_ROOM;
 // Puts bytes at the start of room, or nothing where room is too short.
 fn put(bytes: &[u8], room: &mut [u8]) -> Written
     ensures { λ r. ⌜ r ≡ writtenOf (now (bytes .entry)) (now (room .entry)) ⌝ }
-    ensures { λ r. ⌜ now (room .exit) ≡ roomAfter (now (bytes .entry)) (now (room .entry)) ⌝ }
+    ensures { λ r. ⌜ now (room .exit) ≡ roomWritten (now (bytes .entry)) (now (room .entry)) ⌝ }
 {
     if room.len() < bytes.len() {
         return Written {
@@ -112,7 +112,7 @@ fn record_of(c: Call) -> Packet
 // Writes the record of c at the start of room.
 pub fn write_record(c: Call, room: &mut [u8]) -> Written
     ensures { λ r. ⌜ r ≡ writtenOf (encode c) (now (room .entry)) ⌝ }
-    ensures { λ r. ⌜ now (room .exit) ≡ roomAfter (encode c) (now (room .entry)) ⌝ }
+    ensures { λ r. ⌜ now (room .exit) ≡ roomWritten (encode c) (now (room .entry)) ⌝ }
 {
     let p = record_of(c);
     let bytes = p.bytes;

@@ -14,7 +14,7 @@ use Rattle.cases.specs.Cases.{stepOf, lastOf, sleepers}
 -- both waits end, at two readings
 pub large-readings : readings 4294967295 (view (lastOf stepOf (pack (empty 4294967290)) sleepers .state)) ≡ 2
 unfolding sleepers sound stepWhole running openEntry queuedOn pad padTo
-large-readings = advances .at-once (view (lastOf stepOf (pack (empty 4294967290)) sleepers .state)) 4294967295 (omega arith) refl .count
+large-readings = advances .at-once (view (lastOf stepOf (pack (empty 4294967290)) sleepers .state)) 4294967295 (omega arith) refl .readings
 
 -- the shorter one first
 pub large-ends : advanceEnds 4294967295 (view (lastOf stepOf (pack (empty 4294967290)) sleepers .state)) ≡ item 2 1 0 0 ∷ item 1 1 0 0 ∷ []

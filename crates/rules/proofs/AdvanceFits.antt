@@ -39,7 +39,7 @@ fits s n h = record {
     at-most (length (s .tasks)) (map taskIn l) (λ u. omega (arith, count-tasks u l, go u (advance-passes n s u h) .0))
         (λ u k. go u (advance-passes n s u h) .1 (omega (arith, k, count-tasks u l))),
   );
-  count = readings-few n s;
+  readings = readings-few n s;
 }
   where
     l : List Item

@@ -45,16 +45,16 @@ cut : (s : Supervisor) → Typed s → (a b room : ℕ)
     → Cut (stepWhole s (Advance a) room) (stepWhole (stepWhole s (Advance a) room .state) (Advance b) room) (stepWhole s (Advance (a + b)) room)
 cut s t a b room =
     by-struct (λ (x : Supervisor). Cut (stepWhole x (Advance a) room) (stepWhole (stepWhole x (Advance a) room .state) (Advance b) room) (stepWhole x (Advance (a + b)) room)) s room t
-    (λ f q. from s a b room (q (Advance a)) (q (Advance b)) (q (Advance (a + b))) (record { state = refl; ends = refl; count = refl; refusals = (refl, refl); next = refl }))
+    (λ f q. from s a b room (q (Advance a)) (q (Advance b)) (q (Advance (a + b))) (record { state = refl; ends = refl; readings = refl; refusals = (refl, refl); next = refl }))
     (λ v h e.
     from (pack v) a b room (step-taken v (Advance a) room h e) (step-taken (advanced a v) (Advance b) room (advance-kept a v h) e) (step-taken v (Advance (a + b)) room h e)
-    (record { state = ap pack (cut-state a b v); ends = cut-ends a b v; count = cut-readings a b v; refusals = (refl, refl); next = ap running (cut-state a b v) }))
+    (record { state = ap pack (cut-state a b v); ends = cut-ends a b v; readings = cut-readings a b v; refusals = (refl, refl); next = ap running (cut-state a b v) }))
 
 nothing : (s : Supervisor) → Typed s → (room : ℕ) → Nothing s (stepWhole s (Advance 0) room)
 nothing s t room =
     by-struct (λ (x : Supervisor). Nothing x (stepWhole x (Advance 0) room)) s room t
-    (λ f q. subst (Nothing s) (sym (q (Advance 0))) (record { state = refl; ends = refl; count = refl }))
-    (λ v h e. subst (Nothing (pack v)) (sym (step-taken v (Advance 0) room h e)) (record { state = refl; ends = refl; count = refl }))
+    (λ f q. subst (Nothing s) (sym (q (Advance 0))) (record { state = refl; ends = refl; readings = refl }))
+    (λ v h e. subst (Nothing (pack v)) (sym (step-taken v (Advance 0) room h e)) (record { state = refl; ends = refl; readings = refl }))
 
 pub advances : Advances
 advances = record {

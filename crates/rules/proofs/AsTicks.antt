@@ -120,7 +120,7 @@ pub as-ticks : (s : Supervisor) → Typed s → (n room : ℕ) → AsTicks s n r
 as-ticks s t n room =
     by-struct (λ (x : Supervisor). AsTicks x n room) s room t
     (λ f q. let g = gives-none n s room f (q Tick) in from s n room 0 (decline s f 0) (q (Advance n)) g (λ _. none-twice (moments (logWhole s (tickAsks n room))) (g .readings)) (omega arith))
-    (λ v h e. from (pack v) n room n (wholeOf (stepped v (advance v n))) (step-taken v (Advance n) room h e) (gives-all n v room e h) (λ i r. apart n v room e h i r .0) (let k = fits v n h in omega (arith, k .items, k .count)))
+    (λ v h e. from (pack v) n room n (wholeOf (stepped v (advance v n))) (step-taken v (Advance n) room h e) (gives-all n v room e h) (λ i r. apart n v room e h i r .0) (let k = fits v n h in omega (arith, k .items, k .readings)))
 
 -- ── a run ──
 

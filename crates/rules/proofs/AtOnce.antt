@@ -246,7 +246,7 @@ at-once zero s h =
     record {
       state = ap (setClock s) e ∙ ap (λ (l : List ℕ). setClock (wakeAll s l) (after (s .clock) 0)) (sym none);
       ends = ap (map (expired s)) (sym none);
-      count = ap (changes (λ t. ticksLeft (s .clock) (timerOf s t)) 0) (sym none);
+      readings = ap (changes (λ t. ticksLeft (s .clock) (timerOf s t)) 0) (sym none);
     }
 at-once (suc n) s h =
     let now = after (s .clock) 1 in
@@ -259,5 +259,5 @@ at-once (suc n) s h =
       state = ih .state ∙ ap (λ (x : State). setClock x (after now n)) (wakeAll-set m (wakeAll s l) now ∙ ap (λ (x : State). setClock x now) (sym (wakeAll-append l m s)))
           ∙ ap (setClock (wakeAll s (l ++ m))) e ∙ ap (λ (k : List ℕ). setClock (wakeAll s k) (after (s .clock) (suc n))) (sym (due-split s n h));
       ends = ap (λ (k : List Item). endsAt s now ++ k) (ih .ends ∙ same-items s n h) ∙ sym (map-append (expired s) l m) ∙ ap (map (expired s)) (sym (due-split s n h));
-      count = ap (λ (k : ℕ). bit (ltb 0 (length (endsAt s now))) + k) (ih .count) ∙ sym (moments-split s n h);
+      readings = ap (λ (k : ℕ). bit (ltb 0 (length (endsAt s now))) + k) (ih .readings) ∙ sym (moments-split s n h);
     }

@@ -81,7 +81,7 @@ pub record AsTicks (s : Supervisor) (n room : ℕ) : Type 0 where
   pub different : n < 4294967296 → (r : ℕ) → count r (moments (logWhole s (tickAsks n room))) ≤ 1
   pub few : stepWhole s (Advance n) room .answer .entry ≤ 31
 
--- the same over a run: nothing but the steps' number tells them apart
+-- the same over a run: one ADVANCE and its TICKs leave the same state, end the same waits and count as many ticks
 pub record Expanded (s : Supervisor) (run : List Ask) : Type 0 where
   pub state : reachWhole s run ≡ reachWhole s (expand run)
   pub ends : joined (logWhole s run) ≡ joined (logWhole s (expand run))
@@ -91,7 +91,7 @@ pub record Expanded (s : Supervisor) (run : List Ask) : Type 0 where
 pub record Cut (x y z : Whole) : Type 0 where
   pub state : z .state ≡ y .state
   pub ends : z .ended ≡ x .ended ++ y .ended
-  pub count : z .answer .entry ≡ x .answer .entry + y .answer .entry
+  pub readings : z .answer .entry ≡ x .answer .entry + y .answer .entry
   pub refusals : (z .refusal ≡ x .refusal) × (z .refusal ≡ y .refusal)
   pub next : z .next ≡ y .next
 
@@ -99,19 +99,19 @@ pub record Cut (x y z : Whole) : Type 0 where
 pub record Nothing (s : Supervisor) (w : Whole) : Type 0 where
   pub state : w .state ≡ s
   pub ends : w .ended ≡ []
-  pub count : w .answer .entry ≡ 0
+  pub readings : w .answer .entry ≡ 0
 
 -- n ticks wake those whose time comes within n ticks and set the clock, and nothing else: for every n, and across the clock's last reading
 pub record AtOnce (s : State) (n : ℕ) : Type 0 where
   pub state : advanced n s ≡ setClock (wakeAll s (dueWithin s n)) (after (s .clock) n)
   pub ends : advanceEnds n s ≡ map (expired s) (dueWithin s n)
-  pub count : readings n s ≡ dueMoments s n
+  pub readings : readings n s ≡ dueMoments s n
 
 -- no wait ends twice: no task in two items, at most 31 items, so 124 bytes suffice, and no more readings than items
 pub record Fits (s : State) (n : ℕ) : Type 0 where
   pub once : (t : ℕ) → length (reasons t (advanceEnds n s)) ≤ 1
   pub items : length (advanceEnds n s) ≤ 31
-  pub count : readings n s ≤ length (advanceEnds n s)
+  pub readings : readings n s ≤ length (advanceEnds n s)
 
 -- of every struct of the type, sound or not, and of any room: where the one step is refused, so are the others
 pub record Advances : Type 0 where

@@ -11,7 +11,7 @@ use lib.Seq.{take-all, take-at}
 use borrow.Author.Tests.{eqb-true, eq-eqb, le-ltb}
 use Rattle.lists.proofs.Tests.{and-first, and-second}
 use Rattle.calls.specs.Record.{encode}
-use Rattle.calls.specs.Writing.{writtenOf, roomAfter}
+use Rattle.calls.specs.Writing.{writtenOf, roomWritten}
 use Rattle.calls.specs.declared.Written.{Written}
 use Rattle.calls.specs.declared.Call as C
 use Rattle.calls.proofs.Packets.{at-most-ten}
@@ -30,7 +30,7 @@ use Rattle.script.proofs.Shape.{text-short}
 
 -- what is taken of ten bytes that a record was written into is the record
 pub record-taken : (c : C.Call) (room after : List ℕ) (w : Written) (n : ℕ) → length room ≡ 10 → w ≡ writtenOf (encode c) room
-    → after ≡ roomAfter (encode c) room → n ≡ min (w .count) 10 → take (n - 0) after ≡ encode c
+    → after ≡ roomWritten (encode c) room → n ≡ min (w .count) 10 → take (n - 0) after ≡ encode c
 record-taken c room after w n h p q m =
     let s = at-most-ten c in
     let f = le-ltb (length room) (length (encode c)) (omega arith) in

@@ -83,7 +83,7 @@ module _ (s : Supervisor) (t : Typed s) where
         state = state-is s u k (called s u e) ∙ z .state;
         ends = ends-are s u k (called s u e) ∙ z .ends;
         room = wrote s u k (called s u e) ∙ ap (roomAfter (u .lent)) (z .ends);
-        readings = readings-are s u k (called s u e) ∙ z .count;
+        readings = readings-are s u k (called s u e) ∙ z .readings;
       }
 
   cut-alike : (a b : ℕ) (u v w : Use) → Keeps s u → Keeps (u .gave .state) v → Keeps s w
@@ -99,7 +99,7 @@ module _ (s : Supervisor) (t : Typed s) where
       record {
         state = state-is s w kw gw ∙ c .state ∙ sym (state-is s1 v k1 gv);
         ends = ends-joined u v w (ends-are s u ku gu) (ends-are s1 v k1 gv) (ends-are s w kw gw ∙ c .ends);
-        readings = readings-added u v w (readings-are s u ku gu) (readings-are s1 v k1 gv) (readings-are s w kw gw ∙ c .count);
+        readings = readings-added u v w (readings-are s u ku gu) (readings-are s1 v k1 gv) (readings-are s w kw gw ∙ c .readings);
         next = next-is s w kw gw ∙ c .next ∙ sym (next-is s1 v k1 gv);
         refusals = (
           refusal-is s w kw gw ∙ c .refusals .0 ∙ sym (refusal-is s u ku gu),

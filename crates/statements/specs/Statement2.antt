@@ -20,7 +20,7 @@ use Rattle.calls.specs.declared.Read.the-variants.{Record}
 use Rattle.calls.specs.Record.{encode}
 use Rattle.calls.specs.Reading.{readOf}
 use Rattle.calls.specs.Range.{InRange, Bytes}
-use Rattle.calls.specs.Writing.{writtenOf, roomAfter}
+use Rattle.calls.specs.Writing.{writtenOf, roomWritten}
 use Rattle.calls.proofs.read_record.Reads as read-record
 use Rattle.calls.proofs.write_record.Reads as write-record
 use Rattle.supervisor.proofs.step.Reads as step
@@ -36,7 +36,7 @@ pub record Statement2 : Type 1 where
   -- the same of the reader, the writer and the questions: whatever their contracts allow is what the definitions say
   pub reads : (κs : _) (x : _) (r : _) (y : _) → read-record.Post κs x r y → r ≡ readOf (now (x .0))
   pub writes : (κs : _) (x : _) (r : _) (y : _) → write-record.Post κs x r y
-      → (r ≡ writtenOf (encode (x .0)) (now (x .1 .0))) × (now (y .1 .0) ≡ roomAfter (encode (x .0)) (now (x .1 .0)))
+      → (r ≡ writtenOf (encode (x .0)) (now (x .1 .0))) × (now (y .1 .0) ≡ roomWritten (encode (x .0)) (now (x .1 .0)))
   pub tells-sound : (κs : _) (x : _) (r : _) (y : _) → sound.Post κs x r y → r ≡ soundWhole (x .0)
   pub tells-running : (κs : _) (x : _) (r : _) (y : _) → running.Post κs x r y → r ≡ runningWhole (x .0)
   pub tells-count : (κs : _) (x : _) (r : _) (y : _) → count.Post κs x r y → r ≡ countWhole (x .0) (x .1 .0) (x .1 .1 .0)

@@ -88,4 +88,4 @@ tick-is v h =
     λ i. took (c .state i) (item 0 DONE 0 0) ((sym (append-nil (endsAt v (after (v .clock) 1))) ∙ c .ends) i)
 
 pub advance-is : (v : State) (n : ℕ) → Sound v → takeCall v (Advance n) ≡ passing v n (dueMoments v n)
-advance-is v n h = let c = advances .at-once v n (h .clock) (sound-test v h) in λ i. took (c .state i) (item 0 DONE (c .count i) 0) (c .ends i)
+advance-is v n h = let c = advances .at-once v n (h .clock) (sound-test v h) in λ i. took (c .state i) (item 0 DONE (c .readings i) 0) (c .ends i)

@@ -3,6 +3,7 @@
 --     never-bad-state  and none of them is refused with BAD_STATE
 --     suffices         32 places for free stretches suffice
 --     refused-same     a refusal changes nothing and answers 0
+--     fresh-refused    that of a fresh area too
 --     no-space-exact   NO_SPACE exactly when no free stretch is long enough
 --     one-stretch      with no block taken, one free stretch is the whole area
 --     all-released     releasing every block leaves that
@@ -21,8 +22,8 @@ use borrow.Author.Tests.{leb-true, leb-false, le-leb, lt-leb, ltb-true, lt-ltb, 
 use Rattle.workspace.specs.declared.Stretch.{Stretch}
 use Rattle.lists.specs.Lists.{if_then_else_, every}
 use Rattle.workspace.specs.Rules.{units, stretch, none, isNone, end, isKept, hasPlaces}
-use Rattle.workspace.specs.Operations.{placed, fits, fitStart, cut, startsAt, lengthAt, without, joined, refused, took, freshOf, requestOf, releaseOf, tableAfter, BAD-STATE, NO-SPACE}
-use Rattle.workspace.specs.Runs.{Area, isSound, Op, ask, give, outcomeOf, after, stepOf, runOf, freshArea, refusalOf, valueOf, givesAll}
+use Rattle.workspace.specs.Operations.{placed, fits, fitStart, cut, startsAt, lengthAt, without, joined, refused, took, freshOf, requestOf, releaseOf, tableAfter, blocksAfter, freeAfter, BAD-STATE, NO-SPACE}
+use Rattle.workspace.specs.Runs.{Area, isSound, Op, request, release, outcomeOf, after, stepOf, runOf, freshArea, refusalOf, valueOf, releasesAll}
 use Rattle.lists.proofs.Tests.{no, and-first, and-second, and-both as both}
 use Rattle.lists.proofs.ListLaws.{by-bool}
 use Rattle.workspace.proofs.Pieces.{Piece, taken, spare, blocksFrom, freeFrom, measure, Good, Sound, suffice, fresh-sound}
@@ -76,9 +77,9 @@ module _ (a : Area) (e : isSound a ≡ true) where
   took-keeps : (v : ℕ) (cl gl : List Stretch) → length cl ≤ 31 → Sound cl gl → isSound (after a (took v cl gl)) ≡ true
   took-keeps v cl gl h s = stands-kept (tableAfter (a .blocks) cl) (tableAfter (a .free) gl) (record { blocks = length cl; free = length gl }) (took-stands (a .blocks) (a .free) cl gl (stands .block-places) (stands .free-places) h s)
 
-  ask-keeps : (n : ℕ) → isSound (stepOf a (ask n)) ≡ true
+  request-keeps : (n : ℕ) → isSound (stepOf a (request n)) ≡ true
   unfolding requestOf
-  ask-keeps n =
+  request-keeps n =
       by-bool (leb 1 n && leb n 65535)
       (λ e₁. by-bool (ltb (a .used .blocks) 31)
       (λ e₂. by-bool (fits n fl)
@@ -94,16 +95,16 @@ module _ (a : Area) (e : isSound a ≡ true) where
   few-left : (s : ℕ) → startsAt s bl ≡ true → length (without s bl) ≤ 30
   few-left s e₁ = let c : length (without s bl) + 1 ≡ length bl = without-length s bl e₁ in let h : length bl ≤ 31 = at-most-31 (a .blocks) (a .free) (a .used) stands in omega (arith, c, h)
 
-  give-keeps : (s : ℕ) → isSound (stepOf a (give s)) ≡ true
+  release-keeps : (s : ℕ) → isSound (stepOf a (release s)) ≡ true
   unfolding releaseOf
-  give-keeps s =
+  release-keeps s =
       by-bool (startsAt s bl)
       (λ e₁. let h : length (without s bl) ≤ 30 = few-left s e₁ in rw (e, e₁) (took-keeps (lengthAt s bl) (without s bl) (joined (stretch s (lengthAt s bl)) fl) (omega (arith, h)) (release-sound s bl fl e₁ (stands .sound))))
       (λ e₁. rw (e, e₁) e)
 
 pub step-keeps : (a : Area) (o : Op) → isSound a ≡ true → isSound (stepOf a o) ≡ true
-step-keeps a (ask n) e = ask-keeps a e n
-step-keeps a (give s) e = give-keeps a e s
+step-keeps a (request n) e = request-keeps a e n
+step-keeps a (release s) e = release-keeps a e s
 
 sound-run : (a : Area) (os : List Op) → isSound a ≡ true → isSound (runOf a os) ≡ true
 sound-run a [] e = e
@@ -111,7 +112,7 @@ sound-run a (o ∷ os) e = sound-run (stepOf a o) os (step-keeps a o e)
 
 sound-good : (a : Area) (o : Op) → isSound a ≡ true → refusalOf (outcomeOf a o) ≡ BAD-STATE → ⊥
 unfolding requestOf releaseOf
-sound-good a (ask n) e r =
+sound-good a (request n) e r =
     by-bool (leb 1 n && leb n 65535)
     (λ e₁. by-bool (ltb (a .used .blocks) 31)
     (λ e₂. by-bool (fits n (take (a .used .free) (a .free)))
@@ -119,7 +120,7 @@ sound-good a (ask n) e r =
     (λ e₃. let k : _≡_ {A = ℕ} 15 2 = rw (e, e₁, e₂, e₃) at r in no (omega (arith, k))))
     (λ e₂. let k : _≡_ {A = ℕ} 14 2 = rw (e, e₁, e₂) at r in no (omega (arith, k))))
     (λ e₁. let k : _≡_ {A = ℕ} 13 2 = rw (e, e₁) at r in no (omega (arith, k)))
-sound-good a (give s) e r =
+sound-good a (release s) e r =
     by-bool (startsAt s (take (a .used .blocks) (a .blocks)))
     (λ e₁. let k : _≡_ {A = ℕ} 0 2 = rw (e, e₁) at r in no (omega (arith, k)))
     (λ e₁. let k : _≡_ {A = ℕ} 16 2 = rw (e, e₁) at r in no (omega (arith, k)))
@@ -143,6 +144,11 @@ suffices b f os e = let a : Area = runOf (freshArea b f) os in few (a .blocks) (
 pub refused-same : (a : Area) (o : Op) (k : ℕ) → outcomeOf a o ≡ refused k → (stepOf a o ≡ a) × (valueOf (outcomeOf a o) ≡ 0)
 refused-same a o k e = (ap (after a) e, ap valueOf e)
 
+pub fresh-refused : (b f : List Stretch) → hasPlaces b f ≡ false
+    → (refusalOf (freshOf b f) ≡ BAD-STATE) × (blocksAfter b (freshOf b f) ≡ b) × (freeAfter f (freshOf b f) ≡ f) × (valueOf (freshOf b f) ≡ 0)
+unfolding freshOf
+fresh-refused b f e = rw e (refl, refl, refl, refl)
+
 -- ---- "15 NO_SPACE exactly when no free stretch is long enough"
 abbrev pub isShort : ℕ → Stretch → Bool
 isShort n s = ltb (s .length) n
@@ -162,7 +168,7 @@ fits-none n (f ∷ fs) e = rw (lt-leb n (f .length) (ltb-true (f .length) n (and
 abbrev pub MayTake : Area → ℕ → Type 0
 MayTake a n = (isSound a ≡ true) × (leb 1 n && leb n 65535 ≡ true) × (ltb (a .used .blocks) 31 ≡ true)
 
-pub no-space-exact : (a : Area) (n : ℕ) → MayTake a n → (every (isShort n) (take (a .used .free) (a .free)) ≡ true → outcomeOf a (ask n) ≡ refused NO-SPACE) × (outcomeOf a (ask n) ≡ refused NO-SPACE → every (isShort n) (take (a .used .free) (a .free)) ≡ true)
+pub no-space-exact : (a : Area) (n : ℕ) → MayTake a n → (every (isShort n) (take (a .used .free) (a .free)) ≡ true → outcomeOf a (request n) ≡ refused NO-SPACE) × (outcomeOf a (request n) ≡ refused NO-SPACE → every (isShort n) (take (a .used .free) (a .free)) ≡ true)
 unfolding requestOf
 no-space-exact a n m = (
   (λ e. rw (m .0, m .1, m .2, fits-none n (take (a .used .free) (a .free)) e) refl),
@@ -172,7 +178,7 @@ no-space-exact a n m = (
 )
 
 -- it is given in no other case
-pub no-space-only : (a : Area) (n : ℕ) → refusalOf (outcomeOf a (ask n)) ≡ NO-SPACE → MayTake a n
+pub no-space-only : (a : Area) (n : ℕ) → refusalOf (outcomeOf a (request n)) ≡ NO-SPACE → MayTake a n
 unfolding requestOf
 no-space-only a n e =
     by-bool (isSound a)
@@ -213,23 +219,23 @@ one-stretch a e z =
     )
 
 module _ (a : Area) (e : isSound a ≡ true) (b : Stretch) (ls : List Stretch) (w : take (a .used .blocks) (a .blocks) ≡ b ∷ ls) where
-  first-released : outcomeOf a (give (b .start)) ≡ took (b .length) ls (joined (stretch (b .start) (b .length)) (fl a e))
+  first-released : outcomeOf a (release (b .start)) ≡ took (b .length) ls (joined (stretch (b .start) (b .length)) (fl a e))
   unfolding releaseOf
   first-released =
       rw e ((λ i. if startsAt (b .start) (w i) then took (lengthAt (b .start) (w i)) (without (b .start) (w i)) (joined (stretch (b .start) (lengthAt (b .start) (w i))) (fl a e)) else refused 16) ∙ rw (eq-eqb (b .start) (b .start) refl) refl)
 
-  others-left : take (stepOf a (give (b .start)) .used .blocks) (stepOf a (give (b .start)) .blocks) ≡ ls
+  others-left : take (stepOf a (release (b .start)) .used .blocks) (stepOf a (release (b .start)) .blocks) ≡ ls
   others-left = (λ i. take (after a (first-released i) .used .blocks) (after a (first-released i) .blocks)) ∙ take-append-seam ls (replicate (length (a .blocks) - length ls) none)
 
-none-left : (a : Area) (l : List Stretch) → isSound a ≡ true → take (a .used .blocks) (a .blocks) ≡ l → runOf a (givesAll l) .used .blocks ≡ 0
+none-left : (a : Area) (l : List Stretch) → isSound a ≡ true → take (a .used .blocks) (a .blocks) ≡ l → runOf a (releasesAll l) .used .blocks ≡ 0
 none-left a [] e w = sym (count-blocks (a .blocks) (a .free) (a .used) (stands a e)) ∙ ap length w
-none-left a (b ∷ ls) e w = none-left (stepOf a (give (b .start))) ls (step-keeps a (give (b .start)) e) (others-left a e b ls w)
+none-left a (b ∷ ls) e w = none-left (stepOf a (release (b .start))) ls (step-keeps a (release (b .start)) e) (others-left a e b ls w)
 
 -- releasing every block gives one free stretch of 65,536
-pub all-released : (a z : Area) → z ≡ runOf a (givesAll (take (a .used .blocks) (a .blocks))) → isSound a ≡ true → (z .used .blocks ≡ 0) × (z .used .free ≡ 1) × (z .free ≡ tableAfter (z .free) (stretch 0 units ∷ []))
+pub all-released : (a z : Area) → z ≡ runOf a (releasesAll (take (a .used .blocks) (a .blocks))) → isSound a ≡ true → (z .used .blocks ≡ 0) × (z .used .free ≡ 1) × (z .free ≡ tableAfter (z .free) (stretch 0 units ∷ []))
 all-released a z t e =
     let l : List Stretch = take (a .used .blocks) (a .blocks) in
-    let k : isSound z ≡ true = ap isSound t ∙ sound-run a (givesAll l) e in
+    let k : isSound z ≡ true = ap isSound t ∙ sound-run a (releasesAll l) e in
     let n : z .used .blocks ≡ 0 = ap (λ (y : Area). y .used .blocks) t ∙ none-left a l e refl in
     let w = one-stretch z k n in
     (n, w .2, w .1)
@@ -246,7 +252,7 @@ joined-fits n b (f ∷ fs) h =
     (λ t. rw (p, q, t) (by-bool (leb n (f .length)) (λ u. rw u refl) (λ u. rw u (joined-fits n b fs h))))))
 
 -- the units that a release gave back are granted to a request for as many
-pub found-again : (a : Area) (s : ℕ) → isSound a ≡ true → refusalOf (outcomeOf a (give s)) ≡ 0 → valueOf (outcomeOf a (give s)) ≤ 65535 → refusalOf (outcomeOf (stepOf a (give s)) (ask (valueOf (outcomeOf a (give s))))) ≡ 0
+pub found-again : (a : Area) (s : ℕ) → isSound a ≡ true → refusalOf (outcomeOf a (release s)) ≡ 0 → valueOf (outcomeOf a (release s)) ≤ 65535 → refusalOf (outcomeOf (stepOf a (release s)) (request (valueOf (outcomeOf a (release s))))) ≡ 0
 unfolding releaseOf requestOf
 found-again a s e r v =
     by-bool (startsAt s (bl a e))
@@ -255,7 +261,7 @@ found-again a s e r v =
     let cl : List Stretch = without s (bl a e) in
     let gl : List Stretch = joined (stretch s n) (fl a e) in
     let z : Area = after a (took n cl gl) in
-    let k : isSound z ≡ true = rw (e, q) at (give-keeps a e s) in
+    let k : isSound z ≡ true = rw (e, q) at (release-keeps a e s) in
     let p : 0 < n = block-long (bl a e) (fl a e) (stands a e .sound) s q in
     let u : n ≤ 65535 = rw (e, q) at v in
     let m : length cl ≤ 30 = few-left a e s q in

@@ -19,13 +19,13 @@ isSound a = rulesKept (a .blocks) (a .free) (a .used)
 
 -- a call of `request` or of `release`
 pub data Op : Type 0 where
-  ask : ℕ → Op
-  give : ℕ → Op
+  request : ℕ → Op
+  release : ℕ → Op
 
 -- what it answers and leaves
 abbrev pub outcomeOf : Area → Op → Outcome
-outcomeOf a (ask n) = requestOf (a .blocks) (a .free) (a .used) n
-outcomeOf a (give s) = releaseOf (a .blocks) (a .free) (a .used) s
+outcomeOf a (request n) = requestOf (a .blocks) (a .free) (a .used) n
+outcomeOf a (release s) = releaseOf (a .blocks) (a .free) (a .used) s
 
 -- the area as an outcome leaves it
 abbrev pub after : Area → Outcome → Area
@@ -55,6 +55,6 @@ valueOf (refused k) = 0
 valueOf (took v bs fs) = v
 
 -- one release for each block, in table order
-abbrev pub givesAll : List Stretch → List Op
-givesAll [] = []
-givesAll (b ∷ bs) = give (b .start) ∷ givesAll bs
+abbrev pub releasesAll : List Stretch → List Op
+releasesAll [] = []
+releasesAll (b ∷ bs) = release (b .start) ∷ releasesAll bs

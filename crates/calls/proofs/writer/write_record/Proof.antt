@@ -5,7 +5,7 @@ use mathlib.Core.Path.{_≡_, ap, _∙_}
 use mathlib.Core.List.{List}
 use lib.ListN.{length, take}
 use Rattle.calls.specs.Record.{encode}
-use Rattle.calls.specs.Writing.{writtenOf, roomAfter}
+use Rattle.calls.specs.Writing.{writtenOf, roomWritten}
 use Rattle.calls.specs.declared.writer.Packet.{Packet}
 use Rattle.calls.proofs.Packets.{at-most-ten, part-is}
 use Rattle.calls.proofs.writer.write_record.Statement.{statement}
@@ -28,7 +28,7 @@ put : (c : tie.After-put)
     → let p = c .before .before .before .before .before .record-of .result in
     let room = c .before .before .before .before .before .before .before .args .room .now in
     let bytes = take (p .count - 0) (p .bytes) in
-    (c .put .result ≡ writtenOf bytes room) × (c .put .last .1 .0 ≡ roomAfter bytes room)
+    (c .put .result ≡ writtenOf bytes room) × (c .put .last .1 .0 ≡ roomWritten bytes room)
 put c = c .put .ensures
 
 returns : tie.Need-returns
@@ -36,7 +36,7 @@ returns c =
     let p = c .before .before in
     let r = p .before .before .before .before .before in
     let room = r .before .before .args .room .now in
-    (put p .0 ∙ ap (λ (l : List ℕ). writtenOf l room) (packed r), put p .1 ∙ ap (λ (l : List ℕ). roomAfter l room) (packed r))
+    (put p .0 ∙ ap (λ (l : List ℕ). writtenOf l room) (packed r), put p .1 ∙ ap (λ (l : List ℕ). roomWritten l room) (packed r))
 
 pub write-record-spec : {M : Type 1} → statement M
 write-record-spec =
