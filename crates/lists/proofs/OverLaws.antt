@@ -5,8 +5,8 @@ use native.Mathlib.Nat.{not-suc-le-zero, le-of-suc-le-suc, suc-inj}
 use native.Mathlib.Numerals.{add-one}
 use native.Mathlib.Omega.{arith}
 use mathlib.Core.Path.{_≡_, refl, sym, ap, _∙_}
-use mathlib.Core.List.{List, [], _∷_}
-use lib.ListN.{length, getD, set, take}
+use mathlib.Core.List.{List, [], _∷_, _++_}
+use lib.ListN.{length, getD, set, take, drop}
 use lib.Seq.{take-nil}
 use Rattle.lists.specs.Over.{over}
 
@@ -46,3 +46,10 @@ over-same (x ∷ xs) (y ∷ ys) e = ap (λ (l : List _). y ∷ l) (over-same xs 
 -- a list of the same length is laid over in full
 pub over-laid : {A : Type 0} (xs ys : List A) (i : ℕ) → length ys ≡ length xs → length xs ≤ i → over xs (take i ys) ≡ ys
 over-laid xs ys i e h = over-full xs ys i h ∙ over-same xs ys (sym e)
+
+-- a list that has room is laid over in full, and what is behind it stays
+pub over-whole : {A : Type 0} (xs ys : List A) → length ys ≤ length xs → over xs ys ≡ ys ++ drop (length ys) xs
+over-whole [] [] h = refl
+over-whole [] (y ∷ ys) h = absurd (omega arith)
+over-whole (x ∷ xs) [] h = refl
+over-whole (x ∷ xs) (y ∷ ys) h = ap (λ (l : List _). y ∷ l) (over-whole xs ys (omega arith))

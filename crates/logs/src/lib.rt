@@ -1,8 +1,10 @@
 // Whole logs, from standard input to standard output: what stepper and replay share.
 ghost use Prim.Native.Nat.{_-_, _≤_, min};
 ghost use mathlib.Core.Path.{_≡_};
-ghost use Rattle.text.specs.Text.{putAt};
-ghost use Rattle.report.specs.Lines.{header};
+ghost use mathlib.Core.Bool.{true};
+ghost use Rattle.text.specs.Text.{Uncut};
+ghost use Rattle.report.specs.Lines.{header, longestLine};
+ghost use Rattle.stream.specs.Outputs.{spare, Free};
 ghost use Rattle.session.specs.Turn.{turnOf, turnedOf};
 ghost use Rattle.logs.specs.Logs.{partOf, bytesIn, isLast, begunOf, placeBehind, Moved, Supplied, Onward};
 ghost use Rattle.logs.specs.Rests.{droppedOf, Skipped, numberAt, headOf, Headed};
@@ -61,10 +63,12 @@ fn part(w: Window, left: u64, n: usize) -> Window
     }
 }
 
-// A log from its start: the header is printed.
+// A log from its start: the header is printed, whole, and behind it there is room for a line.
 fn started(l: Log, out: &mut [u8]) -> Log
+    requires { ⌜ Free spare (now out) (l .flow .waits) ⌝ }
     ensures { λ r. ⌜ r ≡ begunOf l (now (out .entry)) ⌝ }
-    ensures { λ r. ⌜ now (out .exit) ≡ putAt (now (out .entry)) (l .flow .waits) header ⌝ }
+    ensures { λ r. ⌜ Uncut (now (out .entry)) (l .flow .waits) header (now (out .exit)) ⌝ }
+    ensures { λ r. ⌜ Free longestLine (now (out .exit)) (r .flow .waits) ⌝ }
 {
     let window = l.flow.window;
     let flow = Flow {
@@ -126,11 +130,12 @@ fn behind(l: Log, next: Next, count: usize, place: usize, buf: &mut [u8], out: &
     }
 }
 
-// One turn of the session, on the bytes of the log that stand in the window.
+// One turn of the session, on the bytes of the log that stand in the window. Where there is room for a line, its text is printed whole.
 fn run_turn(l: Log, s: Session, buf: &[u8], room: &mut [u8], out: &mut [u8]) -> Turned
+    requires { ⌜ Free longestLine (now out) (l .flow .waits) ⌝ }
     ensures { λ r. ⌜ r ≡ turnedOf (turnOf s (bytesIn l (now (buf .entry))) (isLast l (now (buf .entry))) (now (room .entry))) (now (out .entry)) (l .flow .waits) ⌝ }
     ensures { λ r. ⌜ now (room .exit) ≡ turnOf s (bytesIn l (now (buf .entry))) (isLast l (now (buf .entry))) (now (room .entry)) .room ⌝ }
-    ensures { λ r. ⌜ now (out .exit) ≡ putAt (now (out .entry)) (l .flow .waits) (turnOf s (bytesIn l (now (buf .entry))) (isLast l (now (buf .entry))) (now (room .entry)) .text) ⌝ }
+    ensures { λ r. ⌜ Uncut (now (out .entry)) (l .flow .waits) (turnOf s (bytesIn l (now (buf .entry))) (isLast l (now (buf .entry))) (now (room .entry)) .text) (now (out .exit)) ⌝ }
 {
     let p = part(l.flow.window, l.left, buf.len());
     let at = p.at;
@@ -139,7 +144,11 @@ fn run_turn(l: Log, s: Session, buf: &[u8], room: &mut [u8], out: &mut [u8]) -> 
 }
 
 // A log to its end. The log and its session are two variables: of a struct of both each turn would copy every field.
-fn run_log(l: Log, buf: &mut [u8], out: &mut [u8]) -> Log {
+fn run_log(l: Log, buf: &mut [u8], out: &mut [u8]) -> Log
+    requires { ⌜ l .goes ≡ true ⌝ }
+    requires { ⌜ Free spare (now out) (l .flow .waits) ⌝ }
+    ensures { λ r. ⌜ Free spare (now (out .exit)) (r .flow .waits) ⌝ }
+{
     let mut room = [0u8; 124];
     let mut log = started(l, out);
     let state = supervisor::empty(l.clock);
@@ -262,7 +271,11 @@ fn next_log(w: Window, f: Flow, buf: &mut [u8]) -> Log
 }
 
 // Runs a log, and gives the next one. The rest of a log that stopped is skipped.
-fn run_next(l: Log, buf: &mut [u8], out: &mut [u8]) -> Log {
+fn run_next(l: Log, buf: &mut [u8], out: &mut [u8]) -> Log
+    requires { ⌜ l .goes ≡ true ⌝ }
+    requires { ⌜ Free spare (now out) (l .flow .waits) ⌝ }
+    ensures { λ r. ⌜ Free spare (now (out .exit)) (r .flow .waits) ⌝ }
+{
     let done = run_log(l, buf, out);
     let window = skipped(done.flow.window, done.left, buf);
     next_log(window, done.flow, buf)

@@ -40,3 +40,7 @@ lineText step a room =
     ++ (spaced (a .next)
     ++ (waits (a .ended) room
     ++ (10 ∷ []))))))))
+
+-- the most bytes that a line takes: 20 digits of the step's number, six numbers and 255 ended waits of three digits each, and a line end
+abbrev pub longestLine : ℕ
+longestLine = 4635

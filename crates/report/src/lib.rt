@@ -1,7 +1,9 @@
 // The lines that stepper prints: the header, and a line for each call. Each goes into lent room from a place on, and the
 // answer is the place behind it; room that is too short cuts it off.
+ghost use Prim.Native.Nat.{_≤_};
+ghost use lib.ListN.{length};
 ghost use Rattle.text.specs.Text.{Put};
-ghost use Rattle.report.specs.Lines.{header, spaced, barred, waits, lineText};
+ghost use Rattle.report.specs.Lines.{header, spaced, barred, waits, lineText, longestLine};
 use rules::Answer;
 use text::least;
 use text::put_byte;
@@ -62,6 +64,7 @@ fn put_waits(ended: u8, room: &[u8], out: &mut [u8], at: usize) -> usize
 // A line.
 pub fn put_line(step: u64, answer: Answer, room: &[u8], out: &mut [u8], at: usize) -> usize
     ensures { λ r. ⌜ Put (now (out .entry)) at (lineText step answer (now (room .entry))) (now (out .exit)) r ⌝ }
+    ensures { λ r. ⌜ length (lineText step answer (now (room .entry))) ≤ longestLine ⌝ }
 {
     let a = put_number(step, out, at);
     let b = put_spaced(answer.refusal, out, a);

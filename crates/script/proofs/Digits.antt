@@ -1,10 +1,9 @@
 -- Decimal numbers: their digits, their length, and the number that is read back.
 -- Assumes nothing.
-use Prim.Native.Nat.{ℕ, zero, suc, _+_, _*_, _/_, _%_, _^_, _≤_, _<_}
+use Prim.Native.Nat.{ℕ, zero, suc, _+_, _*_, _/_, _%_, _≤_, _<_}
 use mathlib.Core.Path.{_≡_, refl, sym, ap, subst, _∙_}
 use mathlib.Core.List.{List, [], _∷_, _++_}
 use native.Mathlib.Omega.{arith}
-use native.Mathlib.Nat.{pow-suc, pow-zero}
 use mathlib.Core.Bool.{true, _&&_}
 use lib.Dec.{leb, ltb}
 use lib.ListN.{length, length-append}
@@ -54,26 +53,6 @@ decimal-some n = by-bool (ltb n 10)
     (λ e. subst (λ (l : List ℕ). 0 < length l) (sym (small n n (ltb-true n 10 e))) (omega arith))
     (λ e. subst (λ (l : List ℕ). 0 < length l) (sym (large n n (ltb-false n 10 e)))
     (let g = length-append (spelled n (n / 10)) ((48 + n % 10) ∷ []) in omega (arith, g)))
-
-one-more : (l : List ℕ) (d m n : ℕ) → ((m : ℕ) → n / 10 < 10 ^ m → length l ≤ suc m) → 10 ≤ n → n < 10 ^ m → length (l ++ (d ∷ [])) ≤ suc m
-one-more l d zero n ih g h = let z : n < 1 = subst (λ (p : ℕ). n < p) (pow-zero 10) h in absurd (omega arith)
-one-more l d (suc m) n ih g h =
-    let p = 10 ^ m in
-    let z : n < p * 10 = subst (λ (p : ℕ). n < p) (pow-suc 10 m) h in
-    let i = ih m (omega arith) in
-    rw (length-append l (d ∷ [])) (omega arith)
-
-spelled-short : (k n m : ℕ) → n < 10 ^ m → length (spelled k n) ≤ suc m
-spelled-short zero n m h = omega arith
-spelled-short (suc k) n m h = by-bool (ltb n 10)
-    (λ e. subst (λ (l : List ℕ). length l ≤ suc m) (sym (small k n (ltb-true n 10 e))) (omega arith))
-    (λ e. let g = ltb-false n 10 e in
-    subst (λ (l : List ℕ). length l ≤ suc m) (sym (large k n g))
-    (one-more (spelled k (n / 10)) (48 + n % 10) m n (λ m h. spelled-short k (n / 10) m h) g h))
-
-pub decimal-short : (n : ℕ) → n < 2 ^ 32 → length (decimal n) ≤ 11
-unfolding decimal
-decimal-short n h = spelled-short (suc n) n 10 (omega arith)
 
 -- ── the number that is read back ──
 

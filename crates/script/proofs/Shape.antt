@@ -18,11 +18,12 @@ use Rattle.calls.specs.declared.SelectMode.{SelectMode}
 use Rattle.calls.specs.declared.Call as C
 use Rattle.calls.specs.declared.Call.the-variants.{Create, Delay, Call, Select, End, Finish, Tick, Advance}
 use Rattle.text.specs.Text.{decimal}
+use Rattle.text.proofs.Decimals.{decimal-short}
 use Rattle.script.specs.CallText.{spaced, spacedTime, entries, openText, callModeText, selectModeText, textOf}
 use Rattle.script.specs.WordTable.{modeText}
 use Rattle.script.specs.Words.{isBlank, wordsFrom, wordsOf}
 use Rattle.script.specs.Says.{Fits}
-use Rattle.script.proofs.Digits.{AllPlain, decimal-plain, decimal-some, decimal-short}
+use Rattle.script.proofs.Digits.{AllPlain, decimal-plain, decimal-some}
 use Rattle.script.proofs.Modes.{call-mode-text, select-mode-text}
 use Rattle.script.proofs.Sets.{tail, set-text}
 
@@ -105,12 +106,12 @@ words-back (Advance n) f = ap (λ (l : List ℕ). 32 ∷ 65 ∷ 68 ∷ 86 ∷ 65
 
 short-number : (n : ℕ) → n < 2 ^ 32 → length (spaced n) ≤ 12
 unfolding spaced
-short-number n h = let s = decimal-short n h in omega arith
+short-number n h = let s = decimal-short n 10 (omega arith) (omega arith) in omega arith
 
 short-time : (d : ℤ) → SFits w32 d → length (spacedTime d) ≤ 13
 unfolding spacedTime
 short-time (pos n) f = let h : n < 2 ^ 31 = f .sfits in let s = short-number n (omega arith) in omega arith
-short-time (negsuc n) f = let h : n < 2 ^ 31 = f .sfits in let s = decimal-short (suc n) (omega arith) in omega arith
+short-time (negsuc n) f = let h : n < 2 ^ 31 = f .sfits in let s = decimal-short (suc n) 10 (omega arith) (omega arith) in omega arith
 
 short-open : (o : ℕ) → o < 256 → length (openText o) ≤ 16
 unfolding openText

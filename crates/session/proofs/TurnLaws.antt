@@ -1,6 +1,6 @@
 -- From what the parts of a turn promise to what the turn promises.
 -- Assumes nothing.
-use Prim.Native.Nat.{ℕ}
+use Prim.Native.Nat.{ℕ, _≤_}
 use mathlib.Core.Path.{_≡_, refl, sym, ap, subst, _∙_}
 use mathlib.Core.Bool.{Bool, true, false, not, _&&_}
 use mathlib.Core.List.{List, [], _∷_}
@@ -18,22 +18,26 @@ use Rattle.rules.specs.Step.{roomAfter}
 use Rattle.rules.specs.Questions.{runningWhole}
 use Rattle.rules.specs.Whole.{stepWhole, steppedOf}
 use Rattle.rules.specs.declared.Stepped.{Stepped}
-use Rattle.report.specs.Lines.{lineText}
+use Rattle.report.specs.Lines.{lineText, longestLine}
 use Rattle.text.specs.Text.{Put, putAt}
 use Rattle.session.specs.Turn.{Turn, nextStep, refusedAnswer, took, left, leaves, turnBy, turnOf, turnedOf}
 use Rattle.session.specs.declared.turns.Session.{Session}
 use Rattle.session.specs.declared.turns.Turned.{Turned}
 use Rattle.session.specs.declared.turns.Next.the-variants.{Again, More, Stop}
 
--- what a turn answers and prints
-abbrev pub Says : Turn → List ℕ → ℕ → Turned → List ℕ → Type 0
-Says t out at r after = (r ≡ turnedOf t out at) × (after ≡ putAt out at (t .text))
+-- what a turn prints, and that it is no longer than a line
+abbrev pub Prints : Turn → List ℕ → ℕ → List ℕ → Type 0
+Prints t out at after = (after ≡ putAt out at (t .text)) × (length (t .text) ≤ longestLine)
 
-pub says : {out after : List ℕ} {at k : ℕ} (t u : Turn) → u ≡ t → Put out at (u .text) after k
+-- what it answers and prints
+abbrev pub Says : Turn → List ℕ → ℕ → Turned → List ℕ → Type 0
+Says t out at r after = (r ≡ turnedOf t out at) × Prints t out at after
+
+pub says : {out after : List ℕ} {at k : ℕ} (t u : Turn) → u ≡ t → Put out at (u .text) after k → length (u .text) ≤ longestLine
     → Says t out at (record { session = u .session; count = u .count; place = k; next = u .next }) after
-says {out} {after} {at} {k} t u e p =
+says {out} {after} {at} {k} t u e p h =
     subst (λ (x : Turn). Says x out at (record { session = u .session; count = u .count; place = k; next = u .next }) after) e
-    (λ i. record { session = u .session; count = u .count; place = p .placed i; next = u .next }, p .written)
+    (λ i. record { session = u .session; count = u .count; place = p .placed i; next = u .next }, (p .written, h))
 
 module _ (s : Session) (n many : ℕ) (last : Bool) (room : List ℕ) where
   pub asks-more : (not last && ltb many 10) ≡ true → left s More [] room ≡ leaves s n many last room
@@ -83,7 +87,7 @@ module _ (s : Session) (input : List ℕ) (last : Bool) (room : List ℕ) (got :
   turn-took c k f = ap (λ (x : Read). turnBy s x (length input) last room) (sym f ∙ e)
 
 -- the promise of one turn is that of another under the same name
-pub same-turn : (out : List ℕ) (at : ℕ) {after room : List ℕ} {r : Turned} (t u : Turn) → t ≡ u → r ≡ turnedOf t out at → room ≡ t .room → after ≡ putAt out at (t .text)
-    → (r ≡ turnedOf u out at) × ((room ≡ u .room) × (after ≡ putAt out at (u .text)))
+pub same-turn : (out : List ℕ) (at : ℕ) {after room : List ℕ} {r : Turned} (t u : Turn) → t ≡ u → r ≡ turnedOf t out at → room ≡ t .room → Prints t out at after
+    → (r ≡ turnedOf u out at) × ((room ≡ u .room) × Prints u out at after)
 same-turn out at {after} {room} {r} t u e a b c =
-    subst (λ (x : Turn). (r ≡ turnedOf x out at) × ((room ≡ x .room) × (after ≡ putAt out at (x .text)))) e (a, (b, c))
+    subst (λ (x : Turn). (r ≡ turnedOf x out at) × ((room ≡ x .room) × Prints x out at after)) e (a, (b, c))

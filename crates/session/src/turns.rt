@@ -1,6 +1,9 @@
 // One turn: the record at the start of the input is read, its call taken, and its line printed.
+ghost use Prim.Native.Nat.{_≤_};
 ghost use mathlib.Core.Path.{_≡_};
+ghost use lib.ListN.{length};
 ghost use Rattle.calls.specs.Reading.{refusalOf};
+ghost use Rattle.report.specs.Lines.{longestLine};
 ghost use Rattle.text.specs.Text.{putAt};
 ghost use Rattle.session.specs.Turn.{refusedAnswer, turnOf, turnedOf, took, leaves};
 use calls::Call;
@@ -37,6 +40,7 @@ fn taken(s: Session, call: Call, count: usize, room: &mut [u8], out: &mut [u8], 
     ensures { λ r. ⌜ r ≡ turnedOf (took s call count (now (room .entry))) (now (out .entry)) at ⌝ }
     ensures { λ r. ⌜ now (room .exit) ≡ took s call count (now (room .entry)) .room ⌝ }
     ensures { λ r. ⌜ now (out .exit) ≡ putAt (now (out .entry)) at (took s call count (now (room .entry)) .text) ⌝ }
+    ensures { λ r. ⌜ length (took s call count (now (room .entry)) .text) ≤ longestLine ⌝ }
 {
     let stepped = supervisor::step(s.state, call, room);
     let answer = stepped.answer;
@@ -92,6 +96,7 @@ fn refused(
 ) -> Turned
     ensures { λ r. ⌜ r ≡ turnedOf (leaves s n many last (now (room .entry))) (now (out .entry)) at ⌝ }
     ensures { λ r. ⌜ now (out .exit) ≡ putAt (now (out .entry)) at (leaves s n many last (now (room .entry)) .text) ⌝ }
+    ensures { λ r. ⌜ length (leaves s n many last (now (room .entry)) .text) ≤ longestLine ⌝ }
 {
     if !last & (many < 10) {
         return Turned {
@@ -132,6 +137,7 @@ pub fn turn(
     ensures { λ r. ⌜ r ≡ turnedOf (turnOf s (now (input .entry)) last (now (room .entry))) (now (out .entry)) at ⌝ }
     ensures { λ r. ⌜ now (room .exit) ≡ turnOf s (now (input .entry)) last (now (room .entry)) .room ⌝ }
     ensures { λ r. ⌜ now (out .exit) ≡ putAt (now (out .entry)) at (turnOf s (now (input .entry)) last (now (room .entry)) .text) ⌝ }
+    ensures { λ r. ⌜ length (turnOf s (now (input .entry)) last (now (room .entry)) .text) ≤ longestLine ⌝ }
 {
     let got = calls::read_record(input);
     let Read::Record { call, count } = got else {

@@ -1,3 +1,4 @@
 mod Shifts
+pub mod Spare
 pub mod Growing
 pub mod Unique

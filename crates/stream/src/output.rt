@@ -7,8 +7,7 @@ use libc::STDERR_FILENO;
 use libc::STDOUT_FILENO;
 use text::least;
 
-// Room for a header and the longest line, so that none is cut off: the header of stepper has 44 bytes, and a line with 20 digits of the
-// step's number, six numbers and 255 ended waits of three digits each 4635.
+// The room that is kept free behind what waits. That it is enough for what stepper and replay print before they come back here is proved in logs.
 const SPARE: usize = 8192;
 
 // How much output waits, and whether what does not could be written.

@@ -1,4 +1,4 @@
--- The kit's digits of a number are its decimal text.
+-- The kit's digits of a number are its decimal text, and how many they are at most.
 -- Assumes nothing.
 use Prim.Native.Nat.{ℕ, zero, suc, _+_, _-_, _*_, _/_, _%_, _^_, _<_, _≤_}
 use mathlib.Core.Path.{_≡_, refl, sym, ap, subst, _∙_}
@@ -6,6 +6,7 @@ use mathlib.Core.List.{List, [], _∷_, _++_}
 use native.Mathlib.Omega.{arith}
 use native.Mathlib.Nat.{pow-suc, pow-zero, one-le-pow}
 use lib.Dec.{ltb}
+use lib.ListN.{length, length-append}
 use borrow.Author.Tests.{lt-ltb, le-ltb, ltb-true, ltb-false}
 use Rattle.io.specs.Digits.{glyph, digits, Fewest}
 use Rattle.lists.proofs.ListLaws.{by-bool}
@@ -58,3 +59,26 @@ digits-decimal (suc (suc k)) n f =
     ap (λ (l : List ℕ). l ++ (glyph (n % 10) ∷ [])) (digits-decimal (suc k) (n / 10) few)
     ∙ ap (λ (d : ℕ). decimal (n / 10) ++ (d ∷ [])) (glyph-digit n)
     ∙ decimal-large n (omega arith)
+
+one-more : (l : List ℕ) (x d n : ℕ) → ((d : ℕ) → 0 < d → n / 10 < 10 ^ d → length l ≤ d) → 10 ≤ n → n < 10 ^ d → length (l ++ (x ∷ [])) ≤ d
+one-more l x zero n ih g h = let z : n < 1 = subst (λ (p : ℕ). n < p) (pow-zero 10) h in absurd (omega arith)
+one-more l x (suc zero) n ih g h =
+    let z : n < 10 = subst (λ (p : ℕ). n < p) (pow-suc 10 0 ∙ ap (λ (p : ℕ). p * 10) (pow-zero 10)) h in absurd (omega arith)
+one-more l x (suc (suc d)) n ih g h =
+    let p = 10 ^ (suc d) in
+    let z : n < p * 10 = subst (λ (p : ℕ). n < p) (pow-suc 10 (suc d)) h in
+    let i = ih (suc d) (omega arith) (omega arith) in
+    rw (length-append l (x ∷ [])) (omega arith)
+
+spelled-short : (k n d : ℕ) → 0 < d → n < 10 ^ d → length (spelled k n) ≤ d
+spelled-short zero n d o h = omega arith
+spelled-short (suc k) n d o h = by-bool (ltb n 10)
+    (λ e. subst (λ (l : List ℕ). length l ≤ d) (sym (small k n (ltb-true n 10 e))) (omega arith))
+    (λ e. let g = ltb-false n 10 e in
+    subst (λ (l : List ℕ). length l ≤ d) (sym (large k n g))
+    (one-more (spelled k (n / 10)) (48 + n % 10) d n (λ d o h. spelled-short k (n / 10) d o h) g h))
+
+-- a number below the d-th power of ten has at most d digits
+pub decimal-short : (n d : ℕ) → 0 < d → n < 10 ^ d → length (decimal n) ≤ d
+unfolding decimal
+decimal-short n d o h = spelled-short (suc n) n d o h

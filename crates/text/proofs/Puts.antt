@@ -4,10 +4,10 @@ use Prim.Native.Nat.{ℕ, zero, suc, _+_, _≤_, _<_, min}
 use mathlib.Core.Path.{_≡_, refl, sym, ap, subst, _∙_}
 use mathlib.Core.List.{List, [], _∷_, _++_}
 use native.Mathlib.Omega.{arith}
-use lib.ListN.{length, length-append, set}
+use lib.ListN.{length, take, drop, length-append, set}
 use Rattle.lists.specs.Over.{over}
-use Rattle.lists.proofs.OverLaws.{over-nil, over-length}
-use Rattle.text.specs.Text.{putAt, behind, Put}
+use Rattle.lists.proofs.OverLaws.{over-nil, over-length, over-whole}
+use Rattle.text.specs.Text.{putAt, Uncut, behind, Put}
 
 pub put-nil : (row : List ℕ) (at : ℕ) → putAt row at [] ≡ row
 put-nil [] at = refl
@@ -39,6 +39,21 @@ put-put (x ∷ row) (suc at) a b =
 
 behind-behind : (row : List ℕ) (at : ℕ) (a b : List ℕ) → behind (putAt row at a) (behind row at a) b ≡ behind row at (a ++ b)
 behind-behind row at a b = rw (put-length row at a, length-append a b) (omega arith)
+
+at-whole : (row : List ℕ) (at : ℕ) (text : List ℕ) → at + length text ≤ length row → Uncut row at text (putAt row at text)
+at-whole [] zero [] h = refl
+at-whole [] zero (t ∷ text) h = absurd (omega arith)
+at-whole [] (suc at) text h = absurd (omega arith)
+at-whole (x ∷ row) zero text h =
+    let z : 0 + length text ≡ length text = omega arith in
+    over-whole (x ∷ row) text (omega arith) ∙ ap (λ (k : ℕ). text ++ drop k (x ∷ row)) (sym z)
+at-whole (x ∷ row) (suc at) text h =
+    let z : suc at + length text ≡ suc (at + length text) = omega arith in
+    ap (λ (r : List ℕ). x ∷ r) (at-whole row at text (omega arith)) ∙ ap (λ (k : ℕ). x ∷ (take at row ++ (text ++ drop k (x ∷ row)))) (sym z)
+
+-- where there is room for it, all of a text is put
+pub put-whole : (row : List ℕ) (at : ℕ) (text after : List ℕ) → after ≡ putAt row at text → at + length text ≤ length row → Uncut row at text after
+put-whole row at text after e h = e ∙ at-whole row at text h
 
 -- nothing is put: the row stays, and the place is the same, or the row's end
 pub put-none : {row : List ℕ} {at k : ℕ} → k ≡ min at (length row) → Put row at [] row k

@@ -4,7 +4,7 @@ use Prim.Native.Nat.{ℕ, zero, suc, _+_, _/_, _%_, min}
 use mathlib.Core.Path.{_≡_}
 use mathlib.Core.Bool.{cond}
 use mathlib.Core.List.{List, [], _∷_, _++_}
-use lib.ListN.{length}
+use lib.ListN.{length, take, drop}
 use lib.Dec.{ltb}
 use Rattle.lists.specs.Over.{over}
 
@@ -22,6 +22,10 @@ abbrev pub putAt : List ℕ → ℕ → List ℕ → List ℕ
 putAt [] at text = []
 putAt (x ∷ row) zero text = over (x ∷ row) text
 putAt (x ∷ row) (suc at) text = x ∷ putAt row at text
+
+-- a row afterwards has all of text from `at` on, and every other byte as it was: nothing is cut
+abbrev pub Uncut : List ℕ → ℕ → List ℕ → List ℕ → Type 0
+Uncut row at text after = after ≡ take at row ++ (text ++ drop (at + length text) row)
 
 -- the place behind text that is put at `at`: the row's end where it does not fit
 abbrev pub behind : List ℕ → ℕ → List ℕ → ℕ

@@ -1,8 +1,12 @@
-use mathlib.Core.Path.{_≡_, ap, _∙_}
+use Prim.Native.Nat.{ℕ, _≤_}
+use native.Mathlib.Omega.{arith}
+use mathlib.Core.Path.{_≡_, ap, subst, _∙_}
 use mathlib.Core.Bool.{true, false, not, _&&_}
+use mathlib.Core.List.{List}
+use lib.ListN.{length}
 use lib.Dec.{eqb, ltb}
 use borrow.Author.Tests.{eq-eqb, ne-eqb}
-use Rattle.report.specs.Lines.{lineText}
+use Rattle.report.specs.Lines.{lineText, longestLine}
 use Rattle.rules.specs.declared.Answer.{Answer}
 use Rattle.rules.specs.declared.Running.{Running}
 use Rattle.text.proofs.Puts.{put-none, same-text}
@@ -29,12 +33,12 @@ bad c = ne-eqb _ 12 (c .if2 .left)
 returns : tie.Need-returns
 returns c =
     let a = c .before .before .before .before .args in
-    says _ _ (asks-more (a .s) (a .n) (a .many) (a .last) (a .room .now) (more (c .before))) (put-none (c .least .ensures))
+    says _ _ (asks-more (a .s) (a .n) (a .many) (a .last) (a .room .now) (more (c .before))) (put-none (c .least .ensures)) (omega arith)
 
 returns-2 : tie.Need-returns-2
 returns-2 c =
     let a = c .before .before .before .before .before .args in
-    says _ _ (ends (a .s) (a .n) (a .many) (a .last) (a .room .now) (no-more (c .before .before)) (over (c .before))) (put-none (c .least2 .ensures))
+    says _ _ (ends (a .s) (a .n) (a .many) (a .last) (a .room .now) (no-more (c .before .before)) (over (c .before))) (put-none (c .least2 .ensures)) (omega arith)
 
 returns-3 : tie.Need-returns-3
 returns-3 c =
@@ -44,8 +48,9 @@ returns-3 c =
     let e = r .before in
     let a = e .before .before .before .before .args in
     let answer = f .refused-answer .ensures ∙ ap (λ (k : Running). refusedAnswer (a .n) (k .task)) (r .running .ensures) in
+    let line = ap (λ (x : Answer). lineText (a .s .step) x (a .room .now)) answer in
     says _ _ (says-bad (a .s) (a .n) (a .many) (a .last) (a .room .now) (no-more (e .before)) (bad e))
-    (same-text (ap (λ (x : Answer). lineText (a .s .step) x (a .room .now)) answer) (p .put-line .ensures))
+    (same-text line (p .put-line .ensures .0)) (subst (λ (t : List ℕ). length t ≤ longestLine) line (p .put-line .ensures .1))
 
 pub refused-spec : {M : Type 1} → statement M
 refused-spec =

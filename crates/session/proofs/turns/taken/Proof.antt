@@ -20,7 +20,7 @@ gives number c =
     let a = stepped .before .before .before .before .args in
     let k = stepped .step in
     let whole = took-is (a .s) (a .call) (a .count) (a .room .now) (k .last .1 .1 .0) (k .result) (c .wrapping-add-u64 .result) (k .ensures .0) (k .ensures .1) (number c) in
-    let said = says _ _ whole (printed .put-line .ensures) in
+    let said = says _ _ whole (printed .put-line .ensures .0) (printed .put-line .ensures .1) in
     (said .0, (ap (λ (t : Turn). t .room) whole, said .1))
 
 pub taken-spec : {M : Type 1} → statement M
