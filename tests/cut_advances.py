@@ -62,10 +62,17 @@ def printed(text):
 
 def compare(source, whole, parts):
     cuts = wrong = 0
-    for (_, log), one, two in zip(logs(Path(source).read_bytes()), printed(Path(whole).read_text()), printed(Path(parts).read_text())):
+    for (_, log), one, two in zip(logs(Path(source).read_bytes()), printed(Path(whole).read_text()), printed(Path(parts).read_text()), strict=True):
+        found, rest = records(log)
+        tags = ([record[0] for record in found] + [0])[: len(one)]
+        # a line for each record, up to one that is none (refusal 11), and one more for each that was cut
+        bad = (n for n, (numbers, _) in enumerate(one, 1) if numbers[0] == "11")
+        if len(one) != next(bad, len(found) + bool(rest)) or len(two) != len(one) + tags.count(8):
+            wrong += 1
+            print(f"differs: {len(one)} lines, cut: {len(two)}, for {len(found)} records")
+            continue
         behind = iter(two)
-        tags = [record[0] for record in records(log)[0]] + [0]
-        for tag, (numbers, items) in zip(tags, one):
+        for tag, (numbers, items) in zip(tags, one, strict=True):
             got, list_got = next(behind)
             if tag == 8:
                 cuts += 1

@@ -177,7 +177,9 @@ def refused(log, wrong):
 
 def logs(words):
     found = [wrong for wrong in all_wrong()[0] if not words or wrong.crate in words]
-    amiss = []
+    amiss = [f"{word}: no crate of crates.txt" for word in words if word not in crates()]
+    if not found and not words:
+        amiss.append("no wrong answers")
     for wrong in found:
         log = Path("target/must-fail") / wrong.crate / wrong.edit.stem / ".log"
         if not log.exists():
