@@ -1,4 +1,4 @@
-/* The sample of document 01 and some refusals, through the library that a C program links. */
+/* The sample of document 01, the calls that it has not, the questions and some refusals, through the library that a C program links. */
 #include <stdio.h>
 #include <string.h>
 #include "fuzgerlint.h"
@@ -21,17 +21,14 @@ static int marked(const uint8_t *bytes, size_t from)
     return 1;
 }
 
-static void sample(void)
+/* Takes the calls of a log, and prints a line for each. */
+static void take(const uint8_t *log, size_t length)
 {
-    static const uint8_t log[] = {
-        CARD_CREATE, 0, 2, 5, 1, CARD_CREATE, 0, 2, 9, 0, CARD_CALL, 0, 7, 1, 1, 1, 0, 0, 0, 3, CARD_TICK, 0, 0,
-        CARD_SELECT, 0, 6, 1, 0, 0, 0, 0, 0, CARD_TICK, 0, 0, CARD_TICK, 0, 0, CARD_END, 0, 0, CARD_END, 0, 0,
-    };
+    static int n;
     size_t at = 0;
-    puts("step refusal result task entry partner next");
-    for (int n = 1; at < sizeof log; n++) {
-        uint8_t refusal = step(log + at, sizeof log - at);
-        printf("%d %d %d %d %d %d %d", n, refusal, answer[1], answer[2], answer[3], answer[4], answer[6]);
+    while (at < length) {
+        uint8_t refusal = step(log + at, length - at);
+        printf("%d %d %d %d %d %d %d", ++n, refusal, answer[1], answer[2], answer[3], answer[4], answer[6]);
         for (int i = 0; i < answer[5]; i++)
             printf(" | %d %d %d %d", room[4 * i], room[4 * i + 1], room[4 * i + 2], room[4 * i + 3]);
         putchar('\n');
@@ -39,22 +36,41 @@ static void sample(void)
     }
 }
 
-int main(void)
+/* Asks a question of each kind, COUNT of two entries. */
+static void ask(void)
 {
-    static const uint8_t tick[] = {CARD_TICK, 0, 0};
-    uint8_t before[sizeof state], one[1], refusal;
-    memset(state, MARK, sizeof state);
-    memset(room, MARK, sizeof room);
-    memset(answer, MARK, sizeof answer);
-    card_empty(state, sizeof state, 0);
-    sample();
+    uint8_t one[1], refusal;
     printf("sound %d", card_sound(state, sizeof state));
-    refusal = card_count(state, sizeof state, 1, 1, one, 1);
+    refusal = card_count(state, sizeof state, 3, 1, one, 1);
     printf(" count %d %d", refusal, one[0]);
-    refusal = card_callable(state, sizeof state, 1, one, 1);
+    refusal = card_count(state, sizeof state, 1, 3, one, 1);
+    printf(" %d %d", refusal, one[0]);
+    refusal = card_callable(state, sizeof state, 3, one, 1);
     printf(" callable %d %d", refusal, one[0]);
     refusal = card_running(state, sizeof state, one, 1);
     printf(" running %d %d\n", refusal, one[0]);
+}
+
+int main(void)
+{
+    static const uint8_t sample[] = {
+        CARD_CREATE, 0, 2, 5, 1, CARD_CREATE, 0, 2, 9, 0, CARD_CALL, 0, 7, 1, 1, 1, 0, 0, 0, 3, CARD_TICK, 0, 0,
+        CARD_SELECT, 0, 6, 1, 0, 0, 0, 0, 0, CARD_TICK, 0, 0, CARD_TICK, 0, 0, CARD_END, 0, 0, CARD_END, 0, 0,
+    };
+    static const uint8_t queued[] = {CARD_CREATE, 0, 2, 1, 1, CARD_CALL, 0, 7, 3, 1, 0, 0, 0, 0, 0};
+    static const uint8_t ended[] = {CARD_DELAY, 0, 4, 0, 0, 0, 5, CARD_FINISH, 0, 0, CARD_ADVANCE, 0, 4, 1, 2, 3, 4};
+    static const uint8_t tick[] = {CARD_TICK, 0, 0};
+    uint8_t before[sizeof state];
+    memset(state, MARK, sizeof state);
+    memset(room, MARK, sizeof room);
+    memset(answer, MARK, sizeof answer);
+    printf("empty %d\n", card_empty(state, sizeof state, 4294967294));
+    take(sample, sizeof sample);
+    take(queued, sizeof queued);
+    ask();
+    take(ended, sizeof ended);
+    ask();
+    printf("clock %d %d %d %d\n", state[0], state[1], state[2], state[3]);
 
     memcpy(before, state, sizeof state);
     printf("short state %d", card_empty(state, CARD_STATE - 1, 0));
@@ -69,7 +85,10 @@ int main(void)
     printf("short answer %d\n", card_step(state, sizeof state, tick, 3, room, sizeof room, answer, CARD_ANSWER - 1));
     printf("short room %d\n", card_step(state, sizeof state, tick, 3, room, CARD_ROOM - 1, answer, sizeof answer));
     printf("cut record %d\n", step(tick, 2));
-    printf("no record %d\n", step(tick, 0));
+    printf("no record %d %d\n", step(tick, 0), step(NULL, 0));
+    printf("no answer %d", card_count(state, sizeof state, 3, 1, NULL, 0));
+    printf(" %d", card_callable(state, sizeof state, 3, NULL, 0));
+    printf(" %d\n", card_running(state, sizeof state, NULL, 0));
     printf("untouched %d\n", memcmp(before, state, sizeof state) == 0 && marked(state, CARD_STATE) && marked(room, CARD_ROOM) && marked(answer, CARD_ANSWER));
     return 0;
 }

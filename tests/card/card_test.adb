@@ -1,8 +1,9 @@
---  The sample of document 01 and some refusals, through the library that an Ada program links.
+--  The sample of document 01, the calls that it has not, the questions and some refusals, through the library that an Ada program links.
 
 with Ada.Text_IO;  use Ada.Text_IO;
 with Interfaces;   use Interfaces;
 with Interfaces.C; use Interfaces.C;
+with System;       use System;
 with Fuzgerlint;   use Fuzgerlint;
 
 procedure Card_Test is
@@ -14,14 +15,15 @@ procedure Card_Test is
    Room   : Bytes (1 .. Room_Length + Behind) := (others => Mark);
    Answer : Bytes (1 .. Answer_Length + Behind) := (others => Mark);
    Before : Bytes (State'Range);
-   One    : Bytes (1 .. 1) := (others => 0);
-   Ignore : Byte;
+   Number : Byte := 0;
 
-   Log : constant Bytes :=
+   Sample : constant Bytes :=
      (Tag_Create, 0, 2, 5, 1, Tag_Create, 0, 2, 9, 0, Tag_Call, 0, 7, 1, 1, 1, 0, 0, 0, 3, Tag_Tick, 0, 0,
       Tag_Select, 0, 6, 1, 0, 0, 0, 0, 0, Tag_Tick, 0, 0, Tag_Tick, 0, 0, Tag_End, 0, 0, Tag_End, 0, 0);
 
-   Tick : constant Bytes := (Tag_Tick, 0, 0);
+   Queued : constant Bytes := (Tag_Create, 0, 2, 1, 1, Tag_Call, 0, 7, 3, 1, 0, 0, 0, 0, 0);
+   Ended  : constant Bytes := (Tag_Delay, 0, 4, 0, 0, 0, 5, Tag_Finish, 0, 0, Tag_Advance, 0, 4, 1, 2, 3, 4);
+   Tick   : constant Bytes := (Tag_Tick, 0, 0);
 
    function Image (N : Byte) return String is
       S : constant String := Byte'Image (N);
@@ -31,7 +33,11 @@ procedure Card_Test is
 
    function Do_Step (Rec : Bytes; States, Rooms, Answers : Natural) return Byte is
    begin
-      return Step (State'Address, size_t (States), Rec'Address, Rec'Length, Room'Address, size_t (Rooms), Answer'Address, size_t (Answers));
+      return Step
+        (State  => State'Address,  State_Length  => size_t (States),
+         Rec    => Rec'Address,    Rec_Length    => Rec'Length,
+         Room   => Room'Address,   Room_Length   => size_t (Rooms),
+         Answer => Answer'Address, Answer_Length => size_t (Answers));
    end Do_Step;
 
    function Do_Step (Rec : Bytes) return Byte is
@@ -39,13 +45,13 @@ procedure Card_Test is
       return Do_Step (Rec, State'Length, Room'Length, Answer'Length);
    end Do_Step;
 
-   procedure Sample is
+   --  Takes the calls of a log, and prints a line for each.
+   procedure Take (Log : Bytes) is
       At_Byte : Positive := Log'First;
-      Number  : Byte := 1;
       Refusal : Byte;
    begin
-      Put_Line ("step refusal result task entry partner next");
       while At_Byte <= Log'Last loop
+         Number := Number + 1;
          Refusal := Do_Step (Log (At_Byte .. Log'Last));
          Put (Image (Number) & " " & Image (Refusal));
          for I in 2 .. 5 loop
@@ -59,10 +65,35 @@ procedure Card_Test is
             end loop;
          end loop;
          New_Line;
-         Number := Number + 1;
          At_Byte := At_Byte + 3 + Natural (Log (At_Byte + 1)) * 256 + Natural (Log (At_Byte + 2));
       end loop;
-   end Sample;
+   end Take;
+
+   --  COUNT with room for so many bytes of an answer.
+   function Do_Count (Number_Of_Task, Number_Of_Entry : Byte; Answer : Address; Length : size_t) return Byte is
+   begin
+      return Fuzgerlint.Count
+        (State        => State'Address,  State_Length => State'Length,
+         Task_Number  => Number_Of_Task, Entry_Number => Number_Of_Entry,
+         Answer       => Answer,         Answer_Length => Length);
+   end Do_Count;
+
+   --  Asks a question of each kind, COUNT of two entries.
+   procedure Ask is
+      One     : Bytes (1 .. 1) := (others => Mark);
+      Refusal : Byte;
+   begin
+      Put ("sound " & Image (Sound (State => State'Address, State_Length => State'Length)));
+      Refusal := Do_Count (3, 1, One'Address, 1);
+      Put (" count " & Image (Refusal) & " " & Image (One (1)));
+      Refusal := Do_Count (1, 3, One'Address, 1);
+      Put (" " & Image (Refusal) & " " & Image (One (1)));
+      Refusal := Callable
+        (State => State'Address, State_Length => State'Length, Task_Number => 3, Answer => One'Address, Answer_Length => 1);
+      Put (" callable " & Image (Refusal) & " " & Image (One (1)));
+      Refusal := Running (State => State'Address, State_Length => State'Length, Answer => One'Address, Answer_Length => 1);
+      Put_Line (" running " & Image (Refusal) & " " & Image (One (1)));
+   end Ask;
 
    function Marked (B : Bytes) return Boolean is
    begin
@@ -75,15 +106,13 @@ procedure Card_Test is
    end Marked;
 
 begin
-   Ignore := Empty (State'Address, State'Length, 0);
-   Sample;
-   Put ("sound " & Image (Sound (State'Address, State'Length)));
-   Ignore := Fuzgerlint.Count (State'Address, State'Length, 1, 1, One'Address, 1);
-   Put (" count " & Image (Ignore) & " " & Image (One (1)));
-   Ignore := Callable (State'Address, State'Length, 1, One'Address, 1);
-   Put (" callable " & Image (Ignore) & " " & Image (One (1)));
-   Ignore := Running (State'Address, State'Length, One'Address, 1);
-   Put_Line (" running " & Image (Ignore) & " " & Image (One (1)));
+   Put_Line ("empty " & Image (Empty (State => State'Address, State_Length => State'Length, Clock => 4294967294)));
+   Take (Sample);
+   Take (Queued);
+   Ask;
+   Take (Ended);
+   Ask;
+   Put_Line ("clock " & Image (State (1)) & " " & Image (State (2)) & " " & Image (State (3)) & " " & Image (State (4)));
 
    Before := State;
    Put ("short state " & Image (Empty (State'Address, State_Length - 1, 0)));
@@ -98,7 +127,11 @@ begin
    Put_Line ("short answer " & Image (Do_Step (Tick, State'Length, Room'Length, Answer_Length - 1)));
    Put_Line ("short room " & Image (Do_Step (Tick, State'Length, Room_Length - 1, Answer'Length)));
    Put_Line ("cut record " & Image (Do_Step (Tick (1 .. 2))));
-   Put_Line ("no record " & Image (Do_Step (Tick (1 .. 0))));
+   Put ("no record " & Image (Do_Step (Tick (1 .. 0))));
+   Put_Line (" " & Image (Step (State'Address, State'Length, Null_Address, 0, Room'Address, Room'Length, Answer'Address, Answer'Length)));
+   Put ("no answer " & Image (Do_Count (3, 1, Null_Address, 0)));
+   Put (" " & Image (Callable (State'Address, State'Length, 3, Null_Address, 0)));
+   Put_Line (" " & Image (Running (State'Address, State'Length, Null_Address, 0)));
    Put ("untouched ");
    if Before = State
      and then Marked (State (State_Length + 1 .. State'Last))
