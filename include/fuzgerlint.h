@@ -1,8 +1,13 @@
 /* Fuzgerlint for C: an Ada 83 tasking supervisor whose state lies in bytes that the caller lends.
  *
- * Link target/staticlib/libcard.a (x86-64). Every function takes every input. A slice is a pointer and a number of bytes; the slices of
- * one call must not overlap. Each function but card_sound answers a refusal number, 0 for none. A refused call changes nothing but the
- * answer. Bytes behind those named here are left as they are.
+ * Link target/staticlib/libcard.a (x86-64); it needs memcpy and memmove of the program. A slice is a pointer and a number of bytes. The
+ * caller has to keep this; all else is taken:
+ *   a pointer points to as many bytes as are said; with 0 bytes it may be anything, NULL too;
+ *   the slices of one call do not overlap;
+ *   until a call has returned no other call uses the same state: who ticks from an interrupt masks it around each call;
+ *   what interrupts a call on the same stack leaves the 128 bytes below the stack pointer as they are.
+ * Each function but card_sound answers a refusal number, 0 for none. A refused call changes nothing but the answer. Bytes behind those
+ * named here are left as they are. docs/CARD.md has the layout of a state, and the stack that each function takes.
  */
 #ifndef FUZGERLINT_H
 #define FUZGERLINT_H
