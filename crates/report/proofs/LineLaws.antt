@@ -11,8 +11,9 @@ use borrow.Author.Tests.{lt-ltb, le-ltb}
 use Rattle.lists.proofs.ListLaws.{by-bool}
 use Rattle.calls.specs.Range.{Bytes}
 use Rattle.rules.specs.declared.Answer.{Answer}
+use Rattle.text.specs.Text.{spaced}
 use Rattle.text.proofs.Decimals.{decimal-short}
-use Rattle.report.specs.Lines.{header, spaced, barred, waits, lineText, longestLine}
+use Rattle.report.specs.Lines.{header, barred, waits, lineText, longestLine}
 
 -- no wait is left to print
 pub no-more : (room : List ℕ) (n : ℕ) → n ≤ 0 → waits n room ≡ []

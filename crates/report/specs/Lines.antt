@@ -6,16 +6,12 @@ use mathlib.Core.List.{List, [], _∷_, _++_}
 use lib.ListN.{length, getD, drop}
 use lib.Dec.{ltb}
 use Rattle.rules.specs.declared.Answer.{Answer}
-use Rattle.text.specs.Text.{decimal}
+use Rattle.text.specs.Text.{decimal, spaced}
 
 -- "step refusal result task entry partner next" and a line end
 unfoldable pub header : List ℕ
 header =
     115 ∷ 116 ∷ 101 ∷ 112 ∷ 32 ∷ 114 ∷ 101 ∷ 102 ∷ 117 ∷ 115 ∷ 97 ∷ 108 ∷ 32 ∷ 114 ∷ 101 ∷ 115 ∷ 117 ∷ 108 ∷ 116 ∷ 32 ∷ 116 ∷ 97 ∷ 115 ∷ 107 ∷ 32 ∷ 101 ∷ 110 ∷ 116 ∷ 114 ∷ 121 ∷ 32 ∷ 112 ∷ 97 ∷ 114 ∷ 116 ∷ 110 ∷ 101 ∷ 114 ∷ 32 ∷ 110 ∷ 101 ∷ 120 ∷ 116 ∷ 10 ∷ []
-
--- a space and a number
-unfoldable pub spaced : ℕ → List ℕ
-spaced n = 32 ∷ decimal n
 
 -- an ended wait: a space, a bar, and its task, result, entry and partner
 unfoldable pub barred : ℕ → ℕ → ℕ → ℕ → List ℕ

@@ -2,8 +2,8 @@
 // answer is the place behind it; room that is too short cuts it off.
 ghost use Prim.Native.Nat.{_≤_};
 ghost use lib.ListN.{length};
-ghost use Rattle.text.specs.Text.{Put};
-ghost use Rattle.report.specs.Lines.{header, spaced, barred, waits, lineText, longestLine};
+ghost use Rattle.text.specs.Text.{spaced, Put};
+ghost use Rattle.report.specs.Lines.{header, barred, waits, lineText, longestLine};
 use rules::Answer;
 use text::least;
 use text::put_byte;

@@ -17,8 +17,8 @@ use Rattle.calls.specs.declared.SelectMode.{SelectMode}
 use Rattle.calls.specs.declared.SelectMode.the-variants as S
 use Rattle.calls.specs.declared.Call as C
 use Rattle.calls.specs.declared.Call.the-variants.{Create, Delay, Call, Select, End, Finish, Tick, Advance}
-use Rattle.text.specs.Text.{decimal}
-use Rattle.script.specs.CallText.{spaced, spacedTime, entries, openText, callModeText, selectModeText, textOf}
+use Rattle.text.specs.Text.{decimal, spaced}
+use Rattle.script.specs.CallText.{spacedTime, entries, openText, callModeText, selectModeText, textOf}
 use Rattle.script.specs.Says.{Fits}
 use Rattle.script.specs.Guess.{fresh, grownOf, heardOf, hear, unseen, timeOf, guessBy, guessOf}
 use Rattle.script.specs.declared.guess.Word.{Word}

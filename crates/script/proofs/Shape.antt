@@ -17,9 +17,9 @@ use Rattle.calls.specs.declared.CallMode.{CallMode}
 use Rattle.calls.specs.declared.SelectMode.{SelectMode}
 use Rattle.calls.specs.declared.Call as C
 use Rattle.calls.specs.declared.Call.the-variants.{Create, Delay, Call, Select, End, Finish, Tick, Advance}
-use Rattle.text.specs.Text.{decimal}
+use Rattle.text.specs.Text.{decimal, spaced}
 use Rattle.text.proofs.Decimals.{decimal-short}
-use Rattle.script.specs.CallText.{spaced, spacedTime, entries, openText, callModeText, selectModeText, textOf}
+use Rattle.script.specs.CallText.{spacedTime, entries, openText, callModeText, selectModeText, textOf}
 use Rattle.script.specs.WordTable.{modeText}
 use Rattle.script.specs.Words.{isBlank, wordsFrom, wordsOf}
 use Rattle.script.specs.Says.{Fits}

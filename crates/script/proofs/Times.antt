@@ -13,8 +13,8 @@ use mir.Val.{SFits, toZ, ofZ}
 use mir.Facts.{toZ-neg, toZ-pos}
 use Rattle.calls.specs.Duration.{ticks}
 use Rattle.lists.proofs.Tests.{differ}
-use Rattle.text.specs.Text.{decimal}
-use Rattle.script.specs.CallText.{spaced, spacedTime}
+use Rattle.text.specs.Text.{decimal, spaced}
+use Rattle.script.specs.CallText.{spacedTime}
 
 -- a number below 0 from its distance, and one from 0 on
 pub below : (x : ℕ) → x < 2147483648 → toZ w32 (4294967295 - x) ≡ negsuc x

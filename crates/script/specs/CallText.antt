@@ -12,11 +12,7 @@ use Rattle.calls.specs.declared.SelectMode.the-variants as S
 use Rattle.calls.specs.declared.SelectMode.the-variants.{Plain, Else}
 use Rattle.calls.specs.declared.Call as C
 use Rattle.calls.specs.declared.Call.the-variants.{Create, Delay, Call, Select, End, Finish, Tick, Advance}
-use Rattle.text.specs.Text.{decimal}
-
--- a blank and a number
-unfoldable pub spaced : ℕ → List ℕ
-spaced n = 32 ∷ decimal n
+use Rattle.text.specs.Text.{decimal, spaced}
 
 -- a blank and a duration, with a minus in front where it is below 0
 unfoldable pub spacedTime : ℤ → List ℕ

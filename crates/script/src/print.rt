@@ -3,9 +3,9 @@
 ghost use mathlib.Core.Path.{_≡_};
 ghost use mathlib.Core.Bool.{cond};
 ghost use mathlib.Core.List.{_++_};
-ghost use Rattle.text.specs.Text.{Put};
+ghost use Rattle.text.specs.Text.{spaced, Put};
 ghost use Prim.Native.Nat.{_<_};
-ghost use Rattle.script.specs.CallText.{spaced, spacedTime, entry, entries, openText, textOf};
+ghost use Rattle.script.specs.CallText.{spacedTime, entry, entries, openText, textOf};
 ghost use Rattle.script.specs.WordTable.{wordOf, modeText};
 ghost use Rattle.script.specs.Rows.{Grown};
 ghost use Rattle.script.specs.Says.{Fits, recordOf};

@@ -19,8 +19,8 @@ use Rattle.rules.specs.Questions.{runningWhole}
 use Rattle.rules.specs.Whole.{stepWhole, steppedOf}
 use Rattle.rules.specs.declared.Stepped.{Stepped}
 use Rattle.report.specs.Lines.{lineText, longestLine}
-use Rattle.text.specs.Text.{Put, putAt}
-use Rattle.session.specs.Turn.{Turn, nextStep, refusedAnswer, took, left, leaves, turnBy, turnOf, turnedOf}
+use Rattle.text.specs.Text.{numberAfter, Put, putAt}
+use Rattle.session.specs.Turn.{Turn, refusedAnswer, took, left, leaves, turnBy, turnOf, turnedOf}
 use Rattle.session.specs.declared.turns.Session.{Session}
 use Rattle.session.specs.declared.turns.Turned.{Turned}
 use Rattle.session.specs.declared.turns.Next.the-variants.{Again, More, Stop}
@@ -54,7 +54,7 @@ module _ (s : Session) (n many : ℕ) (last : Bool) (room : List ℕ) where
 
 -- a call that was taken
 pub took-is : (s : Session) (c : C.Call) (k : ℕ) (room after : List ℕ) (r : Stepped) (step : ℕ)
-    → r ≡ steppedOf (stepWhole (s .state) c (length room)) → after ≡ roomAfter room (stepWhole (s .state) c (length room) .ended) → step ≡ nextStep (s .step)
+    → r ≡ steppedOf (stepWhole (s .state) c (length room)) → after ≡ roomAfter room (stepWhole (s .state) c (length room) .ended) → step ≡ numberAfter (s .step)
     → _≡_ {A = Turn}
     (record { session = record { state = r .state; step = step }; count = k; next = Again; text = lineText (s .step) (r .answer) after; room = after })
     (took s c k room)

@@ -1,6 +1,6 @@
 -- One turn of stepper: the record at the start of the input is read, its call taken, and its line printed.
 -- Assumes nothing.
-use Prim.Native.Nat.{ℕ, _+_, _%_}
+use Prim.Native.Nat.{ℕ}
 use mathlib.Core.Bool.{Bool, not, _&&_, cond}
 use mathlib.Core.List.{List, []}
 use lib.ListN.{length}
@@ -14,7 +14,7 @@ use Rattle.rules.specs.Step.{roomAfter}
 use Rattle.rules.specs.Whole.{Whole, stepWhole, answerOf}
 use Rattle.rules.specs.declared.Answer.{Answer}
 use Rattle.report.specs.Lines.{lineText}
-use Rattle.text.specs.Text.{behind}
+use Rattle.text.specs.Text.{numberAfter, behind}
 use Rattle.session.specs.declared.turns.Session.{Session}
 use Rattle.session.specs.declared.turns.Turned.{Turned}
 use Rattle.session.specs.declared.turns.Next.{Next}
@@ -28,10 +28,6 @@ pub record Turn : Type 0 where
   pub text : List ℕ
   pub room : List ℕ
 
--- the number of the line behind this one, in 64 bits
-abbrev pub nextStep : ℕ → ℕ
-nextStep n = (n + 1) % 18446744073709551616
-
 -- the answer to a record that is refused: the refusal, and the dispatched task
 abbrev pub refusedAnswer : ℕ → ℕ → Answer
 refusedAnswer n next = record { refusal = n; result = 0; task = 0; entry = 0; partner = 0; ended = 0; next = next }
@@ -42,7 +38,7 @@ took s c k room =
     let w : Whole = stepWhole (s .state) c (length room) in
     let after : List ℕ = roomAfter room (w .ended) in
     record {
-      session = record { state = w .state; step = nextStep (s .step) };
+      session = record { state = w .state; step = numberAfter (s .step) };
       count = k;
       next = Again;
       text = lineText (s .step) (answerOf w) after;

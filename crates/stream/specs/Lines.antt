@@ -1,12 +1,13 @@
 -- The lines of the input.
 -- Assumes nothing.
-use Prim.Native.Nat.{ℕ, _+_, _-_, _%_}
+use Prim.Native.Nat.{ℕ, _+_, _-_}
 use mathlib.Core.Path.{_≡_}
 use mathlib.Core.Bool.{Bool, true, false, _&&_, _||_, cond}
 use mathlib.Core.List.{List}
 use lib.ListN.{length}
 use lib.Dec.{eqb, ltb}
 use Rattle.bytes.specs.Bytes.{indexOf, slice}
+use Rattle.text.specs.Text.{numberAfter}
 use Rattle.stream.specs.Windows.{noFlow, movedTo, endIn, startIn, Grown}
 use Rattle.stream.specs.declared.line.Kind.{Kind}
 use Rattle.stream.specs.declared.line.Kind.the-variants.{Line, Rest, Long, More, Over}
@@ -40,14 +41,10 @@ frontOf l b =
     let w : Window = l .flow .window in
     record { from = startIn w b; to = stopIn w b; kind = kindOf (wholeIn w b) (l .skips) (w .last) (fillsIn w b) }
 
--- one more, in 64 bits
-abbrev pub next : ℕ → ℕ
-next n = (n + 1) % 18446744073709551616
-
 -- the number of the line that comes behind
 abbrev pub numberBehind : Kind → ℕ → ℕ
-numberBehind Line n = next n
-numberBehind Rest n = next n
+numberBehind Line n = numberAfter n
+numberBehind Rest n = numberAfter n
 numberBehind Long n = n
 numberBehind More n = n
 numberBehind Over n = n
@@ -62,8 +59,8 @@ skipsBehind Over skips = skips
 
 -- the window behind: past a line and its line end, past what fills the buffer, or what stood there with what came
 abbrev pub WindowBehind : Kind → ℕ → Window → List ℕ → Window → List ℕ → Type 0
-WindowBehind Line stop w b w′ b′ = w′ ≡ movedTo w (next stop)
-WindowBehind Rest stop w b w′ b′ = w′ ≡ movedTo w (next stop)
+WindowBehind Line stop w b w′ b′ = w′ ≡ movedTo w (numberAfter stop)
+WindowBehind Rest stop w b w′ b′ = w′ ≡ movedTo w (numberAfter stop)
 WindowBehind Long stop w b w′ b′ = w′ ≡ movedTo w stop
 WindowBehind More stop w b w′ b′ = Grown w b w′ b′
 WindowBehind Over stop w b w′ b′ = w′ ≡ w

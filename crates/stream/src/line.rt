@@ -4,7 +4,8 @@ ghost use Prim.Native.Nat.{_≤_};
 ghost use mathlib.Core.Path.{_≡_};
 ghost use lib.ListN.{length};
 ghost use mathlib.Core.Bool.{true, false};
-ghost use Rattle.stream.specs.Lines.{noLines, kindOf, frontOf, next, numberBehind, skipsBehind, WindowBehind};
+ghost use Rattle.text.specs.Text.{numberAfter};
+ghost use Rattle.stream.specs.Lines.{noLines, kindOf, frontOf, numberBehind, skipsBehind, WindowBehind};
 ghost use Rattle.stream.specs.Windows.{movedTo, Grown};
 use crate::errors::tell_long;
 use crate::flow::Flow;
@@ -83,8 +84,8 @@ pub fn front(l: Lines, buf: &[u8]) -> Piece
 
 // Behind a line or the rest of one, with output up to `place`.
 fn ended(l: Lines, stop: usize, place: usize, out: &[u8]) -> Lines
-    ensures { λ r. ⌜ (r .number ≡ next (l .number)) × (r .skips ≡ false) ⌝ }
-    ensures { λ r. ⌜ r .flow .window ≡ movedTo (l .flow .window) (next stop) ⌝ }
+    ensures { λ r. ⌜ (r .number ≡ numberAfter (l .number)) × (r .skips ≡ false) ⌝ }
+    ensures { λ r. ⌜ r .flow .window ≡ movedTo (l .flow .window) (numberAfter stop) ⌝ }
 {
     let next = std::num::wrapping_add_usize(stop, 1);
     let mut n = l;

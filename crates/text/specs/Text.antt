@@ -17,6 +17,14 @@ spelled (suc k) n = cond (ltb n 10) ((48 + n) ∷ []) (spelled k (n / 10) ++ ((4
 unfoldable pub decimal : ℕ → List ℕ
 decimal n = spelled (suc n) n
 
+-- a blank and a number
+unfoldable pub spaced : ℕ → List ℕ
+spaced n = 32 ∷ decimal n
+
+-- the number behind n, in 64 bits
+abbrev pub numberAfter : ℕ → ℕ
+numberAfter n = (n + 1) % 18446744073709551616
+
 -- a row with text over its bytes from `at` on; every other byte stays, and what does not fit the row is left out
 abbrev pub putAt : List ℕ → ℕ → List ℕ → List ℕ
 putAt [] at text = []

@@ -1,5 +1,5 @@
 use Rattle.text.proofs.Puts.{then-put}
-use Rattle.report.specs.Lines.{spaced}
+use Rattle.text.specs.Text.{spaced}
 use borrow.Author.Needs.{needs}
 use Rattle.report.proofs.put_spaced.Statement.{statement}
 use Rattle.report.proofs.put_spaced.Tie as tie

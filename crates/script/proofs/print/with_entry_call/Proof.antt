@@ -1,4 +1,5 @@
-use Rattle.script.specs.CallText.{spaced, callModeText, textOf}
+use Rattle.script.specs.CallText.{callModeText, textOf}
+use Rattle.text.specs.Text.{spaced}
 use Rattle.script.proofs.Growing.{same-grown, then-grown}
 use Rattle.script.proofs.Modes.{call-mode-text}
 use Prim.Native.Nat.{ℕ}

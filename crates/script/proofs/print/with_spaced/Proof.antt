@@ -1,4 +1,4 @@
-use Rattle.script.specs.CallText.{spaced}
+use Rattle.text.specs.Text.{spaced}
 use Rattle.script.proofs.Growing.{then-grown}
 use borrow.Author.Needs.{needs}
 use Rattle.script.proofs.print.with_spaced.Statement.{statement}

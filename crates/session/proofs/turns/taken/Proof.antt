@@ -1,5 +1,6 @@
 use mathlib.Core.Path.{_≡_, ap}
-use Rattle.session.specs.Turn.{Turn, nextStep}
+use Rattle.session.specs.Turn.{Turn}
+use Rattle.text.specs.Text.{numberAfter}
 use Rattle.session.proofs.TurnLaws.{took-is, says}
 use borrow.Author.Needs.{needs}
 use Rattle.session.proofs.turns.taken.Statement.{statement}
@@ -7,7 +8,7 @@ use Rattle.session.proofs.turns.taken.Tie as tie
 
 -- the number of the next line
 abbrev Numbered : tie.After-wrapping-add-u64 → Type 0
-Numbered c = c .wrapping-add-u64 .result ≡ nextStep (c .before .before .before .before .before .before .before .before .before .before .before .before .before .before .args .s .step)
+Numbered c = c .wrapping-add-u64 .result ≡ numberAfter (c .before .before .before .before .before .before .before .before .before .before .before .before .before .before .args .s .step)
 
 numbered : (c : tie.After-wrapping-add-u64) → Numbered c
 numbered c = c .wrapping-add-u64 .ensures
