@@ -20,6 +20,7 @@ use codec::put_at;
 use codec::state_in;
 use codec::store;
 use rules::Answer;
+use supervisor::refused_answer;
 
 // 1 for yes, 0 for no.
 fn flag(yes: bool) -> u8
@@ -51,21 +52,6 @@ pub extern "C" fn card_sound(state: &[u8]) -> u8
     flag(supervisor::sound(s))
 }
 
-// A record that cannot be read: every number but the refusal is 0.
-fn unread(refusal: u8) -> Answer
-    ensures { λ r. ⌜ r ≡ record { refusal = refusal; result = 0; task = 0; entry = 0; partner = 0; ended = 0; next = 0 } ⌝ }
-{
-    Answer {
-        refusal,
-        result: 0,
-        task: 0,
-        entry: 0,
-        partner: 0,
-        ended: 0,
-        next: 0,
-    }
-}
-
 // One call on lent bytes.
 fn take_call(state: &mut [u8], c: Call, room: &mut [u8]) -> Answer
     ensures { λ r. ⌜ r ≡ answerOf (stepWhole (stateIn (now (state .entry))) c (length (now (room .entry)))) ⌝ }
@@ -91,8 +77,8 @@ fn take_record(state: &mut [u8], record: &[u8], room: &mut [u8]) -> Answer
     let read = calls::read_record(record);
     match read {
         Read::Record { call, count: _ } => take_call(state, call, room),
-        Read::BadRecord => unread(BAD_RECORD),
-        Read::EndOfLog => unread(END_OF_LOG),
+        Read::BadRecord => refused_answer(BAD_RECORD, 0),
+        Read::EndOfLog => refused_answer(END_OF_LOG, 0),
     }
 }
 

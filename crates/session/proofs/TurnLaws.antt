@@ -18,9 +18,10 @@ use Rattle.rules.specs.Step.{roomAfter}
 use Rattle.rules.specs.Questions.{runningWhole}
 use Rattle.rules.specs.Whole.{stepWhole, steppedOf}
 use Rattle.rules.specs.declared.Stepped.{Stepped}
+use Rattle.supervisor.specs.Taken.{refusedAnswer}
 use Rattle.report.specs.Lines.{lineText, longestLine}
 use Rattle.text.specs.Text.{numberAfter, Put, putAt}
-use Rattle.session.specs.Turn.{Turn, refusedAnswer, took, left, leaves, turnBy, turnOf, turnedOf}
+use Rattle.session.specs.Turn.{Turn, took, left, leaves, turnBy, turnOf, turnedOf}
 use Rattle.session.specs.declared.turns.Session.{Session}
 use Rattle.session.specs.declared.turns.Turned.{Turned}
 use Rattle.session.specs.declared.turns.Next.the-variants.{Again, More, Stop}

@@ -12,7 +12,7 @@ use Rattle.calls.specs.Reading.{END-OF-LOG, readOf, refusalOf}
 use Rattle.rules.specs.Questions.{runningWhole}
 use Rattle.rules.specs.Step.{roomAfter}
 use Rattle.rules.specs.Whole.{Whole, stepWhole, answerOf}
-use Rattle.rules.specs.declared.Answer.{Answer}
+use Rattle.supervisor.specs.Taken.{refusedAnswer}
 use Rattle.report.specs.Lines.{lineText}
 use Rattle.text.specs.Text.{numberAfter, behind}
 use Rattle.session.specs.declared.turns.Session.{Session}
@@ -27,10 +27,6 @@ pub record Turn : Type 0 where
   pub next : Next
   pub text : List ℕ
   pub room : List ℕ
-
--- the answer to a record that is refused: the refusal, and the dispatched task
-abbrev pub refusedAnswer : ℕ → ℕ → Answer
-refusedAnswer n next = record { refusal = n; result = 0; task = 0; entry = 0; partner = 0; ended = 0; next = next }
 
 -- a call is taken: its record's bytes are consumed, and its line is printed
 unfoldable pub took : Session → C.Call → ℕ → List ℕ → Turn

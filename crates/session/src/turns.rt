@@ -5,13 +5,12 @@ ghost use lib.ListN.{length};
 ghost use Rattle.calls.specs.Reading.{refusalOf};
 ghost use Rattle.report.specs.Lines.{longestLine};
 ghost use Rattle.text.specs.Text.{putAt};
-ghost use Rattle.session.specs.Turn.{refusedAnswer, turnOf, turnedOf, took, leaves};
+ghost use Rattle.session.specs.Turn.{turnOf, turnedOf, took, leaves};
 use calls::Call;
 use calls::Read;
 use calls::numbers::BAD_RECORD;
 use calls::numbers::END_OF_LOG;
 use report::put_line;
-use rules::Answer;
 use rules::Supervisor;
 
 // A log on its way: the supervisor, and the number of the next line.
@@ -69,21 +68,6 @@ fn refusal_of(got: Read) -> u8
     }
 }
 
-// The answer to a record that is refused, where `next` is the dispatched task.
-fn refused_answer(n: u8, next: u8) -> Answer
-    ensures { λ r. ⌜ r ≡ refusedAnswer n next ⌝ }
-{
-    Answer {
-        refusal: n,
-        result: 0,
-        task: 0,
-        entry: 0,
-        partner: 0,
-        ended: 0,
-        next,
-    }
-}
-
 // No record: more bytes are asked for, the log is over, or a last line says what is wrong.
 fn refused(
     s: Session,
@@ -115,7 +99,7 @@ fn refused(
         };
     }
     let k = supervisor::running(s.state);
-    let answer = refused_answer(n, k.task);
+    let answer = supervisor::refused_answer(n, k.task);
     let place = put_line(s.step, answer, room, out, at);
     Turned {
         session: s,

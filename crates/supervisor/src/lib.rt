@@ -18,7 +18,7 @@ ghost use Rattle.rules.specs.Questions.{countWhole, callableWhole, runningWhole
 ghost use Rattle.rules.specs.Step.{takeCall, roomAfter};
 ghost use Rattle.rules.specs.State as state;
 ghost use Rattle.rules.specs.Whole.{steppedOf, view, pack, soundWhole, stepWhole};
-ghost use Rattle.supervisor.specs.Taken.{Stands, takenOf, endedBy};
+ghost use Rattle.supervisor.specs.Taken.{Stands, takenOf, endedBy, refusedAnswer};
 use answers::Taken;
 use calls::Call;
 use calls::numbers::SHORT_ROOM;
@@ -66,21 +66,18 @@ fn is_short(n: usize) -> bool
     n < 124
 }
 
-// The step is refused before the call is looked at.
-fn declined(s: Supervisor, n: u8) -> Stepped
-    ensures { λ r. ⌜ r ≡ record { state = s; answer = record { refusal = n; result = 0; task = 0; entry = 0; partner = 0; ended = 0; next = 0 } } ⌝ }
+// The answer of a call or record that is refused, where `next` is the dispatched task.
+pub fn refused_answer(n: u8, next: u8) -> Answer
+    ensures { λ r. ⌜ r ≡ refusedAnswer n next ⌝ }
 {
-    Stepped {
-        state: s,
-        answer: Answer {
-            refusal: n,
-            result: 0,
-            task: 0,
-            entry: 0,
-            partner: 0,
-            ended: 0,
-            next: 0,
-        },
+    Answer {
+        refusal: n,
+        result: 0,
+        task: 0,
+        entry: 0,
+        partner: 0,
+        ended: 0,
+        next,
     }
 }
 
@@ -90,10 +87,12 @@ pub fn step(s: Supervisor, c: Call, room: &mut [u8]) -> Stepped
     ensures room { λ r. ⌜ now (room .exit) ≡ roomAfter (now (room .entry)) (stepWhole s c (length (now (room .entry))) .ended) ⌝ }
 {
     if is_short(room.len()) {
-        return declined(s, SHORT_ROOM);
+        let answer = refused_answer(SHORT_ROOM, 0);
+        return Stepped { state: s, answer };
     }
     if !is_sound(s) {
-        return declined(s, BAD_STATE);
+        let answer = refused_answer(BAD_STATE, 0);
+        return Stepped { state: s, answer };
     }
     let k = take_call(s, c, room);
     let after = k.state;

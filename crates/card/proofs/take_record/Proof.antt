@@ -22,7 +22,7 @@ returns-2 c =
     let b = now (a .state) in
     let n = length (now (a .room)) in
     let p = step-by b (now (a .«record»)) n _ (c .before .before .before .read-record .ensures .0) ∙ ap (stepBy (stateIn b) n) (c .before .enum-told .given .1) in
-    did-as b (now (a .room)) _ _ _ _ _ p (c .unread .ensures, (refl, refl))
+    did-as b (now (a .room)) _ _ _ _ _ p (c .refused-answer .ensures, (refl, refl))
 
 returns-3 : tie.Need-returns-3
 returns-3 c =
@@ -30,7 +30,7 @@ returns-3 c =
     let b = now (a .state) in
     let n = length (now (a .room)) in
     let p = step-by b (now (a .«record»)) n _ (c .before .before .before .read-record .ensures .0) ∙ ap (stepBy (stateIn b) n) (c .before .enum-told2 .given .1) in
-    did-as b (now (a .room)) _ _ _ _ _ p (c .unread2 .ensures, (refl, refl))
+    did-as b (now (a .room)) _ _ _ _ _ p (c .refused-answer2 .ensures, (refl, refl))
 
 pub take-record-spec : {M : Type 1} → statement M
 take-record-spec =

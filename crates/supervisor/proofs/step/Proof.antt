@@ -38,14 +38,14 @@ returns : tie.Need-returns
 returns c =
     let r = c .before .before in
     let a = r .before .before .args in
-    by-whole _ _ (step-short (a .s) (a .c) (length (a .room .now)) (sym (r .is-short .ensures) ∙ c .before .if1 .taken)) (c .declined .ensures) refl
+    by-whole _ _ (step-short (a .s) (a .c) (length (a .room .now)) (sym (r .is-short .ensures) ∙ c .before .if1 .taken)) (λ i. record { state = a .s; answer = c .refused-answer .ensures i }) refl
 
 returns-2 : tie.Need-returns-2
 returns-2 c =
     let k = c .before .before in
     let e1 = k .before in
     let a = e1 .before .before .before .args in
-    by-whole _ _ (step-unsound (a .s) (a .c) (length (a .room .now)) (room-here e1) (sym (k .is-sound .ensures) ∙ not-true _ (c .before .if2 .taken))) (c .declined2 .ensures) refl
+    by-whole _ _ (step-unsound (a .s) (a .c) (length (a .room .now)) (room-here e1) (sym (k .is-sound .ensures) ∙ not-true _ (c .before .if2 .taken))) (λ i. record { state = a .s; answer = c .refused-answer2 .ensures i }) refl
 
 take-call-requires : tie.Need-take-call-requires
 take-call-requires c κs = (stands-here (c .before), ltb-false _ 124 (room-here (c .before .before .before)))
