@@ -25,7 +25,6 @@ use Rattle.table.proofs.queues.picked.Reads as picked
 use Rattle.table.proofs.tasks.blank_task.Reads as blank-task
 use Rattle.table.proofs.tasks.fresh_task.Reads as fresh-task
 use Rattle.table.proofs.tasks.placed_at.Reads as placed-at
-use Rattle.table.proofs.tasks.is_number.Reads as is-number
 use Rattle.table.proofs.tasks.index_of.Reads as index-of
 use Rattle.table.proofs.tasks.shown.Reads as shown
 use Rattle.table.proofs.tasks.left_of.Reads as left-of
@@ -110,9 +109,6 @@ fresh-task-once κs x r r′ y y′ p q = p ∙ sym q
 
 pub placed-at-once : Once placed-at.Post
 placed-at-once κs x r r′ y y′ p q = p ∙ sym q
-
-pub is-number-once : Once is-number.Post
-is-number-once κs x r r′ y y′ p q = p ∙ sym q
 
 pub index-of-once : Once index-of.Post
 index-of-once κs x r r′ y y′ p q = p .0 ∙ sym (q .0)

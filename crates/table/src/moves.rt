@@ -5,13 +5,13 @@ ghost use Rattle.lists.specs.Marks.{noMarks, marked};
 ghost use Rattle.rules.specs.State.{retime};
 ghost use Rattle.rules.specs.Whole.{view};
 ghost use Rattle.table.specs.Moved.{movedOf, readiedOf, wokenOf, metOf, partedOf, leftOf, readiedTask};
+use super::place::is_between;
 use super::place::is_held;
 use super::place::is_queued;
 use super::place::is_ready;
 use super::place::ticks_left;
 use super::tasks::fresh_task;
 use super::tasks::index_of;
-use super::tasks::is_number;
 use super::tasks::left_of;
 use super::tasks::placed_at;
 use super::tasks::shown;
@@ -80,7 +80,7 @@ pub fn moved(s: Supervisor, t: u8, p: Place, w: Timer) -> Supervisor
 fn readied_task(n: u8, t: u8, k: Task) -> Task
     ensures { λ r. ⌜ r ≡ readiedTask n t k ⌝ }
 {
-    if is_number(t) {
+    if is_between(t, 31) {
         let x = shown(n, t, k);
         fresh_task(x.priority, x.entries)
     } else {

@@ -4,7 +4,8 @@ ghost use mathlib.Core.Path.{_≡_};
 ghost use Rattle.rules.specs.State.{blank, taskOf, fresh, placed, ticksLeft};
 ghost use Rattle.rules.specs.Whole.{view};
 ghost use Rattle.table.specs.Moved.{withTask};
-ghost use Rattle.table.specs.Numbers.{isNumber, indexOf, shownOf};
+ghost use Rattle.table.specs.Numbers.{indexOf, shownOf};
+use super::place::is_between;
 use super::place::ticks_left;
 use rules::Place;
 use rules::Supervisor;
@@ -45,25 +46,22 @@ pub fn placed_at(x: Task, p: Place, w: Timer) -> Task
     }
 }
 
-// Whether t is one of the numbers that tasks have.
-pub fn is_number(t: u8) -> bool
-    ensures { λ r. ⌜ r ≡ isNumber t ⌝ }
-{
-    (0 < t) & (t <= 31)
-}
-
 // Where task t stands in the table; 0 where t is no task's number.
 pub fn index_of(t: u8) -> usize
     ensures { λ r. ⌜ (r ≡ indexOf t) × (r < 31) ⌝ }
 {
-    if is_number(t) { (t - 1) as usize } else { 0 }
+    if is_between(t, 31) {
+        (t - 1) as usize
+    } else {
+        0
+    }
 }
 
 // Of n tasks, task t, where k is what stands at its place in the table; a blank one where t is the number of none.
 pub fn shown(n: u8, t: u8, k: Task) -> Task
     ensures { λ r. ⌜ r ≡ shownOf n t k ⌝ }
 {
-    if is_number(t) & (t <= n) {
+    if is_between(t, 31) & (t <= n) {
         k
     } else {
         blank_task()
@@ -92,7 +90,7 @@ pub fn with_task(s: Supervisor, t: u8, x: Task) -> Supervisor
     ensures { λ r. ⌜ r ≡ withTask s t x ⌝ }
 {
     let mut n = s;
-    if is_number(t) {
+    if is_between(t, 31) {
         let at = (t - 1) as usize;
         n.tasks[at] = x;
     }

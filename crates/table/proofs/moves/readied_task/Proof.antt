@@ -15,10 +15,10 @@ returns c =
     let b = c .before .before in
     let a = b .before .before .args in
     c .fresh-task .ensures ∙ ap (λ (y : Task). fresh (y .priority) (y .entries)) (c .before .shown .ensures)
-    ∙ ap (λ (n : Bool). if n then placed (shownOf (a .n) (a .t) (a .k)) Ready Off else a .k) (sym (b .if1 .taken) ∙ b .before .is-number .ensures)
+    ∙ ap (λ (n : Bool). if n then placed (shownOf (a .n) (a .t) (a .k)) Ready Off else a .k) (sym (b .if1 .taken) ∙ b .before .is-between .ensures)
 
 returns-2 : tie.Need-returns-2
-returns-2 c = rw (sym (c .before .is-number .ensures) ∙ c .if1 .left)
+returns-2 c = rw (sym (c .before .is-between .ensures) ∙ c .if1 .left)
 
 pub readied-task-spec : {M : Type 1} → statement M
 readied-task-spec = tie.close (tie.spec (λ c κs. search needs) (λ c κs. search needs) (λ c κs. search needs) returns returns-2)

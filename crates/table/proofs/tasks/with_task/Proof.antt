@@ -11,7 +11,7 @@ use Rattle.table.proofs.tasks.with_task.Statement.{statement}
 use Rattle.table.proofs.tasks.with_task.Tie as tie
 
 number-here : (c : tie.Then1) → (1 ≤ c .before .before .args .t) × (c .before .before .args .t ≤ 31)
-number-here c = between (c .before .before .args .t) 31 (sym (c .before .is-number .ensures) ∙ c .if1 .taken)
+number-here c = between (c .before .before .args .t) 31 (sym (c .before .is-between .ensures) ∙ c .if1 .taken)
 
 -- task t is x
 tasks-here : Field (need tie.Need-returns) (λ s. s .tasks)
@@ -36,7 +36,7 @@ returns-2 : tie.Need-returns-2
 returns-2 c =
     let a = c .before .before .args in
     let l : length (a .s .tasks) ≡ 31 = search (needs, mapped-long) in
-    with-out (a .s) (a .t) (a .x) l (sym (c .before .is-number .ensures) ∙ c .if1 .left)
+    with-out (a .s) (a .t) (a .x) l (sym (c .before .is-between .ensures) ∙ c .if1 .left)
 
 pub with-task-spec : {M : Type 1} → statement M
 with-task-spec =
