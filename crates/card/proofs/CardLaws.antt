@@ -21,7 +21,7 @@ use Rattle.rules.specs.declared.Count.{Count}
 use Rattle.rules.specs.declared.Stepped.{Stepped}
 use Rattle.rules.specs.declared.Supervisor.{Supervisor}
 use Rattle.codec.specs.Layout.{stateIn, stored}
-use Rattle.codec.proofs.CodecLaws.{if-true, if-false}
+use Rattle.lists.proofs.Tests.{if-true, if-false}
 use Rattle.card.specs.Answers.{stepBy, cardStep, stateAfter, answerBytes, ifRoom, oneAfter}
 
 -- the first byte of lent bytes is set

@@ -10,7 +10,7 @@ use Rattle.calls.specs.declared.Call as C
 use Rattle.calls.specs.declared.Read.the-variants.{Record}
 use Rattle.rules.specs.Whole.{soundWhole, stepWhole}
 use Rattle.codec.specs.Layout.{isEncoding, stateIn}
-use Rattle.codec.proofs.CodecLaws.{if-true, if-false}
+use Rattle.lists.proofs.Tests.{if-true, if-false}
 use Rattle.codec.proofs.Kept.{no-encoding}
 use Rattle.card.specs.Answers.{cardStep}
 use Rattle.card.proofs.CardLaws.{step-by}

@@ -1,7 +1,7 @@
 -- Pieces put one behind the other, and tasks read one behind the other. Assumes nothing.
 use Prim.Native.Nat.{ℕ, suc, _+_, _-_, _*_, _<_, _≤_}
 use mathlib.Core.Path.{_≡_, refl, sym, ap, _∙_}
-use mathlib.Core.Bool.{Bool, true, false, _&&_}
+use mathlib.Core.Bool.{Bool, _&&_}
 use mathlib.Core.List.{List, [], _∷_, _++_, append-assoc, append-nil}
 use native.Mathlib.Numerals.{add-one}
 use native.Mathlib.Nat.{add-zero, zero-add}
@@ -15,15 +15,6 @@ use Rattle.calls.specs.Duration.{bytesOf}
 use Rattle.rules.specs.declared.Task.{Task}
 use Rattle.rules.specs.declared.Supervisor.{Supervisor}
 use Rattle.codec.specs.Layout.{taskBytes, tasksBytes, encode, isTask, taskFrom, areTasks, tasksFrom, isEncoding, decode, lost, stateIn, putAt, placedAt, placedLines, stored}
-
--- the choice of a test that is known
-pub if-true : {A : Type 0} (b : Bool) (x y : A) → b ≡ true → (if b then x else y) ≡ x
-if-true true x y e = refl
-if-true false x y e = let z : _≡_ {A = ℕ} 0 1 = cc in absurd (omega arith)
-
-pub if-false : {A : Type 0} (b : Bool) (x y : A) → b ≡ false → (if b then x else y) ≡ y
-if-false true x y e = let z : _≡_ {A = ℕ} 0 1 = cc in absurd (omega arith)
-if-false false x y e = refl
 
 -- ── pieces put one behind the other ──
 

@@ -7,7 +7,7 @@ use native.Mathlib.Omega.{arith}
 use borrow.Author.Tests.{le-leb}
 use lib.ListN.{length, take, drop, length-append}
 use lib.Seq.{take-at, drop-at}
-use Rattle.lists.proofs.Tests.{and-both}
+use Rattle.lists.proofs.Tests.{and-both, if-true, if-false}
 use Rattle.calls.specs.Duration.{four, bytesOf}
 use Rattle.calls.proofs.Round.{four-back}
 use Rattle.rules.specs.Whole.{soundWhole}
@@ -19,7 +19,7 @@ use Rattle.rules.specs.declared.Place.the-variants.{Blank, Ready, Delayed, Queu
 use Rattle.rules.specs.declared.Supervisor.{Supervisor}
 use Rattle.rules.specs.State.{entryOf}
 use Rattle.codec.specs.Layout.{placeTag, placeFirst, timerTag, timerDue, taskBytes, tasksBytes, encode, isPlace, isTimer, placeFrom, timerFrom, isTask, taskFrom, areTasks, tasksFrom, isEncoding, decode, lost, stateIn}
-use Rattle.codec.proofs.CodecLaws.{if-true, if-false, tasks-long}
+use Rattle.codec.proofs.CodecLaws.{tasks-long}
 
 -- ── a task ──
 

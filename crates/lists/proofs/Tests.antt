@@ -1,4 +1,4 @@
--- The way that control came; the parts of an `and`, of an `or`; what a contradiction gives (ListLaws has the laws of single tests).
+-- The way that control came; the parts of an `and`, of an `or`; the choice by a test, and a test as a number; what a contradiction gives (ListLaws has the laws of single tests).
 -- The laws that only compute, as that of an `and` with `false`, are the library's: and-true, and-false, and-assoc of mathlib.Core.Bool.
 -- Assumes nothing.
 use Prim.Native.Nat.{ℕ, zero, suc, _≤_, _<_}
@@ -11,7 +11,7 @@ use lib.Dec.{ltb, leb}
 use lib.ListN.{getD}
 use borrow.Author.Tests.{ltb-true, leb-true}
 use mir.Val.{boolByte}
-use Rattle.lists.specs.Lists.{bit}
+use Rattle.lists.specs.Lists.{if_then_else_, bit}
 
 -- by cases on the way that control came: the sum first, so that antt knows each way's facts
 pub ways : {A B G : Type 0} → A ⊎ B → (A → G) → (B → G) → G
@@ -80,7 +80,20 @@ pub or-right : (a b : Bool) → b ≡ true → (a || b) ≡ true
 or-right true b h = refl
 or-right false b h = h
 
--- a test as a number: the machine's byte is the definitions' bit
+-- the choice of a test that is known
+pub if-true : {A : Type 0} (b : Bool) (x y : A) → b ≡ true → (if b then x else y) ≡ x
+if-true true x y e = refl
+if-true false x y e = differ (sym e)
+
+pub if-false : {A : Type 0} (b : Bool) (x y : A) → b ≡ false → (if b then x else y) ≡ y
+if-false true x y e = differ e
+if-false false x y e = refl
+
+-- a test as a number: at most 1, and the machine's byte is the definitions' bit
+pub bit-le : (b : Bool) → bit b ≤ 1
+bit-le true = omega arith
+bit-le false = omega arith
+
 pub byte-bit : (b : Bool) → boolByte b ≡ bit b
 byte-bit true = refl
 byte-bit false = refl

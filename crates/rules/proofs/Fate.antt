@@ -29,10 +29,10 @@ use Rattle.calls.specs.declared.SelectMode.the-variants.{Plain, Else}
 use Rattle.calls.specs.declared.SelectMode.the-variants as S
 use Rattle.calls.specs.declared.Call as C
 use Rattle.calls.specs.declared.Call.the-variants.{Create, Delay, Call, Select, End, Finish, Tick, Advance}
-use Rattle.lists.proofs.Tests.{no, between}
+use Rattle.lists.proofs.Tests.{no, between, bit-le}
 use Rattle.lists.proofs.ListLaws.{by-eq, by-bool, by-test, by-member, not-in, count-append, count-filter-le}
 use Rattle.rules.proofs.Invariant.{Sound}
-use Rattle.rules.proofs.Members.{bit-le, of-queue, queued-there, of-held, held-there, last-in, nth-beyond, Runs}
+use Rattle.rules.proofs.Members.{of-queue, queued-there, of-held, held-there, last-in, nth-beyond, Runs}
 use Rattle.rules.proofs.MoveLaws.{Alike, alike, alike-trans, place-same, place-other, meet-same, meet-other, part-same, part-other, task-same, task-other, length-move}
 use Rattle.rules.specs.Step.{failed, expiry, WAITS, SERVED, TASKING-ERROR, ACCEPTED, DONE}
 use Rattle.rules.specs.Runs.{isWaiting, reasons, duration, ticksOf}

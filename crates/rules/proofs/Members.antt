@@ -48,10 +48,6 @@ ready-is (Held m) e = cc
 ready-is (Accepting o) e = cc
 ready-is Completed e = cc
 
-pub bit-le : (b : Bool) → bit b ≤ 1
-bit-le true = omega arith
-bit-le false = omega arith
-
 pub bit-true : (b : Bool) → 0 < bit b → b ≡ true
 bit-true true h = refl
 bit-true false h = absurd (omega arith)

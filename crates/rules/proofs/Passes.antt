@@ -14,10 +14,10 @@ use Rattle.rules.specs.declared.Item.{Item}
 use Rattle.rules.specs.declared.Task.{Task}
 use Rattle.rules.specs.declared.Timer.the-variants.{Off, Due}
 use Rattle.rules.specs.declared.Place.the-variants.{Ready}
-use Rattle.lists.proofs.Tests.{no}
+use Rattle.lists.proofs.Tests.{no, bit-le}
 use Rattle.lists.proofs.ListLaws.{by-eq, by-bool, by-member, count-filter-yes, count-filter-le}
 use Rattle.rules.proofs.Invariant.{InTime, Sound}
-use Rattle.rules.proofs.Members.{bit-le, in-filter, timed-there}
+use Rattle.rules.proofs.Members.{in-filter, timed-there}
 use Rattle.rules.proofs.StepSound.{tick-kept, due-is, wakeAll-in, wakeAll-out}
 
 -- ── lists of items ──

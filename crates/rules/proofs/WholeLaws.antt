@@ -19,10 +19,10 @@ use Rattle.rules.specs.Whole.{Typed, view, pack, isBlank, isOff, unused,
 use Rattle.rules.specs.declared.Supervisor.{Supervisor}
 use Rattle.calls.specs.declared.Call as C
 use Rattle.rules.specs.declared.Task.{Task}
-use Rattle.lists.proofs.Tests.{each}
+use Rattle.lists.proofs.Tests.{each, bit-le}
 use Rattle.lists.proofs.ListLaws.{by-bool, every-alike, at-most}
 use Rattle.rules.proofs.Invariant.{Sound}
-use Rattle.rules.proofs.Members.{bit-le, nth-beyond}
+use Rattle.rules.proofs.Members.{nth-beyond}
 use Rattle.rules.specs.declared.Place.{Place}
 use Rattle.rules.specs.declared.Place.the-variants.{Blank, Ready, Delayed, Queued, Held, Accepting, Completed}
 use Rattle.rules.specs.declared.Timer.{Timer}

@@ -2,7 +2,7 @@
 -- Assumes nothing.
 use Prim.Native.Nat.{ℕ, zero, suc, _+_, _-_, _^_, _≤_, _<_}
 use mathlib.Core.Path.{_≡_, refl, sym, ap, _∙_}
-use mathlib.Core.Bool.{Bool, true, false, _&&_, and-false, and-assoc}
+use mathlib.Core.Bool.{Bool, true, false, _&&_, and-true, and-false, and-assoc}
 use mathlib.Core.List.{List, [], _∷_}
 use native.Mathlib.Omega.{arith}
 use lib.Dec.{eqb, ltb, leb}
@@ -16,7 +16,7 @@ use Rattle.rules.specs.Whole.{view}
 use Rattle.rules.specs.declared.Supervisor.{Supervisor}
 use Rattle.soundness.specs.Marks.{Marks, Whole, noMarks, hasMark, nextMark, withoutMark, isNone}
 use Rattle.soundness.specs.Check.{Line, Ready, Callers, Held, Delays, belongs, marked, markedIn, walked, holdsIn, anyOrder}
-use Rattle.soundness.proofs.TaskLaws.{named, and-last, named-is}
+use Rattle.soundness.proofs.TaskLaws.{named, named-is}
 use Rattle.soundness.proofs.MarkLaws.{next-whole, next-low, below, without-whole, has-none, has-first, has-next, has-without, none-has, has-all}
 
 -- ── what the rules ask of a line ──
@@ -149,7 +149,7 @@ emptied-is n m (x ∷ xs) l w h =
 
 -- a walk looks at three things at once
 walked-is : (k : ℕ → ℕ) (m : Marks) (a : ℕ) (l : List ℕ) → walked k m a l ≡ ((tidy l && emptied m (line l)) && ascending k a (line l))
-walked-is k m a [] = sym (and-last (isNone m) true refl)
+walked-is k m a [] = sym (and-true (isNone m))
 walked-is k m a (zero ∷ xs) = turned (isNone m) (blanks xs)
   where
     turned : (x y : Bool) → (x && y) ≡ ((y && x) && true)
@@ -189,4 +189,4 @@ holds-is s l k h =
     ∙ ap (λ (b : Bool). b && ascending k 0 (line (arrayOf s l))) (line-is (s .created) (λ t. belongs l (taskOf (view s) t)) (arrayOf s l) h)
 
 pub stands-is : (s : Supervisor) (l : Line) → s .created ≤ 31 → holdsIn anyOrder (markedIn s l) (arrayOf s l) ≡ standsIn s l
-stands-is s l h = holds-is s l anyOrder h ∙ and-last (standsIn s l) _ (in-any-order (line (arrayOf s l)))
+stands-is s l h = rw (in-any-order (line (arrayOf s l))) at (holds-is s l anyOrder h) ∙ and-true (standsIn s l)

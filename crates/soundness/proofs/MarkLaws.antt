@@ -7,7 +7,6 @@ use native.Mathlib.Omega.{arith}
 use native.Mathlib.Nat.{zero-lt-suc, div-eq-of-lt, div-one, mul-mod-left, mul-div-mul-right, mul-add-mod-self-right, mod-eq-of-lt, pow-suc, zero-div, one-mul}
 use lib.Bits.{bitXor, differ, xor-shr, xor-step, xor-lt}
 use lib.Pow.{pow-lt, shl-exact, shr-shr}
-use mir.Val.{boolByte}
 use native.Mathlib.Numerals.{one-add}
 use lib.Dec.{eqb, ltb, eqb·suc-suc}
 use borrow.Author.Tests.{lt-ltb, ltb-true, eqb-true, eqb-false, eq-eqb, ne-eqb}
@@ -125,10 +124,6 @@ has-high m t h l = rw (div-eq-of-lt (high l))
     high l = by-eq t 32 (λ e. rw e (omega arith)) (λ e. let p = pow-lt {i = 32} {j = t} (omega arith) in omega arith)
 
 -- ── the machine's forms ──
-
-pub bit-low : (b : Bool) → boolByte b ≤ 1
-bit-low true = omega arith
-bit-low false = omega arith
 
 pub shifted : (t : ℕ) → t < 32 → (1 * 2 ^ t) % 4294967296 ≡ 2 ^ t
 shifted t h = shl-exact {a = 1} 1 t 32 (omega arith) (omega arith) ∙ one-mul (2 ^ t)

@@ -2,7 +2,7 @@
 -- Assumes nothing.
 use Prim.Native.Nat.{ℕ, _-_, _≤_, _<_}
 use mathlib.Core.Path.{_≡_, refl, sym, ap, _∙_}
-use mathlib.Core.Bool.{Bool, true, false, not, _&&_}
+use mathlib.Core.Bool.{Bool, true, false, not, _&&_, and-true}
 use mathlib.Core.List.{[], _∷_}
 use native.Mathlib.Omega.{arith}
 use types.Run.{miss}
@@ -27,10 +27,6 @@ use Rattle.soundness.specs.Check.{goodIn}
 abbrev pub named : ℕ → ℕ → Bool
 named most x = ltb 0 x && leb x most
 
-pub and-last : (a b : Bool) → b ≡ true → (a && b) ≡ a
-and-last true b e = e
-and-last false b e = refl
-
 pub not-leb : (a b : ℕ) → not (leb a b) ≡ ltb b a
 not-leb a b = by-bool (leb a b) (λ e. rw (e, le-ltb b a (leb-true a b e))) (λ e. rw (e, lt-ltb b a (leb-false a b e)))
 
@@ -45,7 +41,7 @@ untimed Off b e = ap not e
 untimed (Due d) b e = ap not e
 
 pub in-time-due : (now d l : ℕ) → l ≡ left now d → d < 4294967296 → (ltb 0 l && leb l 2147483647) ≡ timeInRange now (Due d)
-in-time-due now d l e h = rw e (sym (and-last (ltb 0 (left now d) && leb (left now d) 2147483647) (ltb d 4294967296) (lt-ltb d 4294967296 h)))
+in-time-due now d l e h = rw (e, lt-ltb d 4294967296 h) (sym (and-true (ltb 0 (left now d) && leb (left now d) 2147483647)))
 
 -- ── the table ──
 

@@ -2,7 +2,7 @@
 -- Assumes nothing.
 use Prim.Native.Nat.{ℕ, zero, suc, _+_, _-_, _≤_, _<_}
 use mathlib.Core.Path.{_≡_, refl, sym, ap, _∙_}
-use mathlib.Core.Bool.{Bool, true, _&&_, and-assoc}
+use mathlib.Core.Bool.{Bool, _&&_, and-true, and-assoc}
 use mathlib.Core.List.{List, [], _∷_}
 use native.Mathlib.Omega.{arith}
 use native.Mathlib.Numerals.{add-one, unary-clauses}
@@ -15,7 +15,6 @@ use Rattle.lists.specs.Line.{blanks}
 use Rattle.lists.specs.Lists.{downFrom}
 use Rattle.soundness.specs.Marks.{Marks, hasMark, nextMark, withoutMark, isNone}
 use Rattle.soundness.specs.Check.{marked, walked}
-use Rattle.soundness.proofs.TaskLaws.{and-last}
 
 -- task t, and those below it
 pub down-on : (t : ℕ) → 0 < t → downFrom t ≡ t ∷ downFrom (t - 1)
@@ -66,4 +65,4 @@ pub blank-on : (l : List ℕ) (j seen : ℕ) → j < length l → (eqb seen 0 &&
 blank-on l j seen h = rw (add-one j, drop-cons l j 0 h, or-none seen (getD l j 0)) (sym (and-assoc (eqb seen 0) (eqb (getD l j 0) 0) (blanks (drop (suc j) l))))
 
 pub blank-end : (l : List ℕ) (j seen : ℕ) → length l ≤ j → (eqb seen 0 && blanks (drop j l)) ≡ eqb seen 0
-blank-end l j seen h = rw (drop-of-length-le l h) (and-last (eqb seen 0) true refl)
+blank-end l j seen h = rw (drop-of-length-le l h) (and-true (eqb seen 0))

@@ -17,10 +17,10 @@ use Rattle.rules.specs.declared.Supervisor.{Supervisor}
 use Rattle.rules.specs.declared.Timer.{Timer}
 use Rattle.rules.specs.declared.Timer.the-variants.{Off, Due}
 use Rattle.calls.specs.declared.Call.the-variants.{Tick, Advance}
-use Rattle.lists.proofs.Tests.{byte-bit}
+use Rattle.lists.proofs.Tests.{bit-le, byte-bit}
 use Rattle.lists.proofs.ListLaws.{clash, count-filter-le}
 use Rattle.rules.proofs.Invariant.{Sound}
-use Rattle.rules.proofs.Members.{bit-le, in-filter, timed-there}
+use Rattle.rules.proofs.Members.{in-filter, timed-there}
 use Rattle.rules.proofs.SoundTest.{sound-test}
 use Rattle.rules.proofs.Advances.{advances}
 use Rattle.table.specs.declared.queues.Test.the-variants.{DueWithin}

@@ -5,7 +5,6 @@ use Prim.Native.Nat.{ℕ, zero, suc, _<_, _≤_}
 use native.Mathlib.Nat.{not-suc-le-zero, le-of-suc-le-suc}
 use mathlib.Core.Bool.{Bool, true, true≢false}
 use mathlib.Core.List.{List, [], _∷_}
-use mathlib.Core.Logic.{inl, inr}
 use lib.ListN.{length, getD}
 use lib.Dec.{leb, eqb}
 use borrow.Author.Tests.{ltb-true, leb-true, eqb-true}
@@ -15,10 +14,10 @@ use Rattle.workspace.specs.Rules.{units, stretch, none, end, isLong, isI
 use Rattle.workspace.specs.Operations.{fits, startsAt, lengthAt}
 use Rattle.workspace.specs.declared.Test.the-variants.{HasUnits}
 use Rattle.workspace.specs.Places.{placeOf, passesOf}
-use Rattle.lists.proofs.Tests.{ways, and-first, and-second}
+use Rattle.lists.proofs.Tests.{and-first, and-second}
 use Rattle.lists.proofs.ListLaws.{by-bool}
 use Rattle.workspace.proofs.Pieces.{Sound}
-use Rattle.workspace.proofs.Words.{Words, kept-words, sound-kept, All, all-left, all-right, pairs-across, either, Chain, free-chain}
+use Rattle.workspace.proofs.Words.{Words, kept-words, sound-kept, All, all-left, all-right, pairs-across, apart-is, Chain, free-chain}
 use Rattle.workspace.proofs.Joining.{Clear}
 
 -- the block that starts at a passes every test that all blocks pass
@@ -32,7 +31,7 @@ found-all p a (b ∷ bs) e h =
 apart-clear : (b : Stretch) (fs : List Stretch) → All (isApart b) fs → Clear b fs
 apart-clear b [] h = tt
 apart-clear b (f ∷ fs) h = (
-  ways (either (leb (end b) (f .start)) (leb (end f) (b .start)) (and-first (isApart b f) (every (isApart b) fs) h)) (λ p. inl (leb-true (end b) (f .start) p)) (λ p. inr (leb-true (end f) (b .start) p)),
+  apart-is b f (and-first (isApart b f) (every (isApart b) fs) h),
   apart-clear b fs (and-second (isApart b f) (every (isApart b) fs) h),
 )
 

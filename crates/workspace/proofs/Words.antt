@@ -24,35 +24,23 @@ use Rattle.workspace.proofs.CheckLaws.{Cut}
 abbrev pub All : (Stretch → Bool) → List Stretch → Type 0
 All p l = every p l ≡ true
 
-head-of : (p : Stretch → Bool) (x : Stretch) (l : List Stretch) → All p (x ∷ l) → p x ≡ true
-head-of p x l e = and-first (p x) (every p l) e
-
-rest-of : (p : Stretch → Bool) (x : Stretch) (l : List Stretch) → All p (x ∷ l) → All p l
-rest-of p x l e = and-second (p x) (every p l) e
-
 -- a test that follows from three
 follows : (p q r w : Stretch → Bool) → ((t : Stretch) → p t ≡ true → q t ≡ true → r t ≡ true → w t ≡ true) → (l : List Stretch) → All p l → All q l → All r l → All w l
 follows p q r w f [] a b c = refl
-follows p q r w f (x ∷ xs) a b c = both (f x (head-of p x xs a) (head-of q x xs b) (head-of r x xs c)) (follows p q r w f xs (rest-of p x xs a) (rest-of q x xs b) (rest-of r x xs c))
-
-pairs-head : (p : Stretch → Stretch → Bool) (x : Stretch) (l : List Stretch) → pairs p (x ∷ l) ≡ true → All (p x) l
-pairs-head p x l e = and-first (every (p x) l) (pairs p l) e
-
-pairs-rest : (p : Stretch → Stretch → Bool) (x : Stretch) (l : List Stretch) → pairs p (x ∷ l) ≡ true → pairs p l ≡ true
-pairs-rest p x l e = and-second (every (p x) l) (pairs p l) e
+follows p q r w f (x ∷ xs) a b c = both (f x (and-first _ _ a) (and-first _ _ b) (and-first _ _ c)) (follows p q r w f xs (and-second (p x) _ a) (and-second (q x) _ b) (and-second (r x) _ c))
 
 -- ---- two lists as one
 pub all-left : (p : Stretch → Bool) (l m : List Stretch) → All p (l ++ m) → All p l
 all-left p [] m e = refl
-all-left p (x ∷ xs) m e = both (head-of p x (xs ++ m) e) (all-left p xs m (rest-of p x (xs ++ m) e))
+all-left p (x ∷ xs) m e = both (and-first (p x) _ e) (all-left p xs m (and-second (p x) _ e))
 
 pub all-right : (p : Stretch → Bool) (l m : List Stretch) → All p (l ++ m) → All p m
 all-right p [] m e = e
-all-right p (x ∷ xs) m e = all-right p xs m (rest-of p x (xs ++ m) e)
+all-right p (x ∷ xs) m e = all-right p xs m (and-second (p x) _ e)
 
 all-join : (p : Stretch → Bool) (l m : List Stretch) → All p l → All p m → All p (l ++ m)
 all-join p [] m e f = f
-all-join p (x ∷ xs) m e f = both (head-of p x xs e) (all-join p xs m (rest-of p x xs e) f)
+all-join p (x ∷ xs) m e f = both (and-first (p x) _ e) (all-join p xs m (and-second (p x) _ e) f)
 
 -- each of the first list passes with each of the second
 abbrev pub across : (Stretch → Stretch → Bool) → List Stretch → List Stretch → Bool
@@ -60,20 +48,20 @@ across p l m = every (λ (x : Stretch). every (p x) m) l
 
 pairs-left : (p : Stretch → Stretch → Bool) (l m : List Stretch) → pairs p (l ++ m) ≡ true → pairs p l ≡ true
 pairs-left p [] m e = refl
-pairs-left p (x ∷ xs) m e = both (all-left (p x) xs m (pairs-head p x (xs ++ m) e)) (pairs-left p xs m (pairs-rest p x (xs ++ m) e))
+pairs-left p (x ∷ xs) m e = both (all-left (p x) xs m (and-first _ _ e)) (pairs-left p xs m (and-second (every (p x) (xs ++ m)) _ e))
 
 pairs-right : (p : Stretch → Stretch → Bool) (l m : List Stretch) → pairs p (l ++ m) ≡ true → pairs p m ≡ true
 pairs-right p [] m e = e
-pairs-right p (x ∷ xs) m e = pairs-right p xs m (pairs-rest p x (xs ++ m) e)
+pairs-right p (x ∷ xs) m e = pairs-right p xs m (and-second (every (p x) (xs ++ m)) _ e)
 
 pub pairs-across : (p : Stretch → Stretch → Bool) (l m : List Stretch) → pairs p (l ++ m) ≡ true → across p l m ≡ true
 pairs-across p [] m e = refl
-pairs-across p (x ∷ xs) m e = both (all-right (p x) xs m (pairs-head p x (xs ++ m) e)) (pairs-across p xs m (pairs-rest p x (xs ++ m) e))
+pairs-across p (x ∷ xs) m e = both (all-right (p x) xs m (and-first _ _ e)) (pairs-across p xs m (and-second (every (p x) (xs ++ m)) _ e))
 
 pairs-join : (p : Stretch → Stretch → Bool) (l m : List Stretch) → pairs p l ≡ true → pairs p m ≡ true → across p l m ≡ true → pairs p (l ++ m) ≡ true
 pairs-join p [] m e f g = f
 pairs-join p (x ∷ xs) m e f g =
-    both (all-join (p x) xs m (pairs-head p x xs e) (head-of (λ (y : Stretch). every (p y) m) x xs g)) (pairs-join p xs m (pairs-rest p x xs e) f (rest-of (λ (y : Stretch). every (p y) m) x xs g))
+    both (all-join (p x) xs m (and-first _ _ e) (and-first _ _ g)) (pairs-join p xs m (and-second (every (p x) xs) _ e) f (and-second (every (p x) m) _ g))
 
 total-join : (l m : List Stretch) → total (l ++ m) ≡ total l + total m
 total-join [] m = omega arith
@@ -88,16 +76,20 @@ lower : (g a b : ℕ) (l : List Stretch) → b ≤ a → Chain g a l → Chain g
 lower g a b [] h c = tt
 lower g a b (s ∷ ss) h c = (le-trans h (c .0), c .1, c .2, c .3)
 
-pub either : (a b : Bool) → a || b ≡ true → (a ≡ true) ⊎ (b ≡ true)
+either : (a b : Bool) → a || b ≡ true → (a ≡ true) ⊎ (b ≡ true)
 either true b e = inl refl
 either false b e = inr e
+
+-- two that never overlap: one ends before the other starts
+pub apart-is : (s t : Stretch) → isApart s t ≡ true → (end s ≤ t .start) ⊎ (end t ≤ s .start)
+apart-is s t e = ways (either (leb (end s) (t .start)) (leb (end t) (s .start)) e) (λ p. inl (leb-true (end s) (t .start) p)) (λ p. inr (leb-true (end t) (s .start) p))
 
 -- two that never overlap, in address order
 in-turn : (s t : Stretch) → isLong t ≡ true → isBefore s t ≡ true → isApart s t ≡ true → end s ≤ t .start
 in-turn s t l e f =
     let h : s .start < t .start = ltb-true (s .start) (t .start) e in
     let k : 0 < t .length = ltb-true 0 (t .length) l in
-    ways (either (leb (end s) (t .start)) (leb (end t) (s .start)) f) (λ p. leb-true (end s) (t .start) p) (λ p. let q : end t ≤ s .start = leb-true (end t) (s .start) p in no (omega (arith, h, k, q)))
+    ways (apart-is s t f) (λ p. p) (λ q. no (omega (arith, h, k, q)))
 
 -- t starts g units or more behind s
 abbrev behind : ℕ → Stretch → Stretch → Bool
@@ -107,7 +99,7 @@ behind g s t = leb (end s + g) (t .start)
 pairs-follow : (p q w : Stretch → Stretch → Bool) → ((s t : Stretch) → p s t ≡ true → q s t ≡ true → isLong t ≡ true → w s t ≡ true) → (l : List Stretch) → pairs p l ≡ true → pairs q l ≡ true → All isLong l → pairs w l ≡ true
 pairs-follow p q w f [] a b c = refl
 pairs-follow p q w f (x ∷ xs) a b c =
-    both (follows (p x) (q x) isLong (w x) (f x) xs (pairs-head p x xs a) (pairs-head q x xs b) (rest-of isLong x xs c)) (pairs-follow p q w f xs (pairs-rest p x xs a) (pairs-rest q x xs b) (rest-of isLong x xs c))
+    both (follows (p x) (q x) isLong (w x) (f x) xs (and-first _ _ a) (and-first _ _ b) (and-second (isLong x) _ c)) (pairs-follow p q w f xs (and-second (every (p x) xs) _ a) (and-second (every (q x) xs) _ b) (and-second (isLong x) _ c))
 
 in-order : (l : List Stretch) → pairs isBefore l ≡ true → pairs isApart l ≡ true → All isLong l → pairs (behind 0) l ≡ true
 in-order l = pairs-follow isBefore isApart (behind 0) (λ s t e f g. let h : end s ≤ t .start = in-turn s t g e f in le-leb (end s + 0) (t .start) (omega (arith, h))) l
@@ -125,10 +117,10 @@ not-touching l = pairs-follow (behind 0) isLoose (behind 1) (λ s t e f g. loose
 chained : (g a : ℕ) (l : List Stretch) → All (λ (t : Stretch). leb a (t .start)) l → pairs (behind g) l ≡ true → All isLong l → All isInside l → Chain g a l
 chained g a [] st bh lg is = tt
 chained g a (s ∷ ss) st bh lg is = (
-  leb-true a (s .start) (head-of (λ (t : Stretch). leb a (t .start)) s ss st),
-  ltb-true 0 (s .length) (head-of isLong s ss lg),
-  leb-true (end s) units (head-of isInside s ss is),
-  chained g (end s + g) ss (pairs-head (behind g) s ss bh) (pairs-rest (behind g) s ss bh) (rest-of isLong s ss lg) (rest-of isInside s ss is),
+  leb-true a (s .start) (and-first _ _ st),
+  ltb-true 0 (s .length) (and-first _ _ lg),
+  leb-true (end s) units (and-first _ _ is),
+  chained g (end s + g) ss (and-first _ _ bh) (and-second (every (behind g s) ss) _ bh) (and-second (isLong s) _ lg) (and-second (isInside s) _ is),
 )
 
 -- ---- by counting
@@ -137,17 +129,15 @@ abbrev Cross : List Stretch → List Stretch → Type 0
 Cross bs fs = across isApart bs fs ≡ true
 
 meet : (b f : Stretch) (bs fs : List Stretch) → Cross (b ∷ bs) (f ∷ fs) → (end b ≤ f .start) ⊎ (end f ≤ b .start)
-meet b f bs fs x =
-    let e : isApart b f ≡ true = head-of (isApart b) f fs (head-of (λ (y : Stretch). every (isApart y) (f ∷ fs)) b bs x) in
-    ways (either (leb (end b) (f .start)) (leb (end f) (b .start)) e) (λ p. inl (leb-true (end b) (f .start) p)) (λ p. inr (leb-true (end f) (b .start) p))
+meet b f bs fs x = apart-is b f (and-first (isApart b f) (every (isApart b) fs) (and-first (every (isApart b) (f ∷ fs)) (across isApart bs (f ∷ fs)) x))
 
 fewer-blocks : (b : Stretch) (bs fs : List Stretch) → Cross (b ∷ bs) fs → Cross bs fs
-fewer-blocks b bs fs x = rest-of (λ (y : Stretch). every (isApart y) fs) b bs x
+fewer-blocks b bs fs x = and-second (every (isApart b) fs) _ x
 
 fewer-free : (f : Stretch) (bs fs : List Stretch) → Cross bs (f ∷ fs) → Cross bs fs
 fewer-free f [] fs x = refl
 fewer-free f (b ∷ bs) fs x =
-    both (rest-of (isApart b) f fs (head-of (λ (y : Stretch). every (isApart y) (f ∷ fs)) b bs x)) (fewer-free f bs fs (fewer-blocks b bs (f ∷ fs) x))
+    both (and-second (isApart b f) _ (and-first (every (isApart b) (f ∷ fs)) _ x)) (fewer-free f bs fs (fewer-blocks b bs (f ∷ fs) x))
 
 -- what lies from a on has room from a to the end of the area
 room : (k g a : ℕ) (bs fs : List Stretch) → length bs + length fs ≤ k → a ≤ units → Chain 0 a bs → Chain g a fs → Cross bs fs → a + total bs + total fs ≤ units
@@ -333,7 +323,7 @@ loose-if s t h = rw (ne-eqb (end s) (t .start) (λ e. no (omega (arith, e, h))),
 across-cons : (f : Stretch) (bs fs : List Stretch) → All (λ (b : Stretch). isApart b f) bs → Cross bs fs → Cross bs (f ∷ fs)
 across-cons f [] fs e x = refl
 across-cons f (b ∷ bs) fs e x =
-    both (both (head-of (λ (y : Stretch). isApart y f) b bs e) (head-of (λ (y : Stretch). every (isApart y) fs) b bs x)) (across-cons f bs fs (rest-of (λ (y : Stretch). isApart y f) b bs e) (fewer-blocks b bs fs x))
+    both (both (and-first (isApart b f) _ e) (and-first (every (isApart b) fs) _ x)) (across-cons f bs fs (and-second (isApart b f) _ e) (fewer-blocks b bs fs x))
 
 crossed : (a : ℕ) (ps : List Piece) → Cross (blocksFrom a ps) (freeFrom a ps)
 crossed a [] = refl

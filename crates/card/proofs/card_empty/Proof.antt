@@ -8,7 +8,8 @@ use Rattle.rules.specs.State.{empty}
 use Rattle.rules.specs.Whole.{pack}
 use Rattle.rules.specs.declared.Supervisor.{Supervisor}
 use Rattle.codec.specs.Layout.{stored}
-use Rattle.codec.proofs.CodecLaws.{stored-short, if-true, if-false}
+use Rattle.lists.proofs.Tests.{if-true, if-false}
+use Rattle.codec.proofs.CodecLaws.{stored-short}
 use borrow.Author.Needs.{needs}
 use Rattle.card.proofs.card_empty.Statement.{statement}
 use Rattle.card.proofs.card_empty.Tie as tie

@@ -5,7 +5,7 @@ use lib.ListN.{length, drop}
 use lib.Dec.{ltb}
 use denote.Ref.{now}
 use borrow.Author.Tests.{lt-ltb, le-ltb}
-use Rattle.codec.proofs.CodecLaws.{if-true, if-false}
+use Rattle.lists.proofs.Tests.{if-true, if-false}
 use Rattle.card.proofs.CardLaws.{one-set}
 use borrow.Author.Needs.{needs}
 use Rattle.card.proofs.put_one.Statement.{statement}

@@ -3,7 +3,7 @@
 use native.Mathlib.Omega.{arith}
 use borrow.Author.Needs.{needs}
 use Prim.Native.Nat.{ℕ, _-_, _≤_, _<_}
-use mathlib.Core.Bool.{Bool, _&&_}
+use mathlib.Core.Bool.{Bool, _&&_, and-true}
 use mathlib.Core.Path.{_≡_, refl, sym, ap, _∙_}
 use mathlib.Core.List.{[]}
 use lib.ListN.{length, getD}
@@ -16,7 +16,7 @@ use Rattle.rules.specs.declared.Supervisor.{Supervisor}
 use Rattle.table.proofs.LeafLaws.{task-in}
 use Rattle.soundness.specs.Check.{Line, Ready, Callers, Held, Delays, belongs, goodIn, marked}
 use Rattle.soundness.specs.Marks.{noMarks, nextMark}
-use Rattle.soundness.proofs.TaskLaws.{and-last, called-one, called-none, good-is}
+use Rattle.soundness.proofs.TaskLaws.{called-one, called-none, good-is}
 use Rattle.soundness.proofs.Turns.{and-turn, down-on, down-end, mark-on}
 use Rattle.soundness.proofs.told_of.Statement.{statement}
 use Rattle.soundness.proofs.told_of.Tie as tie
@@ -106,7 +106,7 @@ returns c =
     let s = l .before .args .t1 in
     let v = l .loop .inv in
     let end : downFrom (l .loop .t) ≡ [] = down-end (l .loop .t) (omega arith) in
-    let g = sym (v .3 ∙ and-last (l .loop .good) _ (ap (every (goodIn (view s))) end)) in
+    let g = sym (rw end at (v .3) ∙ and-true (l .loop .good)) in
     let word : (d : Line) (m : ℕ) → due s d noMarks (s .created) ≡ due s d m (l .loop .t) → m ≡ due s d noMarks (s .created)
     = λ d m e. sym (e ∙ ap (marked (λ u. belongs d (taskOf (view s) u)) m) end) in
     λ i. record { good = g i; ready = word Ready _ (v .4) i; callers = word Callers _ (v .5) i; held = word Held _ (v .6) i; delays = word Delays _ (v .7) i }

@@ -2,12 +2,11 @@
 use native.Mathlib.Omega.{arith}
 use borrow.Author.Needs.{needs}
 use Prim.Native.Nat.{_+_, _-_, _≤_}
-use mathlib.Core.Bool.{Bool, true, false, _&&_}
-use mathlib.Core.Path.{_≡_, refl, sym, ap, _∙_}
+use mathlib.Core.Bool.{Bool, true, false, _&&_, and-true}
+use mathlib.Core.Path.{_≡_, sym, ap, _∙_}
 use lib.ListN.{drop, getD, length}
 use Rattle.soundness.specs.Check.{anyOrder, holdsIn, walked}
 use Rattle.soundness.specs.Marks.{Marks, withoutMark}
-use Rattle.soundness.proofs.TaskLaws.{and-last}
 use Rattle.soundness.proofs.Turns.{walk-blank, walk-on, walk-end}
 use Rattle.soundness.proofs.stand.holds.Statement.{statement}
 use Rattle.soundness.proofs.stand.holds.Tie as tie
@@ -39,7 +38,7 @@ turn c b e =
     let l = c .before .before .before .before in
     let a = l .before .before .args .a .now in
     let k : length a ≡ 31 = l .loop .inv .1 in
-    l .loop .inv .2 ∙ walk-on anyOrder (l .loop .rest) 0 a (l .loop .i) (omega arith) (c .before .if1 .left) b (sym e ∙ c .has .ensures ∙ sym (and-last _ true refl))
+    l .loop .inv .2 ∙ walk-on anyOrder (l .loop .rest) 0 a (l .loop .i) (omega arith) (c .before .if1 .left) b (sym e ∙ c .has .ensures ∙ sym (and-true _))
 
 returns-2 : tie.Need-returns-2 Inv-loop μ-loop
 returns-2 c = sym (turn (c .before) false (c .if2 .left))
