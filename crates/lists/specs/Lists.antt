@@ -56,7 +56,7 @@ every f [] = true
 every f (x ∷ xs) = f x && every f xs
 
 -- each is related to all those behind it
-abbrev pub inOrder : (ℕ → ℕ → Bool) → List ℕ → Bool
+abbrev pub inOrder : {A : Type 0} → (A → A → Bool) → List A → Bool
 inOrder f [] = true
 inOrder f (x ∷ xs) = every (f x) xs && inOrder f xs
 

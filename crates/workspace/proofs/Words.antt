@@ -13,8 +13,8 @@ use lib.ListN.{length}
 use lib.Dec.{leb, eqb}
 use borrow.Author.Tests.{ltb-true, leb-true, leb-false, eqb-true, eqb-false, lt-ltb, le-leb, eq-eqb, ne-eqb, not-true}
 use Rattle.workspace.specs.declared.Stretch.{Stretch}
-use Rattle.lists.specs.Lists.{every, bit}
-use Rattle.workspace.specs.Rules.{pairs, units, stretch, end, total, isBefore, isLong, isInside, isApart, isLoose, isKept}
+use Rattle.lists.specs.Lists.{every, inOrder, bit}
+use Rattle.workspace.specs.Rules.{units, stretch, end, total, isBefore, isLong, isInside, isApart, isLoose, isKept}
 use Rattle.lists.proofs.Tests.{ways, no, each, and-first, and-second, and-both as both, or-first, or-left, or-right}
 use Rattle.lists.proofs.ListLaws.{by-bool}
 use Rattle.workspace.proofs.Pieces.{Piece, taken, spare, blocksFrom, freeFrom, measure, Good, Sound, Within, adds-up, wider, blocks-within, free-within}
@@ -46,19 +46,19 @@ all-join p (x ∷ xs) m e f = both (and-first (p x) _ e) (all-join p xs m (and-s
 abbrev pub across : (Stretch → Stretch → Bool) → List Stretch → List Stretch → Bool
 across p l m = every (λ (x : Stretch). every (p x) m) l
 
-pairs-left : (p : Stretch → Stretch → Bool) (l m : List Stretch) → pairs p (l ++ m) ≡ true → pairs p l ≡ true
+pairs-left : (p : Stretch → Stretch → Bool) (l m : List Stretch) → inOrder p (l ++ m) ≡ true → inOrder p l ≡ true
 pairs-left p [] m e = refl
 pairs-left p (x ∷ xs) m e = both (all-left (p x) xs m (and-first _ _ e)) (pairs-left p xs m (and-second (every (p x) (xs ++ m)) _ e))
 
-pairs-right : (p : Stretch → Stretch → Bool) (l m : List Stretch) → pairs p (l ++ m) ≡ true → pairs p m ≡ true
+pairs-right : (p : Stretch → Stretch → Bool) (l m : List Stretch) → inOrder p (l ++ m) ≡ true → inOrder p m ≡ true
 pairs-right p [] m e = e
 pairs-right p (x ∷ xs) m e = pairs-right p xs m (and-second (every (p x) (xs ++ m)) _ e)
 
-pub pairs-across : (p : Stretch → Stretch → Bool) (l m : List Stretch) → pairs p (l ++ m) ≡ true → across p l m ≡ true
+pub pairs-across : (p : Stretch → Stretch → Bool) (l m : List Stretch) → inOrder p (l ++ m) ≡ true → across p l m ≡ true
 pairs-across p [] m e = refl
 pairs-across p (x ∷ xs) m e = both (all-right (p x) xs m (and-first _ _ e)) (pairs-across p xs m (and-second (every (p x) (xs ++ m)) _ e))
 
-pairs-join : (p : Stretch → Stretch → Bool) (l m : List Stretch) → pairs p l ≡ true → pairs p m ≡ true → across p l m ≡ true → pairs p (l ++ m) ≡ true
+pairs-join : (p : Stretch → Stretch → Bool) (l m : List Stretch) → inOrder p l ≡ true → inOrder p m ≡ true → across p l m ≡ true → inOrder p (l ++ m) ≡ true
 pairs-join p [] m e f g = f
 pairs-join p (x ∷ xs) m e f g =
     both (all-join (p x) xs m (and-first _ _ e) (and-first _ _ g)) (pairs-join p xs m (and-second (every (p x) xs) _ e) f (and-second (every (p x) m) _ g))
@@ -96,12 +96,12 @@ abbrev behind : ℕ → Stretch → Stretch → Bool
 behind g s t = leb (end s + g) (t .start)
 
 -- a test of pairs that follows from two
-pairs-follow : (p q w : Stretch → Stretch → Bool) → ((s t : Stretch) → p s t ≡ true → q s t ≡ true → isLong t ≡ true → w s t ≡ true) → (l : List Stretch) → pairs p l ≡ true → pairs q l ≡ true → All isLong l → pairs w l ≡ true
+pairs-follow : (p q w : Stretch → Stretch → Bool) → ((s t : Stretch) → p s t ≡ true → q s t ≡ true → isLong t ≡ true → w s t ≡ true) → (l : List Stretch) → inOrder p l ≡ true → inOrder q l ≡ true → All isLong l → inOrder w l ≡ true
 pairs-follow p q w f [] a b c = refl
 pairs-follow p q w f (x ∷ xs) a b c =
     both (follows (p x) (q x) isLong (w x) (f x) xs (and-first _ _ a) (and-first _ _ b) (and-second (isLong x) _ c)) (pairs-follow p q w f xs (and-second (every (p x) xs) _ a) (and-second (every (q x) xs) _ b) (and-second (isLong x) _ c))
 
-in-order : (l : List Stretch) → pairs isBefore l ≡ true → pairs isApart l ≡ true → All isLong l → pairs (behind 0) l ≡ true
+in-order : (l : List Stretch) → inOrder isBefore l ≡ true → inOrder isApart l ≡ true → All isLong l → inOrder (behind 0) l ≡ true
 in-order l = pairs-follow isBefore isApart (behind 0) (λ s t e f g. let h : end s ≤ t .start = in-turn s t g e f in le-leb (end s + 0) (t .start) (omega (arith, h))) l
 
 -- two that do not touch
@@ -111,10 +111,10 @@ loosely s t e f =
     let d : end s ≡ t .start → ⊥ = eqb-false (end s) (t .start) (or-first (eqb (end s) (t .start)) (eqb (end t) (s .start)) (not-true (eqb (end s) (t .start) || eqb (end t) (s .start)) f)) in
     by-bool (leb (end s + 1) (t .start)) (λ k. k) (λ k. let l : t .start < end s + 1 = leb-false (end s + 1) (t .start) k in absurd (d (omega (arith, h, l))))
 
-not-touching : (l : List Stretch) → pairs (behind 0) l ≡ true → pairs isLoose l ≡ true → All isLong l → pairs (behind 1) l ≡ true
+not-touching : (l : List Stretch) → inOrder (behind 0) l ≡ true → inOrder isLoose l ≡ true → All isLong l → inOrder (behind 1) l ≡ true
 not-touching l = pairs-follow (behind 0) isLoose (behind 1) (λ s t e f g. loosely s t e f) l
 
-chained : (g a : ℕ) (l : List Stretch) → All (λ (t : Stretch). leb a (t .start)) l → pairs (behind g) l ≡ true → All isLong l → All isInside l → Chain g a l
+chained : (g a : ℕ) (l : List Stretch) → All (λ (t : Stretch). leb a (t .start)) l → inOrder (behind g) l ≡ true → All isLong l → All isInside l → Chain g a l
 chained g a [] st bh lg is = tt
 chained g a (s ∷ ss) st bh lg is = (
   leb-true a (s .start) (and-first _ _ st),
@@ -227,18 +227,18 @@ all-from-0 (s ∷ ss) = both (le-leb 0 (s .start) (omega arith)) (all-from-0 ss)
 -- the seven rules, one by one
 module _ (bs fs : List Stretch) where
   pub record Words : Type 0 where
-    pub blocks-before : pairs isBefore bs ≡ true
-    pub free-before : pairs isBefore fs ≡ true
+    pub blocks-before : inOrder isBefore bs ≡ true
+    pub free-before : inOrder isBefore fs ≡ true
     pub long : every isLong (bs ++ fs) ≡ true
     pub inside : every isInside (bs ++ fs) ≡ true
-    pub apart : pairs isApart (bs ++ fs) ≡ true
-    pub loose : pairs isLoose fs ≡ true
+    pub apart : inOrder isApart (bs ++ fs) ≡ true
+    pub loose : inOrder isLoose fs ≡ true
     pub add-up : total (bs ++ fs) ≡ units
 
   pub kept-words : isKept bs fs ≡ true → Words
   unfolding isKept
   kept-words e =
-      let w = each (pairs isBefore bs) (pairs isBefore fs ∷ every isLong (bs ++ fs) ∷ every isInside (bs ++ fs) ∷ pairs isApart (bs ++ fs) ∷ pairs isLoose fs ∷ eqb (total (bs ++ fs)) units ∷ []) e in
+      let w = each (inOrder isBefore bs) (inOrder isBefore fs ∷ every isLong (bs ++ fs) ∷ every isInside (bs ++ fs) ∷ inOrder isApart (bs ++ fs) ∷ inOrder isLoose fs ∷ eqb (total (bs ++ fs)) units ∷ []) e in
       record { blocks-before = w 0; free-before = w 1; long = w 2; inside = w 3; apart = w 4; loose = w 5; add-up = eqb-true (total (bs ++ fs)) units (w 6) }
 
   pub words-kept : Words → isKept bs fs ≡ true
@@ -276,7 +276,7 @@ all-within p a e [] f w = refl
 all-within p a e (s ∷ ss) f w = both (f s (w .0 .0) (w .0 .1)) (all-within p a e ss f (w .1))
 
 -- a test of pairs that passes where the first ends before the second starts, and g units or more lie between free ones
-blocks-pairs : (p : Stretch → Stretch → Bool) → ((s t : Stretch) → 0 < s .length → end s ≤ t .start → p s t ≡ true) → (after : Bool) (a : ℕ) (ps : List Piece) → Good after ps → pairs p (blocksFrom a ps) ≡ true
+blocks-pairs : (p : Stretch → Stretch → Bool) → ((s t : Stretch) → 0 < s .length → end s ≤ t .start → p s t ≡ true) → (after : Bool) (a : ℕ) (ps : List Piece) → Good after ps → inOrder p (blocksFrom a ps) ≡ true
 blocks-pairs p f after a [] g = refl
 blocks-pairs p f after a (taken n ∷ ps) g =
     both (all-within (p (stretch a n)) (a + n) (a + n + measure ps) (blocksFrom (a + n) ps) (λ t h k. f (stretch a n) t (g .0) h) (blocks-within (a + n) ps)) (blocks-pairs p f false (a + n) ps (g .1))
@@ -291,7 +291,7 @@ gap a (taken m ∷ ps) g =
     rw (sym e) (wider (a + m) (a + 1) (a + m + measure ps) (freeFrom (a + m) ps) (omega (arith, h)) (free-within (a + m) ps))
 gap a (spare m ∷ ps) g = absurd (true≢false (g .1))
 
-free-pairs : (p : Stretch → Stretch → Bool) → ((s t : Stretch) → 0 < s .length → end s + 1 ≤ t .start → p s t ≡ true) → (after : Bool) (a : ℕ) (ps : List Piece) → Good after ps → pairs p (freeFrom a ps) ≡ true
+free-pairs : (p : Stretch → Stretch → Bool) → ((s t : Stretch) → 0 < s .length → end s + 1 ≤ t .start → p s t ≡ true) → (after : Bool) (a : ℕ) (ps : List Piece) → Good after ps → inOrder p (freeFrom a ps) ≡ true
 free-pairs p f after a [] g = refl
 free-pairs p f after a (taken n ∷ ps) g = free-pairs p f false (a + n) ps (g .1)
 free-pairs p f after a (spare n ∷ ps) g =
