@@ -10,7 +10,7 @@ use lib.Seq.{getD-set-same, getD-set-other}
 use lib.Dec.{eqb, ltb}
 use borrow.Author.Tests.{eq-eqb, ne-eqb}
 use Rattle.lists.specs.Lists.{bit, count, remove, rejoin}
-use Rattle.rules.specs.State.{State, blank, nth, setNth, taskOf, placeOf, isReady, isQueued, isHeld, isCompleted, partnerOf, accepts, hasTime, ticksLeft, left, retime, placed, move, meet, part, meeting, wake, opens}
+use Rattle.rules.specs.State.{State, blank, nth, setNth, taskOf, placeOf, isReady, isQueued, isHeld, isCompleted, partnerOf, accepts, hasTime, ticksLeft, left, retime, placed, move, part, wake, opens}
 use Rattle.rules.specs.declared.Task.{Task}
 use Rattle.rules.specs.declared.Timer.{Timer}
 use Rattle.rules.specs.declared.Timer.the-variants.{Off, Due}
@@ -219,25 +219,8 @@ hold-sound s t m pos fit h c =
     (calls-after s t (m .holder) (m .entry) (Held m) Off pos fit refl c, refl) tt
     (welcome-plain (s .tasks) t (moved s t (Held m) Off) pos fit refl refl (λ e. refl))
 
-module _ (s : State) (g c : ℕ) (low : 0 < g) (high : g ≤ length (s .tasks)) (pos : 0 < c) (fit : c ≤ length (s .tasks)) where
-  module _ (e : ℕ) where
-    pub meet-sound : Sound s → Calls (taskOf s g) e → Sound (meet s g c e)
-    meet-sound h k = hold-sound s c (meeting s g e) pos fit h k
-
-    pub meet-same : placeOf (meet s g c e) c ≡ Held (meeting s g e)
-    meet-same = place-same s c (Held (meeting s g e)) Off pos fit
-
-    pub meet-other : (u : ℕ) → (u ≡ c → ⊥) → Alike (taskOf s u) (taskOf (meet s g c e) u)
-    meet-other u n = alike (task-other s c (Held (meeting s g e)) Off u n)
-
-  pub part-sound : (m : Meeting) → placeOf s c ≡ Held m → Sound s → Sound (part s g c)
-  part-sound m q h = wake-sound s c pos fit h
-
-  pub part-same : placeOf (part s g c) c ≡ Ready
-  part-same = place-same s c Ready Off pos fit
-
-  pub part-other : (u : ℕ) → (u ≡ c → ⊥) → Alike (taskOf s u) (taskOf (part s g c) u)
-  part-other u n = alike (task-other s c Ready Off u n)
+pub part-same : (s : State) (c : ℕ) → 0 < c → c ≤ length (s .tasks) → placeOf (part s c) c ≡ Ready
+part-same s c pos fit = place-same s c Ready Off pos fit
 
 -- t accepts, where nobody is queued on an open entry
 pub accept-sound : (s : State) (t : ℕ) (o : Offer) (w : Timer) → 0 < t → t ≤ length (s .tasks) → Sound s → o .opens < 2 ^ (taskOf s t .entries) → (o .opens ≡ 0 → hasTime w ≡ true) → InTime (s .clock) w

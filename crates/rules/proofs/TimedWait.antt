@@ -214,7 +214,7 @@ course (a ∷ rest) s t p due k d h y w =
 timely : (s : State) (c : C.Call) → isWaiting (placeFor s c) ≡ true → Timely (placeFor s c) × (partnerOf (placeFor s c) ≡ target c) × (expiry (placeFor s c) ≡ timeReason c) × (ticksOf c ≡ 0)
 timely s (Create p n) e = no (cc)
 timely s (Delay d) e = (delayed, refl, refl, refl)
-timely s (Call g j m) e = (queued (waiting s g j), refl, refl, refl)
+timely s (Call g j m) e = (queued (waiting g j), refl, refl, refl)
 timely s (Select o m) e = (accepting (offer o), refl, refl, refl)
 timely s End e = no (cc)
 timely s Finish e = no (cc)

@@ -2,7 +2,7 @@
 -- Assumes nothing.
 use Prim.Native.Nat.{ℕ, zero, suc, _+_, _-_, _≤_, _<_}
 use mathlib.Core.Path.{_≡_, refl, sym, _∙_, ap}
-use mathlib.Core.Bool.{Bool, true, false}
+use mathlib.Core.Bool.{Bool, true, false, not}
 use mathlib.Core.List.{List, [], _∷_, _++_}
 use native.Mathlib.Omega.{arith}
 use lib.ListN.{length, take, drop, replicate, length-drop, take-append-drop}
@@ -15,7 +15,7 @@ use Rattle.lists.specs.Lists.{bit, count, every}
 use Rattle.rules.specs.State.{State, blank, nth, created, isReady, isQueued, isHeld, hasTime}
 use Rattle.rules.specs.Sound.{sound}
 use Rattle.rules.specs.Step.{Outcome, refused, took, takeCall}
-use Rattle.rules.specs.Whole.{Typed, view, pack, isBlank, isOff, unused, packed, soundWhole, Whole, done, stepWhole}
+use Rattle.rules.specs.Whole.{Typed, view, pack, isBlank, unused, packed, soundWhole, Whole, done, stepWhole}
 use Rattle.rules.specs.declared.Supervisor.{Supervisor}
 use Rattle.calls.specs.declared.Call as C
 use Rattle.rules.specs.declared.Task.{Task}
@@ -90,7 +90,7 @@ packed-pack s h =
 
 pub blank-is : (x : Task) → unused x ≡ true → x ≡ blank
 blank-is x e =
-    let p = each (eqb (x .priority) 0) (eqb (x .entries) 0 ∷ isBlank (x .place) ∷ isOff (x .timer) ∷ []) e in
+    let p = each (eqb (x .priority) 0) (eqb (x .entries) 0 ∷ isBlank (x .place) ∷ not (hasTime (x .timer)) ∷ []) e in
     λ i. record {
       priority = eqb-true (x .priority) 0 (p 0) i;
       entries = eqb-true (x .entries) 0 (p 1) i;
@@ -107,7 +107,7 @@ blank-is x e =
     place (Accepting o) h = cc
     place Completed h = cc
 
-    timer : (w : Timer) → isOff w ≡ true → w ≡ Off
+    timer : (w : Timer) → not (hasTime w) ≡ true → w ≡ Off
     timer Off h = refl
     timer (Due d) h = cc
 

@@ -242,24 +242,24 @@ wakeAll s [] = s
 wakeAll s (t ∷ ts) = wakeAll (wake s t) ts
 
 -- what a caller of entry e of task g waits for
-abbrev pub waiting : State → ℕ → ℕ → Waiting
-waiting s g e = record { target = g; entry = e }
+abbrev pub waiting : ℕ → ℕ → Waiting
+waiting g e = record { target = g; entry = e }
 
 -- what a task with the open set o waits for
 abbrev pub offer : ℕ → Offer
 offer o = record { opens = o }
 
 -- the rendezvous of a caller of entry e with g
-abbrev pub meeting : State → ℕ → ℕ → Meeting
-meeting s g e = record { holder = g; entry = e }
+abbrev pub meeting : ℕ → ℕ → Meeting
+meeting g e = record { holder = g; entry = e }
 
 -- the rendezvous of g with its caller c at entry e begins: c is held by g, its time is dropped
 abbrev pub meet : State → ℕ → ℕ → ℕ → State
-meet s g c e = move s c (Held (meeting s g e)) Off
+meet s g c e = move s c (Held (meeting g e)) Off
 
--- the rendezvous of g with its caller c ends: c becomes ready
-abbrev pub part : State → ℕ → ℕ → State
-part s g c = wake s c
+-- the rendezvous of a caller c ends: it becomes ready
+abbrev pub part : State → ℕ → State
+part s c = wake s c
 
 -- a new ready task
 abbrev pub add : State → ℕ → ℕ → State

@@ -116,7 +116,7 @@ delayFor s t (suc d) = took (move s t Delayed (Due (after (s .clock) (suc d)))) 
 
 -- t waits in the queue of entry e of task g, at the tail, with a time or none
 abbrev pub enqueue : State → ℕ → ℕ → ℕ → Timer → Outcome
-enqueue s t g e w = took (move s t (Queued (waiting s g e)) w) (item t WAITS 0 0) []
+enqueue s t g e w = took (move s t (Queued (waiting g e)) w) (item t WAITS 0 0) []
 
 -- timed with d above 0 waits with a time; with d zero or below it gives CALL_EXPIRED
 abbrev pub timedCall : State → ℕ → ℕ → ℕ → ℕ → Outcome
@@ -180,7 +180,7 @@ select s t o m =
 -- c, if it is not 0, becomes ready with SERVED
 abbrev pub endLast : State → ℕ → ℕ → Outcome
 endLast s t zero = refused NOT-SERVING
-endLast s t (suc c) = took (part s t (suc c)) (item t DONE 0 0) (item (suc c) SERVED (entryOf (placeOf s (suc c))) t ∷ [])
+endLast s t (suc c) = took (part s (suc c)) (item t DONE 0 0) (item (suc c) SERVED (entryOf (placeOf s (suc c))) t ∷ [])
 
 -- END: the caller held last becomes ready with SERVED
 abbrev pub end : State → ℕ → Outcome

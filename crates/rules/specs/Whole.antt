@@ -8,15 +8,13 @@ use lib.ListN.{length, take, drop, replicate}
 use Rattle.lists.specs.Line.{line, pad, tidy}
 use lib.Dec.{eqb, ltb, leb}
 use Rattle.lists.specs.Lists.{if_then_else_, every}
-use Rattle.rules.specs.State.{State, blank, created}
+use Rattle.rules.specs.State.{State, blank, created, hasTime}
 use Rattle.rules.specs.Sound.{sound}
 use Rattle.rules.specs.Step.{Outcome, refused, took, Refusal, SHORT-ROOM, BAD-STATE, number, none, takeCall}
 use Rattle.rules.specs.declared.Item.{Item}
 use Rattle.rules.specs.State.{running}
 use Rattle.calls.specs.declared.Call as C
 use Rattle.rules.specs.declared.Task.{Task}
-use Rattle.rules.specs.declared.Timer.the-variants.{Off, Due}
-use Rattle.rules.specs.declared.Timer.{Timer}
 use Rattle.rules.specs.declared.Place.{Place}
 use Rattle.rules.specs.declared.Place.the-variants.{Blank, Ready, Delayed, Queued, Held, Accepting, Completed}
 use Rattle.rules.specs.declared.Supervisor.{Supervisor}
@@ -67,14 +65,9 @@ isBlank (Held m) = false
 isBlank (Accepting o) = false
 isBlank Completed = false
 
--- no time
-abbrev pub isOff : Timer → Bool
-isOff Off = true
-isOff (Due d) = false
-
 -- a blank task
 abbrev pub unused : Task → Bool
-unused t = eqb (t .priority) 0 && eqb (t .entries) 0 && isBlank (t .place) && isOff (t .timer)
+unused t = eqb (t .priority) 0 && eqb (t .entries) 0 && isBlank (t .place) && not (hasTime (t .timer))
 
 -- at most 31 tasks created, and all unused places blank
 abbrev pub packed : Supervisor → Bool

@@ -11,14 +11,13 @@ use lib.ListN.{getD}
 use borrow.Author.Tests.{lt-ltb, le-ltb, le-leb, leb-true, leb-false, ltb-false}
 use Rattle.lists.proofs.ListLaws.{by-bool, clash}
 use Rattle.lists.proofs.Tests.{between}
-use Rattle.rules.specs.State.{blank, taskOf, partnerOf, hasTime, left}
+use Rattle.rules.specs.State.{blank, taskOf, partnerOf, left}
 use Rattle.rules.specs.Sound.{timeInRange, goodTask}
-use Rattle.rules.specs.Whole.{view, isBlank, isOff}
+use Rattle.rules.specs.Whole.{view, isBlank}
 use Rattle.rules.specs.declared.Supervisor.{Supervisor}
 use Rattle.rules.specs.declared.Task.{Task}
 use Rattle.rules.specs.declared.Place.{Place}
-use Rattle.rules.specs.declared.Timer.{Timer}
-use Rattle.rules.specs.declared.Timer.the-variants.{Off, Due}
+use Rattle.rules.specs.declared.Timer.the-variants.{Due}
 use Rattle.table.proofs.LeafLaws.{task-in, task-past}
 use Rattle.table.proofs.PlaceLaws.{Among, by-place}
 use Rattle.soundness.specs.Check.{goodIn}
@@ -34,11 +33,6 @@ pub not-blank : (p : Place) → Among (1 ∷ 2 ∷ 3 ∷ 4 ∷ 5 ∷ 6 ∷ []) p
 not-blank =
     by-place (λ p. Among (1 ∷ 2 ∷ 3 ∷ 4 ∷ 5 ∷ 6 ∷ []) p → false ≡ isBlank p)
     (λ k. absurd (miss (1 ∷ 2 ∷ 3 ∷ 4 ∷ 5 ∷ 6 ∷ []) 0 tt k)) (λ k. refl) (λ k. refl) (λ q k. refl) (λ m k. refl) (λ o k. refl) (λ k. refl)
-
--- who has no time is off
-pub untimed : (w : Timer) (b : Bool) → b ≡ hasTime w → not b ≡ isOff w
-untimed Off b e = ap not e
-untimed (Due d) b e = ap not e
 
 pub in-time-due : (now d l : ℕ) → l ≡ left now d → d < 4294967296 → (ltb 0 l && leb l 2147483647) ≡ timeInRange now (Due d)
 in-time-due now d l e h = rw (e, lt-ltb d 4294967296 h) (sym (and-true (ltb 0 (left now d) && leb (left now d) 2147483647)))

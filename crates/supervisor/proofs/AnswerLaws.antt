@@ -5,7 +5,7 @@ use mathlib.Core.Path.{_≡_, refl, sym, ap, _∙_}
 use mathlib.Core.Bool.{Bool}
 use mathlib.Core.List.{List, []}
 use lib.ListN.{length}
-use Rattle.rules.specs.State.{State, taskOf, move, running, meet, part}
+use Rattle.rules.specs.State.{State, taskOf, move, running}
 use Rattle.rules.specs.Step.{Outcome, refused, took, NO-TASK, ofRunning, roomAfter}
 use Rattle.rules.specs.Sound.{sound}
 use Rattle.rules.specs.Whole.{view, pack}
@@ -15,10 +15,10 @@ use Rattle.rules.specs.declared.Supervisor.{Supervisor}
 use Rattle.rules.specs.declared.Place.{Place}
 use Rattle.rules.specs.declared.Timer.{Timer}
 use Rattle.rules.proofs.Members.{Runs, runs}
-use Rattle.table.specs.Moved.{movedOf, metOf, partedOf}
+use Rattle.table.specs.Moved.{movedOf}
 use Rattle.supervisor.specs.Taken.{Stands, takenAs, takenOf, endedBy}
 use Rattle.supervisor.specs.declared.answers.Taken.{Taken}
-use Rattle.supervisor.proofs.MoveLaws.{moved-packed, met-packed, parted-packed}
+use Rattle.supervisor.proofs.MoveLaws.{moved-packed}
 
 -- ---- the running task
 
@@ -53,16 +53,6 @@ answers s m st a l e q k = e ∙ λ i. takenAs (q i) a (k i)
 pub move-answers : (s m : Supervisor) (t : ℕ) (p : Place) (w : Timer) (a : Item) (l : List Item) {r : Taken} → Stands s → t ≤ length (view s .tasks)
     → r ≡ takenAs m a (length l) → m ≡ movedOf s t p w → r ≡ takenOf s (took (move (view s) t p w) a l)
 move-answers s m t p w a l h k e q = answers s m (move (view s) t p w) a l e (q ∙ moved-packed s t p w h k) refl
-
--- answers that come with them
-module _ (g c e : ℕ) where
-  pub meet-answers : (s m : Supervisor) (a : Item) (l : List Item) {r : Taken} → Stands s → g ≤ length (view s .tasks) → c ≤ length (view s .tasks)
-      → r ≡ takenAs m a (length l) → m ≡ metOf s g c e → r ≡ takenOf s (took (meet (view s) g c e) a l)
-  meet-answers s m a l h i k y q = answers s m (meet (view s) g c e) a l y (q ∙ met-packed g c e s h i k) refl
-
-  pub part-answers : (s m : Supervisor) (a : Item) (l : List Item) {r : Taken} → Stands s → g ≤ length (view s .tasks) → c ≤ length (view s .tasks)
-      → r ≡ takenAs m a (length l) → m ≡ partedOf s g c → r ≡ takenOf s (took (part (view s) g c) a l)
-  part-answers s m a l h i k y q = answers s m (part (view s) g c) a l y (q ∙ parted-packed g c e s h i k) refl
 
 pub stay-answers : (s : Supervisor) (a : Item) (l : List Item) {r : Taken} → Stands s → r ≡ takenAs s a (length l) → r ≡ takenOf s (took (view s) a l)
 stay-answers s a l h e = answers s s (view s) a l e (h .packs) refl

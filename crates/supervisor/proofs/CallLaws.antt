@@ -9,12 +9,12 @@ use lib.Dec.{ltb, leb}
 use lib.ListN.{length}
 use borrow.Author.Tests.{not-true, not-false}
 use Rattle.lists.proofs.Tests.{between}
-use Rattle.rules.specs.State.{State, created, taskOf, wake, running, after, isTask, placeOf, isCompleted, accepts, meet}
+use Rattle.rules.specs.State.{State, created, taskOf, wake, running, after, isTask, placeOf, isCompleted, accepts, meeting, meet}
 use Rattle.rules.specs.Step.{refused, took, NO-TASK, NO-TARGET, NO-ENTRY, item, WAITS, CALL-EXPIRED, TASKING-ERROR, ACCEPTED, ticks, enqueue, timedCall, callBusy, call, takeCall}
 use Rattle.rules.specs.Sound.{sound}
 use Rattle.rules.specs.Whole.{view, pack}
 use Rattle.rules.specs.declared.Supervisor.{Supervisor}
-use Rattle.rules.specs.declared.Place.the-variants.{Ready}
+use Rattle.rules.specs.declared.Place.the-variants.{Ready, Held}
 use Rattle.rules.specs.declared.Timer.the-variants.{Off, Due}
 use Rattle.calls.specs.declared.Call.the-variants.{Call}
 use lib.IntN.{ℤ}
@@ -24,7 +24,7 @@ use Rattle.rules.specs.declared.Timer.{Timer}
 use Rattle.rules.proofs.MoveLaws.{wake-sound, length-move}
 use Rattle.table.specs.Moved.{movedOf, metOf}
 use Rattle.supervisor.specs.Taken.{Stands, endedBy}
-use Rattle.supervisor.proofs.MoveLaws.{moved-packed, met-state, created-is}
+use Rattle.supervisor.proofs.MoveLaws.{moved-packed, moved-state, created-is}
 use Rattle.supervisor.proofs.AnswerLaws.{no-runner, of-runner}
 
 module _ (v : State) (t g e : ℕ) (m : CallMode) (run : t ≡ running v) where
@@ -87,4 +87,4 @@ pub woken-met : (s n k : Supervisor) (g t e : ℕ) → Stands s → isTask (view
 woken-met s n k g t e h q b en ek =
     let v = view s in
     let i = between g (created v) q in
-    ek ∙ met-state g t e n (wake v g) (en ∙ moved-packed s g Ready Off h (i .1)) (wake-sound v g (i .0) (i .1) (h .sound)) (omega (arith, i .1, length-move v g Ready Off)) (omega (arith, b, length-move v g Ready Off))
+    ek ∙ moved-state n (wake v g) t (Held (meeting g e)) Off (en ∙ moved-packed s g Ready Off h (i .1)) (wake-sound v g (i .0) (i .1) (h .sound)) (omega (arith, b, length-move v g Ready Off))

@@ -22,10 +22,10 @@ module _ (v : State) (t k : ℕ) (is : k ≡ last (heldBy v t)) where
   pub end-none : k ≡ 0 → end v t ≡ refused NOT-SERVING
   end-none z = rw (← is, z)
 
-  pub end-one : (k ≡ 0 → ⊥) → end v t ≡ took (part v t k) (item t DONE 0 0) (item k SERVED (entryOf (placeOf v k)) t ∷ [])
+  pub end-one : (k ≡ 0 → ⊥) → end v t ≡ took (part v k) (item t DONE 0 0) (item k SERVED (entryOf (placeOf v k)) t ∷ [])
   end-one z = rw (← is) (go k z)
     where
-      go : (k : ℕ) → (k ≡ 0 → ⊥) → endLast v t k ≡ took (part v t k) (item t DONE 0 0) (item k SERVED (entryOf (placeOf v k)) t ∷ [])
+      go : (k : ℕ) → (k ≡ 0 → ⊥) → endLast v t k ≡ took (part v k) (item t DONE 0 0) (item k SERVED (entryOf (placeOf v k)) t ∷ [])
       go zero z = absurd (z refl)
       go (suc k) z = refl
 

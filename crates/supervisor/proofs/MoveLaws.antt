@@ -9,19 +9,17 @@ use lib.Seq.{set-append-left}
 use Rattle.lists.proofs.LineLaws.{length-pad, line-picked}
 use Rattle.lists.specs.Line.{line, pad}
 use Rattle.lists.specs.Lists.{filter}
-use Rattle.rules.specs.State.{State, blank, setNth, created, move, meeting, meet, part}
+use Rattle.rules.specs.State.{State, blank, setNth, created, move}
 use Rattle.rules.specs.Sound.{sound}
 use Rattle.rules.specs.Whole.{view, pack}
 use Rattle.rules.specs.declared.Task.{Task}
 use Rattle.rules.specs.declared.Supervisor.{Supervisor}
 use Rattle.rules.specs.declared.Place.{Place}
-use Rattle.rules.specs.declared.Place.the-variants.{Ready, Held}
-use Rattle.rules.specs.declared.Timer.the-variants.{Off}
 use Rattle.rules.specs.declared.Timer.{Timer}
 use Rattle.rules.proofs.Invariant.{Sound}
 use Rattle.rules.proofs.MoveLaws.{length-setNth, moved}
 use Rattle.rules.proofs.WholeLaws.{view-pack}
-use Rattle.table.specs.Moved.{movedOf, metOf, partedOf, passesOf}
+use Rattle.table.specs.Moved.{movedOf, passesOf}
 use Rattle.table.specs.declared.queues.Test.{Test}
 use Rattle.supervisor.specs.Taken.{Stands}
 
@@ -56,21 +54,6 @@ moved-state n st t p w e h k =
     ap (λ (z : Supervisor). movedOf z t p w) e
     ∙ moved-packed (pack st) t p w (stands-pack st h) (subst (λ (z : State). t ≤ length (z .tasks)) (sym v) k)
     ∙ ap (λ (z : State). pack (move z t p w)) v
-
--- the events in the struct are the rules' events
-module _ (g c e : ℕ) where
-  pub met-packed : (s : Supervisor) → Stands s → g ≤ length (view s .tasks) → c ≤ length (view s .tasks) → metOf s g c e ≡ pack (meet (view s) g c e)
-  met-packed s h i k = moved-packed s c (Held (meeting (view s) g e)) Off h k
-
-  pub met-state : (n : Supervisor) (st : State) → n ≡ pack st → Sound st → g ≤ length (st .tasks) → c ≤ length (st .tasks) → metOf n g c e ≡ pack (meet st g c e)
-  met-state n st q h i k =
-      let v = view-pack st h in
-      ap (λ (m : Supervisor). metOf m g c e) q
-      ∙ met-packed (pack st) (stands-pack st h) (subst (λ (z : State). g ≤ length (z .tasks)) (sym v) i) (subst (λ (z : State). c ≤ length (z .tasks)) (sym v) k)
-      ∙ ap (λ (z : State). pack (meet z g c e)) v
-
-  pub parted-packed : (s : Supervisor) → Stands s → g ≤ length (view s .tasks) → c ≤ length (view s .tasks) → partedOf s g c ≡ pack (part (view s) g c)
-  parted-packed s h i k = moved-packed s c Ready Off h k
 
 module _ (s : Supervisor) (h : Stands s) where
   pub long-callers : length (s .callers) ≡ 31

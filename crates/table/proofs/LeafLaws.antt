@@ -111,11 +111,8 @@ retime-due s t d n l keys long k e em q =
     none : (x : ℕ) → 32 ≤ x → leftOf s x ≡ 0
     none x h = ap (λ (y : Task). ticksLeft (s .clock) (y .timer)) (sym (task-out (s .tasks) (s .created) x (omega arith)))
 
--- the task that moves, its place and its time, as a call of `moved` was given them
+-- the place and the time of the task that moves, as a call of `moved` was given them
 module _ {r : Supervisor} (s : Supervisor) (t : ℕ) (p : Place) (w : Timer) where
-  abbrev pub taskGiven : r ≡ movedOf s t p w → ℕ
-  taskGiven e = t
-
   abbrev pub placeGiven : r ≡ movedOf s t p w → Place
   placeGiven e = p
 

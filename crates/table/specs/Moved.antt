@@ -71,10 +71,10 @@ wokenOf s l = record {
 
 -- a rendezvous of g with its caller c at entry e begins, and ends, in the struct
 abbrev pub metOf : Supervisor → ℕ → ℕ → ℕ → Supervisor
-metOf s g c e = movedOf s c (Held (meeting (view s) g e)) Off
+metOf s g c e = movedOf s c (Held (meeting g e)) Off
 
-abbrev pub partedOf : Supervisor → ℕ → ℕ → Supervisor
-partedOf s g c = movedOf s c Ready Off
+abbrev pub partedOf : Supervisor → ℕ → Supervisor
+partedOf s c = movedOf s c Ready Off
 
 -- the ticks that task x has left
 abbrev pub leftOf : Supervisor → ℕ → ℕ

@@ -137,9 +137,9 @@ pub fn met(s: Supervisor, g: u8, c: u8, e: u8) -> Supervisor
     moved(s, c, Place::Held(m), Timer::Off)
 }
 
-// The rendezvous of g with its caller c ends.
-pub fn parted(s: Supervisor, g: u8, c: u8) -> Supervisor
-    ensures { λ r. ⌜ r ≡ partedOf s g c ⌝ }
+// The rendezvous of a caller c ends.
+pub fn parted(s: Supervisor, c: u8) -> Supervisor
+    ensures { λ r. ⌜ r ≡ partedOf s c ⌝ }
 {
     moved(s, c, Place::Ready, Timer::Off)
 }

@@ -7,17 +7,15 @@ use Rattle.rules.specs.State.{entryOf, placeOf, heldBy, part}
 use Rattle.rules.specs.Step.{item, takeCall, took, DONE, SERVED}
 use Rattle.rules.specs.Step as rules
 use Rattle.rules.specs.Whole.{view}
-use Rattle.rules.proofs.Members.{Runs}
+use Rattle.rules.specs.declared.Place.the-variants.{Ready}
+use Rattle.rules.specs.declared.Timer.the-variants.{Off}
 use Rattle.table.specs.declared.queues.Test.the-variants.{HeldBy}
 use Rattle.lists.proofs.Parts.{need, Answer, Room}
 use Rattle.supervisor.proofs.MoveLaws.{long-held, picked-line}
-use Rattle.supervisor.proofs.AnswerLaws.{by-both, by-ended, by-outcome, part-answers, runner}
+use Rattle.supervisor.proofs.AnswerLaws.{by-both, by-ended, by-outcome, move-answers}
 use Rattle.supervisor.proofs.EndLaws.{end-idle, end-runs, end-none, end-one, held-fits}
 use Rattle.supervisor.proofs.end.end.Statement.{statement}
 use Rattle.supervisor.proofs.end.end.Tie as tie
-
-runs-here : (c : tie.Else1) → Runs (view (c .before .before .before .args .s)) (c .before .running .result)
-runs-here c = runner (c .before .before .before .args .s) (c .before .running .result) (c .before .before .before .pre .0) (c .before .running .ensures) (c .if1 .left)
 
 end-here : (c : tie.Else1) → takeCall (view (c .before .before .before .args .s)) End ≡ rules.end (view (c .before .before .before .args .s)) (c .before .running .result)
 end-here c = end-runs (view (c .before .before .before .args .s)) (c .before .running .result) (c .before .running .ensures) (c .if1 .left)
@@ -42,7 +40,7 @@ returns-2 c =
 
 -- the caller held last is served
 serves-here : (c : tie.Else2)
-    → let v = view (c .before .before .before .before .before .before .before .args .s) in let t = c .before .before .before .before .before .running .result in let k = c .before .last-of .result in takeCall v End ≡ took (part v t k) (item t DONE 0 0) (item k SERVED (entryOf (placeOf v k)) t ∷ [])
+    → let v = view (c .before .before .before .before .before .before .before .args .s) in let t = c .before .before .before .before .before .running .result in let k = c .before .last-of .result in takeCall v End ≡ took (part v k) (item t DONE 0 0) (item k SERVED (entryOf (placeOf v k)) t ∷ [])
 serves-here c =
     let e1 = c .before .before .before .before in
     end-here e1 ∙ end-one (view (e1 .before .before .before .args .s)) (e1 .before .running .result) (c .before .last-of .result) (last-here (c .before)) (c .if2 .left)
@@ -57,7 +55,7 @@ answer-here c =
     let t = e1 .before .running .result in
     let k = e2 .before .last-of .result in
     by-outcome s (serves-here e2)
-    (part-answers t k 0 s (c .before .parted .result) (item t DONE 0 0) (item k SERVED (entryOf (placeOf v k)) t ∷ []) (r .pre .0) (runs-here e1 .high) (held-fits v t k (last-here (e2 .before)) (e2 .if2 .left)) (c .answered .ensures) (c .before .parted .ensures))
+    (move-answers s (c .before .parted .result) k Ready Off (item t DONE 0 0) (item k SERVED (entryOf (placeOf v k)) t ∷ []) (r .pre .0) (held-fits v t k (last-here (e2 .before)) (e2 .if2 .left)) (c .answered .ensures) (c .before .parted .ensures))
 
 written-here : Room (need tie.Need-returns-3)
 written-here c = by-ended _ _ (serves-here (c .before .before .before .before .before .before .before .before)) (rw (c .before .before .before .before .before .entry-of .ensures, c .before .before .before .before .before .before .before .task-of .ensures) at (c .before .before .before .before .put .ensures))

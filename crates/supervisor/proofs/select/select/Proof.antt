@@ -6,13 +6,15 @@ use mathlib.Core.List.{[]}
 use lib.Dec.{leb}
 use Rattle.calls.specs.declared.Call.the-variants.{Select}
 use Rattle.lists.specs.Lists.{first}
-use Rattle.rules.specs.State.{taskOf, queue, meet}
+use Rattle.rules.specs.State.{taskOf, queue, meeting, meet}
+use Rattle.rules.specs.declared.Place.the-variants.{Held}
+use Rattle.rules.specs.declared.Timer.the-variants.{Off}
 use Rattle.rules.specs.Step.{takeCall, took, item, openEntry, ACCEPTED}
 use Rattle.rules.specs.Step as rules
 use Rattle.rules.specs.Whole.{view}
 use Rattle.rules.proofs.Members.{Runs}
 use Rattle.supervisor.specs.Taken.{takenOf}
-use Rattle.supervisor.proofs.AnswerLaws.{by-outcome, of-task, runner, meet-answers}
+use Rattle.supervisor.proofs.AnswerLaws.{by-outcome, of-task, runner, move-answers}
 use Rattle.supervisor.proofs.LowestLaws.{lowest-none, lowest-one}
 use Rattle.supervisor.proofs.SelectLaws.{select-alone, select-runs, select-wide, select-idle, select-takes, first-fits}
 use Rattle.supervisor.proofs.select.select.Statement.{statement}
@@ -70,7 +72,7 @@ held-here c =
     let t = e1 .before .running .result in
     let b = e3 .before .before .lowest .result in
     let l = lowest-here e3 in
-    meet-answers t (b .task) (b .entry) (a .s) (c .before .met .result) (item t ACCEPTED (b .entry) (b .task)) [] (e1 .before .before .pre) (runs-here e1 .high) (first-fits (view (a .s)) t (a .o) (b .entry) (b .task) (l .0) (l .1) (l .2)) (c .answered .ensures) (c .before .met .ensures)
+    move-answers (a .s) (c .before .met .result) (b .task) (Held (meeting t (b .entry))) Off (item t ACCEPTED (b .entry) (b .task)) [] (e1 .before .before .pre) (first-fits (view (a .s)) t (a .o) (b .entry) (b .task) (l .0) (l .1) (l .2)) (c .answered .ensures) (c .before .met .ensures)
 
 returns-4 : tie.Need-returns-4
 returns-4 c =

@@ -1,7 +1,6 @@
 use borrow.Author.Needs.{needs}
 use mathlib.Core.Path.{_≡_, refl, _∙_}
 use Rattle.rules.specs.State.{meeting}
-use Rattle.rules.specs.Whole.{view}
 use Rattle.rules.specs.declared.Place.the-variants.{Held}
 use Rattle.rules.specs.declared.Timer.the-variants.{Off}
 use Rattle.table.specs.Moved.{movedOf}
@@ -10,7 +9,7 @@ use Rattle.table.proofs.moves.met.Statement.{statement}
 use Rattle.table.proofs.moves.met.Tie as tie
 
 -- the caller is held by g, at entry e
-place-here : (c : tie.After-moved) → let a = c .before .args in placeGiven _ _ _ _ (c .moved .ensures) ≡ Held (meeting (view (a .s)) (a .g) (a .e))
+place-here : (c : tie.After-moved) → let a = c .before .args in placeGiven _ _ _ _ (c .moved .ensures) ≡ Held (meeting (a .g) (a .e))
 place-here c = refl
 
 -- with no time
