@@ -5,7 +5,6 @@ use mathlib.Core.Path.{_≡_, refl, sym, ap, _∙_}
 use mathlib.Core.Bool.{Bool, true, false, not, _&&_, and-true}
 use mathlib.Core.List.{[], _∷_}
 use native.Mathlib.Omega.{arith}
-use types.Run.{miss}
 use lib.Dec.{ltb, leb}
 use lib.ListN.{getD}
 use borrow.Author.Tests.{lt-ltb, le-ltb, le-leb, leb-true, leb-false, ltb-false}
@@ -19,7 +18,7 @@ use Rattle.rules.specs.declared.Task.{Task}
 use Rattle.rules.specs.declared.Place.{Place}
 use Rattle.rules.specs.declared.Timer.the-variants.{Due}
 use Rattle.table.proofs.LeafLaws.{task-in, task-past}
-use Rattle.table.proofs.PlaceLaws.{Among, by-place}
+use Rattle.table.proofs.PlaceLaws.{Among, in-arm}
 use Rattle.soundness.specs.Check.{goodIn}
 
 -- x is one of 1..most
@@ -30,9 +29,7 @@ pub not-leb : (a b : ℕ) → not (leb a b) ≡ ltb b a
 not-leb a b = by-bool (leb a b) (λ e. rw (e, le-ltb b a (leb-true a b e))) (λ e. rw (e, lt-ltb b a (leb-false a b e)))
 
 pub not-blank : (p : Place) → Among (1 ∷ 2 ∷ 3 ∷ 4 ∷ 5 ∷ 6 ∷ []) p → false ≡ isBlank p
-not-blank =
-    by-place (λ p. Among (1 ∷ 2 ∷ 3 ∷ 4 ∷ 5 ∷ 6 ∷ []) p → false ≡ isBlank p)
-    (λ k. absurd (miss (1 ∷ 2 ∷ 3 ∷ 4 ∷ 5 ∷ 6 ∷ []) 0 tt k)) (λ k. refl) (λ k. refl) (λ q k. refl) (λ m k. refl) (λ o k. refl) (λ k. refl)
+not-blank = in-arm isBlank false (1 ∷ 2 ∷ 3 ∷ 4 ∷ 5 ∷ 6 ∷ []) tt refl refl (λ q. refl) (λ m. refl) (λ o. refl) refl
 
 pub in-time-due : (now d l : ℕ) → l ≡ left now d → d < 4294967296 → (ltb 0 l && leb l 2147483647) ≡ timeInRange now (Due d)
 in-time-due now d l e h = rw (e, lt-ltb d 4294967296 h) (sym (and-true (ltb 0 (left now d) && leb (left now d) 2147483647)))
