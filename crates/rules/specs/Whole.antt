@@ -116,6 +116,10 @@ answerOf w = record {
   next = w .next;
 }
 
+-- the answer of a call or record that is refused: the refusal, and the dispatched task
+abbrev pub refusedAnswer : ℕ → ℕ → Answer
+refusedAnswer n next = record { refusal = n; result = 0; task = 0; entry = 0; partner = 0; ended = 0; next = next }
+
 -- what the code's step gives: the struct and the answer
 abbrev pub steppedOf : Whole → Stepped
 steppedOf w = record { state = w .state; answer = answerOf w }

@@ -16,9 +16,8 @@ use Rattle.calls.specs.Reading.{readOf, refusalOf}
 use Rattle.lists.proofs.ListLaws.{by-bool}
 use Rattle.rules.specs.Step.{roomAfter}
 use Rattle.rules.specs.Questions.{runningWhole}
-use Rattle.rules.specs.Whole.{stepWhole, steppedOf}
+use Rattle.rules.specs.Whole.{stepWhole, steppedOf, refusedAnswer}
 use Rattle.rules.specs.declared.Stepped.{Stepped}
-use Rattle.supervisor.specs.Taken.{refusedAnswer}
 use Rattle.report.specs.Lines.{lineText, longestLine}
 use Rattle.text.specs.Text.{numberAfter, Put, putAt}
 use Rattle.session.specs.Turn.{Turn, took, left, leaves, turnBy, turnOf, turnedOf}

@@ -11,8 +11,7 @@ use Rattle.calls.specs.declared.Read.the-variants.{Record, BadRecord, EndOfLog}
 use Rattle.calls.specs.Reading.{END-OF-LOG, readOf, refusalOf}
 use Rattle.rules.specs.Questions.{runningWhole}
 use Rattle.rules.specs.Step.{roomAfter}
-use Rattle.rules.specs.Whole.{Whole, stepWhole, answerOf}
-use Rattle.supervisor.specs.Taken.{refusedAnswer}
+use Rattle.rules.specs.Whole.{Whole, stepWhole, answerOf, refusedAnswer}
 use Rattle.report.specs.Lines.{lineText}
 use Rattle.text.specs.Text.{numberAfter, behind}
 use Rattle.session.specs.declared.turns.Session.{Session}

@@ -10,7 +10,6 @@ use Rattle.rules.specs.State.{State, placeOf, entryOf, partnerOf, after, move, 
 use Rattle.rules.specs.Advance.{dueWithin}
 use Rattle.rules.specs.Step.{Outcome, refused, took, number, item, expiry, expired, failed, roomAfter, WAITS, TASKING-ERROR, DONE}
 use Rattle.rules.specs.Whole.{view, pack}
-use Rattle.rules.specs.declared.Answer.{Answer}
 use Rattle.rules.specs.declared.Item.{Item}
 use Rattle.rules.specs.declared.Place.{Place}
 use Rattle.rules.specs.declared.Place.the-variants.{Accepting, Completed}
@@ -33,10 +32,6 @@ takenAs m a n = record { state = m; refusal = 0; task = a .task; result = a .res
 abbrev pub takenOf : Supervisor → Outcome → Taken
 takenOf s (refused r) = record { state = s; refusal = number r; task = 0; result = 0; entry = 0; partner = 0; ended = 0 }
 takenOf s (took st a l) = takenAs (pack st) a (length l)
-
--- the answer of a call or record that is refused: the refusal, and the dispatched task
-abbrev pub refusedAnswer : ℕ → ℕ → Answer
-refusedAnswer n next = record { refusal = n; result = 0; task = 0; entry = 0; partner = 0; ended = 0; next = next }
 
 -- the ended waits of an outcome
 abbrev pub endedBy : Outcome → List Item

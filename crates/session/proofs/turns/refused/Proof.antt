@@ -10,7 +10,7 @@ use Rattle.report.specs.Lines.{lineText, longestLine}
 use Rattle.rules.specs.declared.Answer.{Answer}
 use Rattle.rules.specs.declared.Running.{Running}
 use Rattle.text.proofs.Puts.{put-none, same-text}
-use Rattle.supervisor.specs.Taken.{refusedAnswer}
+use Rattle.rules.specs.Whole.{refusedAnswer}
 use Rattle.session.proofs.TurnLaws.{says, asks-more, ends, says-bad}
 use borrow.Author.Needs.{needs}
 use Rattle.session.proofs.turns.refused.Statement.{statement}
