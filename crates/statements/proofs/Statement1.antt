@@ -27,6 +27,7 @@ use Rattle.supervisor.proofs.step.Met as step
 use Rattle.supervisor.proofs.count.Met as count
 use Rattle.supervisor.proofs.callable.Met as callable
 use Rattle.supervisor.proofs.sound.Met as sound
+use Rattle.supervisor.proofs.refused_answer.Met as refused-answer
 use Rattle.statements.specs.Statement1.{Statement1}
 use Rattle.statements.proofs.Refusals.{by-table}
 
@@ -83,6 +84,7 @@ statement1 = record {
   step = step.met;
   count = count.met;
   callable = callable.met;
+  refused-answer = refused-answer.met;
   step-refused = by-table;
   count-refused = count-refused;
   callable-refused = callable-refused;

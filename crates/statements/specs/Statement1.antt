@@ -27,6 +27,7 @@ use Rattle.supervisor.proofs.step.Statement as step
 use Rattle.supervisor.proofs.count.Statement as count
 use Rattle.supervisor.proofs.callable.Statement as callable
 use Rattle.supervisor.proofs.sound.Statement as sound
+use Rattle.supervisor.proofs.refused_answer.Statement as refused-answer
 use Rattle.statements.specs.Refusals.{rows, firstRow}
 
 pub record Statement1 : Type 2 where
@@ -39,6 +40,7 @@ pub record Statement1 : Type 2 where
   pub step : {M : Type 1} → step.statement M
   pub count : {M : Type 1} → count.statement M
   pub callable : {M : Type 1} → callable.statement M
+  pub refused-answer : {M : Type 1} → refused-answer.statement M
   -- "bad input gets the refusal number": that of the first row of the table that applies, and 0, which is none, where no row does
   pub step-refused : (s : Supervisor) (c : C.Call) (n : ℕ) → Typed s → stepWhole s c n .refusal ≡ firstRow (rows s c n)
   -- a question is refused, with 2, exactly when the state is not sound

@@ -31,6 +31,7 @@ use Rattle.supervisor.proofs.callable.Reads as callable
 
 pub record Statement2 : Type 1 where
   -- whatever the contract of `step` allows, in a state x .0 with the call x .1 .0 and a lent room, is a use that keeps the rules' step
+  -- (x has what the function is given, r is its answer, y has what is lent as it is afterwards)
   pub as-the-rules : (κs : _) (x : _) (r : _) (y : _) → step.Post κs x r y
       → Keeps (x .0) (record { call = x .1 .0; lent = now (x .1 .1 .0); gave = r; wrote = now (y .1 .1 .0) })
   -- the same of the reader, the writer and the questions: whatever their contracts allow is what the definitions say
