@@ -4,3 +4,4 @@ pub mod Statement2
 pub mod Statement3
 pub mod Cutting
 pub mod FullQueue
+pub mod Library

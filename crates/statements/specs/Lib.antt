@@ -6,5 +6,7 @@ pub mod Statement2
 pub mod Statement3
 -- ADVANCE as ticks, and cut in two
 pub mod Cutting
+-- the functions that other programs link, and the library as a run of statement 3
+pub mod Library
 -- a queue of 31 callers
 pub mod FullQueue
