@@ -2,24 +2,23 @@
 -- Assumes nothing.
 use Prim.Native.Nat.{ℕ, zero, suc, _+_, _≤_, _<_}
 use mathlib.Core.Path.{_≡_, refl, sym, ap, _∙_, subst}
-use mathlib.Core.Bool.{Bool, true, false}
+use mathlib.Core.Bool.{true, false}
 use mathlib.Core.List.{List, [], _∷_, _++_}
 use native.Mathlib.Omega.{arith}
 use denote.Ref.{now}
 use lib.Dec.{eqb, ltb}
 use lib.ListN.{length, drop, length-append}
 use lib.Seq.{drop-at}
-use borrow.Author.Tests.{eq-eqb, ne-eqb, le-ltb}
+use borrow.Author.Tests.{le-ltb}
 use Rattle.lists.proofs.ListLaws.{by-bool}
 use Rattle.lists.proofs.Tests.{differ, if-true, if-false}
-use Rattle.calls.specs.Duration.{bytesOf}
-use Rattle.calls.specs.Reading.{readOf, refusalOf}
+use Rattle.calls.specs.Reading.{readOf}
 use Rattle.calls.specs.declared.Call as C
 use Rattle.calls.specs.declared.Read.{Read}
 use Rattle.calls.specs.declared.Read.the-variants.{Record, BadRecord, EndOfLog}
 use Rattle.rules.specs.State.{empty}
 use Rattle.rules.specs.Step.{roomAfter}
-use Rattle.rules.specs.Whole.{Typed, Whole, stepWhole, steppedOf, answerOf}
+use Rattle.rules.specs.Whole.{Typed, Whole, stepWhole, answerOf}
 use Rattle.rules.specs.Runs.{start}
 use Rattle.rules.specs.Uses.{Use, Keeps, Chain}
 use Rattle.rules.specs.declared.Answer.{Answer}
@@ -27,10 +26,10 @@ use Rattle.rules.specs.declared.Supervisor.{Supervisor}
 use Rattle.rules.proofs.Dispatch.{untouched}
 use Rattle.rules.proofs.EveryStruct.{typed-pack, step-typed}
 use Rattle.rules.proofs.OverRuns.{empty-sound}
-use Rattle.codec.specs.Layout.{tasksBytes, encode, stateIn, stored}
+use Rattle.codec.specs.Layout.{encode, stateIn, stored}
 use Rattle.codec.proofs.CodecLaws.{tasks-long}
 use Rattle.codec.proofs.Kept as codec
-use Rattle.card.specs.Answers.{unread, stepBy, stateAfter, answerBytes, ifRoom}
+use Rattle.card.specs.Answers.{stepBy, stateAfter, answerBytes, ifRoom}
 use Rattle.card.proofs.CardLaws.{step-by}
 use Rattle.card.proofs.card_empty.Met as card-empty
 use Rattle.card.proofs.card_sound.Met as card-sound

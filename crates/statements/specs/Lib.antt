@@ -8,5 +8,7 @@ pub mod Statement3
 pub mod Cutting
 -- the functions that other programs link, and the library as a run of statement 3
 pub mod Library
+-- request (x): workspaces
+pub mod Workspaces
 -- a queue of 31 callers
 pub mod FullQueue

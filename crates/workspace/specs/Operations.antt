@@ -20,6 +20,10 @@ abbrev pub fits : ℕ → List Stretch → Bool
 fits n [] = false
 fits n (f ∷ fs) = if leb n (f .length) then true else fits n fs
 
+-- a stretch is too short for n units
+abbrev pub isShort : ℕ → Stretch → Bool
+isShort n s = ltb (s .length) n
+
 -- "takes the front of the first free stretch long enough": where that one starts, 0 if there is none
 abbrev pub fitStart : ℕ → List Stretch → ℕ
 fitStart n [] = 0

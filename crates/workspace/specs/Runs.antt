@@ -1,4 +1,4 @@
--- An area in use, and sequences of operations on it: the statements of proofs/Statements.antt are about these.
+-- An area in use, and sequences of operations on it.
 use Prim.Native.Nat.{ℕ}
 use mathlib.Core.Bool.{Bool}
 use mathlib.Core.List.{List, [], _∷_}

@@ -1,19 +1,11 @@
--- What request (x) asks to be shown, of the operations whose contracts the three public functions have.
---     run-keeps        over any sequence of operations from a fresh area the rules are kept
---     never-bad-state  and none of them is refused with BAD_STATE
---     suffices         32 places for free stretches suffice
---     refused-same     a refusal changes nothing and answers 0
---     fresh-refused    that of a fresh area too
---     no-space-exact   NO_SPACE exactly when no free stretch is long enough
---     one-stretch      with no block taken, one free stretch is the whole area
---     all-released     releasing every block leaves that
---     found-again      what a release gave back can be requested again
+-- The rules are kept by every operation, and what a release gave back is found again: the laws behind what statements/specs/Workspaces.antt says of
+-- uses of the three functions.
 -- Assumes nothing.
 use mathlib.Core.Path.{_≡_, refl, sym, _∙_, ap, subst}
 use Prim.Native.Nat.{ℕ, zero, suc, _+_, _-_, _<_, _≤_}
 use native.Mathlib.Nat.{le-refl}
 use native.Mathlib.Omega.{arith}
-use mathlib.Core.Bool.{Bool, true, false, _&&_, true≢false}
+use mathlib.Core.Bool.{true, false, _&&_, true≢false}
 use mathlib.Core.List.{List, [], _∷_, _++_}
 use lib.ListN.{length, take, drop, replicate, length-append, length-replicate}
 use lib.Seq.{take-append-seam, drop-append-seam}
@@ -22,7 +14,7 @@ use borrow.Author.Tests.{leb-true, leb-false, le-leb, lt-leb, ltb-true, lt-ltb, 
 use Rattle.workspace.specs.declared.Stretch.{Stretch}
 use Rattle.lists.specs.Lists.{if_then_else_, every}
 use Rattle.workspace.specs.Rules.{units, stretch, none, isNone, end, isKept, hasPlaces}
-use Rattle.workspace.specs.Operations.{placed, fits, fitStart, cut, startsAt, lengthAt, without, joined, refused, took, freshOf, requestOf, releaseOf, tableAfter, blocksAfter, freeAfter, BAD-STATE, NO-SPACE}
+use Rattle.workspace.specs.Operations.{placed, fits, isShort, fitStart, cut, startsAt, lengthAt, without, joined, refused, took, freshOf, requestOf, releaseOf, tableAfter, BAD-STATE}
 use Rattle.workspace.specs.Runs.{Area, isSound, Op, request, release, outcomeOf, after, stepOf, runOf, freshArea, refusalOf, valueOf, releasesAll}
 use Rattle.lists.proofs.Tests.{no, and-first, and-second, and-both as both}
 use Rattle.lists.proofs.ListLaws.{by-bool}
@@ -32,7 +24,7 @@ use Rattle.workspace.proofs.Giving.{release-sound}
 use Rattle.workspace.proofs.Words.{kept-sound}
 use Rattle.workspace.proofs.Padded.{table-is, none-unused, placed-length, without-length}
 use Rattle.workspace.proofs.Found.{block-long}
-use Rattle.workspace.proofs.Standing.{Stands, bs, fs, kept-stands, stands-kept, count-blocks, count-free, at-most-31, few}
+use Rattle.workspace.proofs.Standing.{Stands, bs, fs, kept-stands, stands-kept, count-blocks, count-free, at-most-31}
 
 -- ---- tables afterwards
 after-length : (table l : List Stretch) → length l ≤ length table → length (tableAfter table l) ≡ length table
@@ -106,11 +98,11 @@ pub step-keeps : (a : Area) (o : Op) → isSound a ≡ true → isSound (stepOf 
 step-keeps a (request n) e = request-keeps a e n
 step-keeps a (release s) e = release-keeps a e s
 
-sound-run : (a : Area) (os : List Op) → isSound a ≡ true → isSound (runOf a os) ≡ true
+pub sound-run : (a : Area) (os : List Op) → isSound a ≡ true → isSound (runOf a os) ≡ true
 sound-run a [] e = e
 sound-run a (o ∷ os) e = sound-run (stepOf a o) os (step-keeps a o e)
 
-sound-good : (a : Area) (o : Op) → isSound a ≡ true → refusalOf (outcomeOf a o) ≡ BAD-STATE → ⊥
+pub sound-good : (a : Area) (o : Op) → isSound a ≡ true → refusalOf (outcomeOf a o) ≡ BAD-STATE → ⊥
 unfolding requestOf releaseOf
 sound-good a (request n) e r =
     by-bool (leb 1 n && leb n 65535)
@@ -125,69 +117,21 @@ sound-good a (release s) e r =
     (λ e₁. let k : _≡_ {A = ℕ} 0 2 = rw (e, e₁) at r in no (omega (arith, k)))
     (λ e₁. let k : _≡_ {A = ℕ} 16 2 = rw (e, e₁) at r in no (omega (arith, k)))
 
--- over any sequence of operations from a fresh area
-pub run-keeps : (b f : List Stretch) (os : List Op) → hasPlaces b f ≡ true → isSound (runOf (freshArea b f) os) ≡ true
-run-keeps b f os e = sound-run (freshArea b f) os (fresh-keeps b f e)
-
--- so refusal 2 is never given there
-pub never-bad-state : (b f : List Stretch) (os : List Op) (o : Op) → hasPlaces b f ≡ true → refusalOf (outcomeOf (runOf (freshArea b f) os) o) ≡ BAD-STATE → ⊥
-never-bad-state b f os o e r = sound-good (runOf (freshArea b f) os) o (run-keeps b f os e) r
-
--- "Show that 32 stretches suffice": of the rules, and of an area in use
+-- "Show that 32 stretches suffice"
 pub rules-suffice : (blocks free : List Stretch) → isKept blocks free ≡ true → length blocks ≤ 31 → length free ≤ 32
 rules-suffice blocks free e h = suffice blocks free (kept-sound blocks free e) h
 
-pub suffices : (b f : List Stretch) (os : List Op) → hasPlaces b f ≡ true → runOf (freshArea b f) os .used .free ≤ 32
-suffices b f os e = let a : Area = runOf (freshArea b f) os in few (a .blocks) (a .free) (a .used) (stands a (run-keeps b f os e))
-
--- "All change nothing and answer 0"
-pub refused-same : (a : Area) (o : Op) (k : ℕ) → outcomeOf a o ≡ refused k → (stepOf a o ≡ a) × (valueOf (outcomeOf a o) ≡ 0)
-refused-same a o k e = (ap (after a) e, ap valueOf e)
-
-pub fresh-refused : (b f : List Stretch) → hasPlaces b f ≡ false
-    → (refusalOf (freshOf b f) ≡ BAD-STATE) × (blocksAfter b (freshOf b f) ≡ b) × (freeAfter f (freshOf b f) ≡ f) × (valueOf (freshOf b f) ≡ 0)
-unfolding freshOf
-fresh-refused b f e = rw e (refl, refl, refl, refl)
-
--- ---- "15 NO_SPACE exactly when no free stretch is long enough"
-abbrev pub isShort : ℕ → Stretch → Bool
-isShort n s = ltb (s .length) n
-
-none-fits : (n : ℕ) (l : List Stretch) → fits n l ≡ false → every (isShort n) l ≡ true
+-- ---- no free stretch is long enough
+pub none-fits : (n : ℕ) (l : List Stretch) → fits n l ≡ false → every (isShort n) l ≡ true
 none-fits n [] e = refl
 none-fits n (f ∷ fs) e =
     by-bool (leb n (f .length))
     (λ q. absurd (true≢false (let k : true ≡ false = rw q at e in k)))
     (λ q. let k : fits n fs ≡ false = rw q at e in both (lt-ltb (f .length) n (leb-false n (f .length) q)) (none-fits n fs k))
 
-fits-none : (n : ℕ) (l : List Stretch) → every (isShort n) l ≡ true → fits n l ≡ false
+pub fits-none : (n : ℕ) (l : List Stretch) → every (isShort n) l ≡ true → fits n l ≡ false
 fits-none n [] e = refl
 fits-none n (f ∷ fs) e = rw (lt-leb n (f .length) (ltb-true (f .length) n (and-first (isShort n f) (every (isShort n) fs) e))) (fits-none n fs (and-second (isShort n f) (every (isShort n) fs) e))
-
--- the rules are kept, the size is good and a place for a block is left
-abbrev pub MayTake : Area → ℕ → Type 0
-MayTake a n = (isSound a ≡ true) × (leb 1 n && leb n 65535 ≡ true) × (ltb (a .used .blocks) 31 ≡ true)
-
-pub no-space-exact : (a : Area) (n : ℕ) → MayTake a n → (every (isShort n) (take (a .used .free) (a .free)) ≡ true → outcomeOf a (request n) ≡ refused NO-SPACE) × (outcomeOf a (request n) ≡ refused NO-SPACE → every (isShort n) (take (a .used .free) (a .free)) ≡ true)
-unfolding requestOf
-no-space-exact a n m = (
-  (λ e. rw (m .0, m .1, m .2, fits-none n (take (a .used .free) (a .free)) e) refl),
-  (λ e. by-bool (fits n (take (a .used .free) (a .free)))
-      (λ q. let k : _≡_ {A = ℕ} 0 15 = rw (m .0, m .1, m .2, q) at (ap refusalOf e) in no (omega (arith, k)))
-      (λ q. none-fits n (take (a .used .free) (a .free)) q)),
-)
-
--- it is given in no other case
-pub no-space-only : (a : Area) (n : ℕ) → refusalOf (outcomeOf a (request n)) ≡ NO-SPACE → MayTake a n
-unfolding requestOf
-no-space-only a n e =
-    by-bool (isSound a)
-    (λ e₀. by-bool (leb 1 n && leb n 65535)
-    (λ e₁. by-bool (ltb (a .used .blocks) 31)
-    (λ e₂. (e₀, e₁, e₂))
-    (λ e₂. let k : _≡_ {A = ℕ} 14 15 = rw (e₀, e₁, e₂) at e in no (omega (arith, k))))
-    (λ e₁. let k : _≡_ {A = ℕ} 13 15 = rw (e₀, e₁) at e in no (omega (arith, k))))
-    (λ e₀. let k : _≡_ {A = ℕ} 2 15 = rw e₀ at e in no (omega (arith, k)))
 
 -- ---- "so freed room is found again"
 whole-area : (ps : List Piece) → [] ≡ blocksFrom 0 ps → measure ps ≡ units → Good false ps → freeFrom 0 ps ≡ stretch 0 units ∷ []
