@@ -256,6 +256,10 @@ pub library : Library
 library = record {
   as-card = λ κs x r y p. record { returned = p .0; left = p .1 .0; wrote = p .1 .1 .0; told = p .1 .1 .1 };
   card-starts = λ κs x r y p. starts (now (x .0)) (now (y .0)) (x .1 .0) r (p .0) (p .1);
+  card-tells-sound = λ κs x r y p. p;
+  card-tells-count = λ κs x r y p. (p .0, p .1);
+  card-tells-callable = λ κs x r y p. (p .0, p .1);
+  card-tells-running = λ κs x r y p. (p .0, p .1);
   card-run = runs;
   card-returns = returns;
   card-idles = idles;

@@ -14,17 +14,19 @@ use prog.Routine.{Routine}
 use prog.Wp.{Heap}
 use denote.Ref.{now}
 use lib.ListN.{length, drop}
+use Rattle.lists.specs.Lists.{bit}
 use Rattle.calls.specs.Record.{byte}
 use Rattle.calls.specs.Reading.{readOf}
 use Rattle.calls.specs.declared.Read.{Read}
 use Rattle.calls.specs.declared.Read.the-variants.{Record, BadRecord, EndOfLog}
 use Rattle.rules.specs.Step.{roomAfter}
-use Rattle.rules.specs.Whole.{Whole, answerOf}
+use Rattle.rules.specs.Whole.{Whole, soundWhole, answerOf}
+use Rattle.rules.specs.Questions.{countWhole, callableWhole, runningWhole}
 use Rattle.rules.specs.Runs.{start}
 use Rattle.rules.specs.Uses.{Use, Chain}
 use Rattle.rules.specs.declared.Answer.{Answer}
 use Rattle.codec.specs.Layout.{encode, stateIn, stored}
-use Rattle.card.specs.Answers.{cardStep, stateAfter, answerBytes, ifRoom}
+use Rattle.card.specs.Answers.{cardStep, stateAfter, answerBytes, ifRoom, oneAfter}
 use Rattle.card.proofs.card_empty.Statement as card-empty
 use Rattle.card.proofs.card_sound.Statement as card-sound
 use Rattle.card.proofs.card_step.Statement as card-step
@@ -184,6 +186,17 @@ pub record Library : Type 1 where
   -- whatever the contract of `card_empty` allows: with 439 bytes or more it returns 0, and an empty supervisor with that clock stands in them
   pub card-starts : (κs : _) (x : _) (r : _) (y : _) → card-empty-reads.Learnt κs x r y
       → 439 ≤ length (now (x .0)) → (r ≡ 0) × (now (y .0) ≡ stored (start (x .1 .0)) (now (x .0)))
+  -- whatever the contracts of the questions allow is what the definitions say of the state in the bytes: its number returned, its answer in one byte
+  pub card-tells-sound : (κs : _) (x : _) (r : _) (y : _) → card-sound-reads.Learnt κs x r y → r ≡ bit (soundWhole (stateIn (now (x .0))))
+  pub card-tells-count : (κs : _) (x : _) (r : _) (y : _) → card-count-reads.Learnt κs x r y
+      → (r ≡ ifRoom 1 (now (x .1 .1 .1 .0)) 1 (countWhole (stateIn (now (x .0))) (x .1 .0) (x .1 .1 .0) .refusal))
+      × (now (y .1 .1 .1 .0) ≡ oneAfter (now (x .1 .1 .1 .0)) (countWhole (stateIn (now (x .0))) (x .1 .0) (x .1 .1 .0) .count))
+  pub card-tells-callable : (κs : _) (x : _) (r : _) (y : _) → card-callable-reads.Learnt κs x r y
+      → (r ≡ ifRoom 1 (now (x .1 .1 .0)) 1 (callableWhole (stateIn (now (x .0))) (x .1 .0) .refusal))
+      × (now (y .1 .1 .0) ≡ oneAfter (now (x .1 .1 .0)) (bit (callableWhole (stateIn (now (x .0))) (x .1 .0) .yes)))
+  pub card-tells-running : (κs : _) (x : _) (r : _) (y : _) → card-running-reads.Learnt κs x r y
+      → (r ≡ ifRoom 1 (now (x .1 .0)) 1 (runningWhole (stateIn (now (x .0))) .refusal))
+      × (now (y .1 .0) ≡ oneAfter (now (x .1 .0)) (runningWhole (stateIn (now (x .0))) .task))
   -- any sequence of uses, refused ones and records that cannot be read included
   pub card-run : (n : ℕ) → n < 4294967296 → (b : List ℕ) → 439 ≤ length b → (us : List CardUse) → CardChain (stored (start n) b) us → RunsCard n b us
   -- the number returned is the refusal of the answer
