@@ -244,7 +244,8 @@ runs n h b l us c =
     let g = goes b (stored (start n) b) us (subst (Holds b) (sym q) (put-holds b (start n) t)) c in
     let e = g .ends ∙ ap (λ (x : Supervisor). reached x (usesIn us)) s in
     record {
-      kept = subst (λ (x : Supervisor). Chain x (usesIn us)) s (g .chain);
+      run = record { clock = h; uses = usesIn us; kept = subst (λ (x : Supervisor). Chain x (usesIn us)) s (g .chain) };
+      uses = refl;
       left = g .holds .bytes ∙ ap (λ (x : Supervisor). encode x ++ drop 439 b) e;
       state = e;
     }

@@ -23,7 +23,7 @@ use Rattle.rules.specs.Step.{roomAfter}
 use Rattle.rules.specs.Whole.{Whole, soundWhole, answerOf}
 use Rattle.rules.specs.Questions.{countWhole, callableWhole, runningWhole}
 use Rattle.rules.specs.Runs.{start}
-use Rattle.rules.specs.Uses.{Use, Chain}
+use Rattle.rules.specs.Uses.{Use}
 use Rattle.rules.specs.declared.Answer.{Answer}
 use Rattle.codec.specs.Layout.{encode, stateIn, stored}
 use Rattle.card.specs.Answers.{cardStep, stateAfter, answerBytes, ifRoom, oneAfter}
@@ -61,7 +61,7 @@ use Rattle.calls.proofs.durations.word.Reads as word-reads
 use Rattle.calls.proofs.durations.bytes_of.Reads as bytes-of-reads
 use Rattle.calls.proofs.modes.mode_of_call.Reads as mode-of-call-reads
 use Rattle.calls.proofs.modes.mode_of_select.Reads as mode-of-select-reads
-use Rattle.statements.specs.Statement3.{reached}
+use Rattle.statements.specs.Statement3.{Run, stateOf}
 
 -- ── statement 1 of these functions ──
 
@@ -163,12 +163,13 @@ usesIn (u ∷ us) = usesOf u ++ usesIn us
 
 -- the uses of `card_step` over the bytes b, in which a supervisor with its clock at n was put, are a run of statement 3
 pub record RunsCard (n : ℕ) (b : List ℕ) (us : List CardUse) : Type 0 where
-  -- the calls of the records that were read, with the rooms and the answers, are uses of `step` from an empty supervisor
-  pub kept : Chain (start n) (usesIn us)
+  -- its uses of `step` are the calls of the records that were read, with their rooms and answers
+  pub run : Run n
+  pub uses : run .uses ≡ usesIn us
   -- the bytes of the state are the encoding of the state that this run reaches, and the bytes behind them are as they were
-  pub left : leftBy (stored (start n) b) us ≡ encode (reached (start n) (usesIn us)) ++ drop 439 b
+  pub left : leftBy (stored (start n) b) us ≡ encode (stateOf run) ++ drop 439 b
   -- and it is read back from them
-  pub state : stateIn (leftBy (stored (start n) b) us) ≡ reached (start n) (usesIn us)
+  pub state : stateIn (leftBy (stored (start n) b) us) ≡ stateOf run
 
 pub record Library : Type 1 where
   -- whatever the contract of `card_step` allows is a use that keeps it (x has what the function is given, r is what it returns, y has
