@@ -42,7 +42,7 @@ def theorem(crate, function):
         return None
     alias = re.escape(named.group(1))
     stated = re.search(rf"(?ms)^\s*pub ({alias}-once) :(.*?)^\s*{alias}-once ", text)
-    return stated.group(1) if stated and re.search(rf"\b{alias}\.(Post|clauses)\b", stated.group(2)) else None
+    return stated.group(1) if stated and re.search(rf"\b{alias}\.(Learnt|clauses)\b", stated.group(2)) else None
 
 
 def main():

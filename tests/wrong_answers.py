@@ -1,14 +1,14 @@
 """wrong_answers.py texts | table [--write] DOC | logs [CRATE..]: the wrong answers of crates/*/must-fail/*.edit.
 
-An edit replaces one or more texts of its crate, each by a wrong one. The comment above a text names the wrong answer. Above a definition a
-line `law: FILE NAME` names the theorem that refuses it; above a text of a function a line `at: NAME` may name the declaration of the
+An edit replaces one or more texts of its crate, each by a wrong one. The comment above a text names the wrong answer. Above a definition or a
+contract a line `law: FILE NAME` names the theorem that refuses it; above a text of a function's body a line `at: NAME` may name the declaration of the
 function's own proof that does, and must where the edit has two wrong answers of one function.
-  texts   each replaced text stands once in its file, in the body of a function or in a definition, and has its comment; no two wrong answers
+  texts   each replaced text stands once in its file, in a function or in a definition, and has its comment; no two wrong answers
           of an edit are refused by the same law or at the same declaration; and every public function whose contract determines its answer
           has two wrong answers of its own, or one and two in its parts if its code is walked by hand
   table   the table of DOC between its two marks lists them all (--write puts it there)
   logs    in what the prover said of the edits (of the named crates), each changed function was refused by itself, at a fact and at the
-          declaration that is named, and each changed definition by its law, at a fact
+          declaration that is named, and each changed definition or contract by its law, at a fact
 tests/alone tries by itself each of the wrong answers of a function that share an edit.
 """
 import re
@@ -21,7 +21,9 @@ from unique_names import public_functions, without_answer
 Wrong = namedtuple("Wrong", "edit crate file says old new where law at")
 BEGIN, END = "<!-- wrong answers: made by tests/wrong_answers.py -->", "<!-- end of the wrong answers -->"
 FUNCTION = re.compile(r'^\s*(?:#\[no_mangle\] )?(?:pub(?:\(crate\))? )?(?:extern "C" )?fn (\w+)')
-CLAUSE = re.compile(r"^\s*(?:requires|ensures|ghost)\b")
+CLAUSE = re.compile(r"^\s*(?:requires|ensures)\b")
+# what stands behind the name of a function where not its body but its contract is changed
+CONTRACT = " (contract)"
 # Public functions whose code is walked by hand: a wrong answer in their own body is refused because the code is not the one that was walked,
 # right or wrong. So one is enough there, and each has two more in the parts that it rests on, which are refused at a fact.
 WALKED = {
@@ -41,13 +43,12 @@ def crates():
 
 
 def function_of(file, text, at):
-    """The path of the function in whose body the text stands at that place, or None."""
+    """The path of the function in which the text stands at that place, in its body or in its contract, or None."""
     lines = text[: text.index("\n", at)].splitlines()
-    if CLAUSE.match(lines[-1]):
-        return None
     names = [found.group(1) for found in map(FUNCTION.match, lines) if found]
     modules = file.removesuffix(".rt").split("/")[1:]
-    return "::".join((modules if modules not in (["lib"], ["main"]) else []) + names[-1:]) if names else None
+    path = "::".join((modules if modules not in (["lib"], ["main"]) else []) + names[-1:])
+    return path + (CONTRACT if CLAUSE.match(lines[-1]) else "") if names else None
 
 
 def proof_of(where):
@@ -63,9 +64,10 @@ def refusing(wrong):
 def amiss_with(wrong):
     """What is amiss with one wrong answer."""
     if not wrong.where:
-        yield "in no function's body"
-    if (wrong.law is None) != wrong.file.startswith("src/"):
-        yield "a law is named for a definition, and for nothing else"
+        yield "in no function"
+    in_body = wrong.file.startswith("src/") and not (wrong.where or "").endswith(CONTRACT)
+    if (wrong.law is None) != in_body:
+        yield "a law is named for a definition and for a contract, and for nothing else"
     if wrong.at and wrong.where:
         proof = Path("crates") / wrong.crate / proof_of(wrong.where)
         if not proof.exists() or not re.search(rf"(?m)^(?:pub )?{re.escape(wrong.at)} :", proof.read_text()):
@@ -134,7 +136,7 @@ def texts():
 
 
 def rows():
-    """The table: a row for each function, and for each file of definitions."""
+    """The table: a row for each function, for each contract, and for each file of definitions."""
     found, _ = all_wrong()
     places = list(dict.fromkeys((w.crate, w.where) for w in found))
     yield "| function, or file of definitions | wrong answers | refused edits |"
@@ -163,7 +165,7 @@ def is_walked(wrong):
 
 
 def refused(log, wrong):
-    """What was changed was refused at a fact: a definition by its law, a function by its own proof, at the named declaration of it if one is, or by
+    """What was changed was refused at a fact: a definition or a contract by its law, a function by its own proof, at the named declaration of it if one is, or by
     the search that stands in for a proof."""
     if not wrong.law and not wrong.at and re.search(rf"(?m)^fn {wrong.crate}::{wrong.where}: no proof: .*`search` does not close", log):
         return True

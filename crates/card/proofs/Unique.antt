@@ -9,22 +9,22 @@ use Rattle.card.proofs.card_count.Reads as count
 use Rattle.card.proofs.card_callable.Reads as callable
 use Rattle.card.proofs.card_running.Reads as running
 
-pub empty-once : (κs : _) (x : _) (r r′ : _) (y y′ : _) → empty.Post κs x r y → empty.Post κs x r′ y′ → (r ≡ r′) × (now (y .0) ≡ now (y′ .0))
+pub empty-once : (κs : _) (x : _) (r r′ : _) (y y′ : _) → empty.Learnt κs x r y → empty.Learnt κs x r′ y′ → (r ≡ r′) × (now (y .0) ≡ now (y′ .0))
 empty-once κs x r r′ y y′ p q = (p .0 ∙ sym (q .0), p .1 ∙ sym (q .1))
 
-pub sound-once : Once sound.Post
+pub sound-once : Once sound.Learnt
 sound-once κs x r r′ y y′ p q = p ∙ sym q
 
-pub step-once : (κs : _) (x : _) (r r′ : _) (y y′ : _) → step.Post κs x r y → step.Post κs x r′ y′
+pub step-once : (κs : _) (x : _) (r r′ : _) (y y′ : _) → step.Learnt κs x r y → step.Learnt κs x r′ y′
     → (r ≡ r′) × (now (y .0) ≡ now (y′ .0)) × (now (y .1 .1 .0) ≡ now (y′ .1 .1 .0)) × (now (y .1 .1 .1 .0) ≡ now (y′ .1 .1 .1 .0))
 step-once κs x r r′ y y′ p q =
     (p .0 ∙ sym (q .0), p .1 .0 ∙ sym (q .1 .0), p .1 .1 .0 ∙ sym (q .1 .1 .0), p .1 .1 .1 ∙ sym (q .1 .1 .1))
 
-pub count-once : (κs : _) (x : _) (r r′ : _) (y y′ : _) → count.Post κs x r y → count.Post κs x r′ y′ → (r ≡ r′) × (now (y .1 .1 .1 .0) ≡ now (y′ .1 .1 .1 .0))
+pub count-once : (κs : _) (x : _) (r r′ : _) (y y′ : _) → count.Learnt κs x r y → count.Learnt κs x r′ y′ → (r ≡ r′) × (now (y .1 .1 .1 .0) ≡ now (y′ .1 .1 .1 .0))
 count-once κs x r r′ y y′ p q = (p .0 ∙ sym (q .0), p .1 ∙ sym (q .1))
 
-pub callable-once : (κs : _) (x : _) (r r′ : _) (y y′ : _) → callable.Post κs x r y → callable.Post κs x r′ y′ → (r ≡ r′) × (now (y .1 .1 .0) ≡ now (y′ .1 .1 .0))
+pub callable-once : (κs : _) (x : _) (r r′ : _) (y y′ : _) → callable.Learnt κs x r y → callable.Learnt κs x r′ y′ → (r ≡ r′) × (now (y .1 .1 .0) ≡ now (y′ .1 .1 .0))
 callable-once κs x r r′ y y′ p q = (p .0 ∙ sym (q .0), p .1 ∙ sym (q .1))
 
-pub running-once : (κs : _) (x : _) (r r′ : _) (y y′ : _) → running.Post κs x r y → running.Post κs x r′ y′ → (r ≡ r′) × (now (y .1 .0) ≡ now (y′ .1 .0))
+pub running-once : (κs : _) (x : _) (r r′ : _) (y y′ : _) → running.Learnt κs x r y → running.Learnt κs x r′ y′ → (r ≡ r′) × (now (y .1 .0) ≡ now (y′ .1 .0))
 running-once κs x r r′ y y′ p q = (p .0 ∙ sym (q .0), p .1 ∙ sym (q .1))

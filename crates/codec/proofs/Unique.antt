@@ -6,11 +6,11 @@ use Rattle.codec.proofs.state_in.Reads as state-in
 use Rattle.codec.proofs.put_at.Reads as put-at
 use Rattle.codec.proofs.store.Reads as store
 
-pub state-in-once : Once state-in.Post
+pub state-in-once : Once state-in.Learnt
 state-in-once κs x r r′ y y′ p q = p ∙ sym q
 
-pub put-at-once : (κs : _) (x : _) (r r′ : _) (y y′ : _) → put-at.Post κs x r y → put-at.Post κs x r′ y′ → now (y .0) ≡ now (y′ .0)
+pub put-at-once : (κs : _) (x : _) (r r′ : _) (y y′ : _) → put-at.Learnt κs x r y → put-at.Learnt κs x r′ y′ → now (y .0) ≡ now (y′ .0)
 put-at-once κs x r r′ y y′ p q = p ∙ sym q
 
-pub store-once : (κs : _) (x : _) (r r′ : _) (y y′ : _) → store.Post κs x r y → store.Post κs x r′ y′ → now (y .1 .0) ≡ now (y′ .1 .0)
+pub store-once : (κs : _) (x : _) (r r′ : _) (y y′ : _) → store.Learnt κs x r y → store.Learnt κs x r′ y′ → now (y .1 .0) ≡ now (y′ .1 .0)
 store-once κs x r r′ y y′ p q = p ∙ sym q

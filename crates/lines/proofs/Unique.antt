@@ -13,32 +13,32 @@ use Rattle.lines.proofs.marks_of.Reads as marks-of
 use Rattle.lines.proofs.picked.Reads as picked
 use Rattle.lines.proofs.put_by.Reads as put-by
 
-pub len-once : Once len.Post
+pub len-once : Once len.Learnt
 len-once κs x r r′ y y′ p q = p ∙ sym q
 
-pub joined-once : Once joined.Post
+pub joined-once : Once joined.Learnt
 joined-once κs x r r′ y y′ p q = p ∙ sym q
 
-pub without-once : Once without.Post
+pub without-once : Once without.Learnt
 without-once κs x r r′ y y′ p q = p ∙ sym q
 
-pub rejoined-once : Once rejoined.Post
+pub rejoined-once : Once rejoined.Learnt
 rejoined-once κs x r r′ y y′ p q = p ∙ sym q
 
-pub joined-all-once : Once joined-all.Post
+pub joined-all-once : Once joined-all.Learnt
 joined-all-once κs x r r′ y y′ p q = p ∙ sym q
 
-pub first-of-once : Once first-of.Post
+pub first-of-once : Once first-of.Learnt
 first-of-once κs x r r′ y y′ p q = p ∙ sym q
 
-pub last-of-once : Once last-of.Post
+pub last-of-once : Once last-of.Learnt
 last-of-once κs x r r′ y y′ p q = p ∙ sym q
 
-pub marks-of-once : Once marks-of.Post
+pub marks-of-once : Once marks-of.Learnt
 marks-of-once κs x r r′ y y′ p q = p ∙ sym q
 
-pub picked-once : Once picked.Post
+pub picked-once : Once picked.Learnt
 picked-once κs x r r′ y y′ p q = p ∙ sym q
 
-pub put-by-once : Once put-by.Post
+pub put-by-once : Once put-by.Learnt
 put-by-once κs x r r′ y y′ p q = p ∙ sym q

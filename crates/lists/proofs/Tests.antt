@@ -13,6 +13,10 @@ use borrow.Author.Tests.{ltb-true, leb-true}
 use mir.Val.{boolByte}
 use Rattle.lists.specs.Lists.{if_then_else_, bit}
 
+-- what a contract asks that asks nothing
+pub nothing : Unit {0}
+nothing = tt
+
 -- by cases on the way that control came: the sum first, so that antt knows each way's facts
 pub ways : {A B G : Type 0} → A ⊎ B → (A → G) → (B → G) → G
 ways (inl a) f g = f a

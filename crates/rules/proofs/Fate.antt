@@ -10,7 +10,7 @@ use lib.ListN.{length}
 use lib.Dec.{eqb, ltb, leb}
 use borrow.Author.Tests.{eq-eqb, ne-eqb, leb-true, leb-false, not-false}
 use Rattle.lists.specs.Lists.{count, first, last}
-use Rattle.rules.specs.State.{State, nth, taskOf, placeOf, timerOf, created, isTask, isQueued, isCompleted, entryOf, accepts, left, after, fresh, move, wake, meet, meeting, wakeAll, queue, heldBy, running, waiting, offer, waitsOn}
+use Rattle.rules.specs.State.{State, nth, taskOf, placeOf, timerOf, created, isTask, hasEntry, isQueued, isCompleted, entryOf, accepts, left, after, fresh, move, wake, meet, meeting, wakeAll, queue, heldBy, running, waiting, offer, waitsOn}
 use Rattle.rules.specs.Sound.{inRange}
 use Rattle.rules.specs.Step.{Outcome, refused, took, item, create, delayFor, enqueue, timedCall, callBusy, call, openEntry, selectDelay, selectNone, selectAt, select, endLast, end, queuedFrom, queuedOn, finish, takeCall, ticks}
 use Rattle.rules.specs.declared.Item.{Item}
@@ -122,7 +122,7 @@ accepts-is Completed e h = no (cc)
 call-fate : (s : State) (u t g e : ℕ) (m : CallMode) → Runs s t → FateOf s (Call g e m) u (call s t g e m)
 call-fate s u t g e m r =
     by-test P (not (isTask s g)) (λ _. tt) λ b1.
-    by-test P (not (ltb 0 e && leb e (taskOf s g .entries))) (λ _. tt) λ b2.
+    by-test P (not (hasEntry (taskOf s g) e)) (λ _. tt) λ b2.
     by-test P (isCompleted (placeOf s g)) (λ _. untouched (alike refl) refl refl) λ b3.
     by-test P (accepts (placeOf s g) e) (λ b4. let i = between g (created s) (not-false _ b1) in met (i .0) (i .1) (accepts-is (placeOf s g) e b4)) (λ _. busy-fate s u t g e m r)
   where
@@ -274,7 +274,7 @@ clock-of s (Delay d) h = by-runner (ClockOf s (Delay d)) s (λ t. delayFor s t (
     go t (suc n) = refl
 clock-of s (Call g e m) h = by-runner P s (λ t. call s t g e m) h tt (λ t z r.
     by-test P (not (isTask s g)) (λ _. tt) λ b1.
-    by-test P (not (ltb 0 e && leb e (taskOf s g .entries))) (λ _. tt) λ b2.
+    by-test P (not (hasEntry (taskOf s g) e)) (λ _. tt) λ b2.
     by-test P (isCompleted (placeOf s g)) (λ _. refl) λ b3.
     by-test P (accepts (placeOf s g) e) (λ b4. refl) (λ b4. busy t m))
   where

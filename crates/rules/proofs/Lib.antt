@@ -9,6 +9,7 @@ pub mod Fate
 pub mod StateRuns
 pub mod OverRuns
 pub mod Ends
+pub mod Leaves
 pub mod TimedWait
 pub mod WholeLaws
 pub mod EveryStruct

@@ -1,16 +1,17 @@
 -- The facts of specs/SoundFacts.antt hold exactly where the tests of soundness pass.
 -- Assumes nothing.
-use Prim.Native.Nat.{ℕ, zero, suc, _≤_, _<_}
+use Prim.Native.Nat.{ℕ, zero, suc, _≤_, _<_, _^_}
 use mathlib.Core.Path.{_≡_, refl, sym, _∙_, ap}
 use mathlib.Core.Bool.{true, false, _&&_}
 use mathlib.Core.List.{List, [], _∷_}
+use native.Mathlib.Nat.{div-eq-of-lt, pow-le-pow-right}
 use native.Mathlib.Omega.{arith}
 use lib.ListN.{getD, drop}
-use lib.Dec.{eqb}
-use borrow.Author.Tests.{eq-eqb, le-leb}
+use lib.Dec.{eqb, leb}
+use borrow.Author.Tests.{eq-eqb, le-leb, leb-true, leb-false}
 use Rattle.lists.specs.Lists.{bit, count, every}
 use Rattle.lists.specs.Line.{tidy, blanks}
-use Rattle.rules.specs.State.{State, blank, taskOf, placeOf, timerOf, priorityOf, created, isReady, isCompleted, partnerOf, hasTime, accepts, queue, heldBy, level, ticksLeft, waitsOn, holds, atLevel}
+use Rattle.rules.specs.State.{State, blank, taskOf, placeOf, timerOf, priorityOf, created, isReady, isCompleted, partnerOf, hasTime, opens, accepts, queue, heldBy, level, ticksLeft, waitsOn, holds, atLevel}
 use Rattle.rules.specs.Whole.{view, isBlank, unused, soundWhole}
 use Rattle.rules.specs.SoundFacts.{Created, mayBeTimed, SoundFacts, BlankBehind, SoundStruct, SoundnessSaid}
 use Rattle.rules.specs.declared.Task.{Task}
@@ -50,6 +51,15 @@ completed-is Delayed e = cc
 completed-is (Queued q) e = cc
 completed-is (Held m) e = cc
 completed-is (Accepting o) e = cc
+
+-- an open set below 2 ^ n opens none but the entries 1..n
+own-entry : (o e n : ℕ) → opens o e ≡ true → o < 2 ^ n → (0 < e) × (e ≤ n)
+own-entry o zero n y h = clash y refl
+own-entry o (suc k) n y h =
+    by-bool (leb (suc k) n)
+    (λ b. (omega arith, leb-true (suc k) n b))
+    (λ b. let w : 2 ^ n ≤ 2 ^ k = pow-le-pow-right {n = 2} (omega arith) {i = n} {j = k} (omega (arith, leb-false (suc k) n b)) in
+    clash y (rw (div-eq-of-lt {n = o} {m = 2 ^ k} (omega (arith, w, h)))))
 
 -- ── from soundness to the facts ──
 
@@ -103,7 +113,8 @@ module _ (s : State) (h : Sound s) where
     none-else = λ t w. timed t (placeOf s t) refl w;
     due = λ t d e. let i = in-time s t d h e in (i .2, i .0, i .1);
     in-order = in-order (λ u. ticksLeft (s .clock) (timerOf s u)) (s .delays) (h .order);
-    own-entries = λ t o e. fits-at t (Accepting o) e (λ b. no (cc)) .0;
+    own-entries = λ t e o p y. own-entry (o .opens) e (taskOf s t .entries) y (fits-at t (Accepting o) p (λ b. no (cc)) .0);
+    no-further = λ t o e. fits-at t (Accepting o) e (λ b. no (cc)) .0;
     not-empty = λ t o e z. fits-at t (Accepting o) e (λ b. no (cc)) .1 z;
     no-caller = λ t e o z y. nobody (queue s t e) (λ u k. let q = of-queue s u t e k in
         clash (rw (ap (placeOf s) (q .2), z, q .3) y) (fits-at u (Queued (q .0)) (q .1) (λ b. no (cc)) .1));
@@ -152,7 +163,7 @@ module _ (s : State) (f : SoundFacts s) where
   fits-fact t c Delayed e = f .delayed-timed t e
   fits-fact t c (Queued q) e = let k = f .queued-entry t q e in (record { low = k .0; high = k .1; alive = alive-queued t q e }, shut t q e)
   fits-fact t c (Held m) e = let k = f .held-entry t m e in (record { low = k .0; high = k .1; alive = alive-held t m e }, untimed t (Held m) e refl)
-  fits-fact t c (Accepting o) e = (f .own-entries t o e, f .not-empty t o e)
+  fits-fact t c (Accepting o) e = (f .no-further t o e, f .not-empty t o e)
   fits-fact t c Completed e = untimed t Completed e refl
 
   in-time-fact : (t : ℕ) (w : Timer) → timerOf s t ≡ w → InTime (s .clock) w

@@ -10,7 +10,7 @@ use lib.ListN.{length}
 use lib.Dec.{eqb, ltb, leb}
 use borrow.Author.Tests.{eqb-true, eqb-false, eq-eqb, ne-eqb, ltb-true, ltb-false, leb-true, leb-false, not-false, lt-ltb}
 use Rattle.lists.specs.Lists.{count, first, last}
-use Rattle.rules.specs.State.{State, taskOf, placeOf, timerOf, created, isTask, isCompleted, accepts, opens, hasTime, ticksLeft, left, after, wake, wakeAll, setClock, queue, heldBy, running, waiting, meeting, offer}
+use Rattle.rules.specs.State.{State, taskOf, placeOf, timerOf, created, isTask, hasEntry, isCompleted, accepts, opens, hasTime, ticksLeft, left, after, wake, wakeAll, setClock, queue, heldBy, running, waiting, meeting, offer}
 use Rattle.rules.specs.Sound.{inRange}
 use Rattle.rules.specs.Step.{NO-TASK, Outcome, refused, took, create, delayFor, enqueue, timedCall, callBusy, call, openFrom, openEntry, selectDelay, selectNone, selectAt, select, endLast, end, queuedFrom, queuedOn, finish, dueAt, isDue, tick, tickTo, advanced, ofRunning, takeCall, ticks}
 use Rattle.rules.specs.declared.Task.{Task}
@@ -73,7 +73,7 @@ busy-kept s t g e Conditional h r c a = h
 pub call-kept : (s : State) (t g e : ℕ) (m : CallMode) → Sound s → Runs s t → Kept (call s t g e m)
 call-kept s t g e m h r =
     by-test Kept (not (isTask s g)) (λ _. tt) λ b1.
-    by-test Kept (not (ltb 0 e && leb e (taskOf s g .entries))) (λ _. tt) λ b2.
+    by-test Kept (not (hasEntry (taskOf s g) e)) (λ _. tt) λ b2.
     by-test Kept (isCompleted (placeOf s g)) (λ _. h) λ b3.
     let i = between g (created s) (not-false _ b1) in
     let j = between e (taskOf s g .entries) (not-false _ b2) in

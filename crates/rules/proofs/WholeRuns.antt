@@ -6,12 +6,13 @@ use mathlib.Core.List.{List}
 use Rattle.rules.specs.State.{State, empty}
 use Rattle.rules.specs.Whole.{view, pack, soundWhole}
 use Rattle.rules.specs.Runs.{Ask, Entry, start, afterStep, entryWhole, logWhole, reachWhole}
-use Rattle.rules.specs.OverRuns.{WaitsCounted, EndsOnce, WereWaiting, SixReasons, FewEnds, HeldTillEnd, TimedWaits, OverRunsWhole}
+use Rattle.rules.specs.OverRuns.{WaitsCounted, EndsOnce, WereWaiting, SixReasons, FewEnds, LeavesAll, HeldTillEnd, TimedWaits, OverRunsWhole}
 use Rattle.rules.specs.declared.Supervisor.{Supervisor}
 use Rattle.rules.proofs.Invariant.{Sound}
 use Rattle.rules.proofs.StateRuns.{entry, logOf, reach}
 use Rattle.rules.proofs.OverRuns.{empty-sound, reach-sound, step-sound, waits-counted, six-reasons, held-step}
 use Rattle.rules.proofs.Ends.{ends-once, were-waiting, few-ends}
+use Rattle.rules.proofs.Leaves.{leaves-all}
 use Rattle.rules.proofs.TimedWait.{timed-waits}
 use Rattle.rules.proofs.WholeLaws.{view-pack, sound-pack, state-whole, entry-whole, log-whole, reach-whole}
 
@@ -52,6 +53,7 @@ over-runs-whole = record {
   were-waiting = λ n h run. of-step (empty n) (empty-sound n h) run WereWaiting were-waiting;
   six-reasons = λ n h run. of-step (empty n) (empty-sound n h) run SixReasons six-reasons;
   few-ends = λ n h run. of-step (empty n) (empty-sound n h) run FewEnds few-ends;
+  leaves-all = λ n h run. of-step (empty n) (empty-sound n h) run LeavesAll leaves-all;
   held-till-end = λ n h run. of-step (empty n) (empty-sound n h) run HeldTillEnd (λ s a k c m q. held-step s a c m k q);
   timed-waits = timed;
 }

@@ -7,8 +7,8 @@ use mathlib.Core.Bool.{Bool, true, false, _&&_}
 use mathlib.Core.List.{List, [], _∷_}
 use lib.ListN.{length}
 use lib.Dec.{ltb, leb}
-use Rattle.lists.specs.Lists.{bit, every, last}
-use Rattle.rules.specs.State.{State, placeOf, heldBy, running}
+use Rattle.lists.specs.Lists.{bit, count, every, last}
+use Rattle.rules.specs.State.{State, placeOf, queue, heldBy, running}
 use Rattle.rules.specs.Step.{item, SERVED}
 use Rattle.rules.specs.Whole.{view, soundWhole}
 use Rattle.rules.specs.Runs.{Ask, Entry, start, afterStep, entryWhole, logWhole, reachWhole, isWaiting, begins, begun, reasons, ended, ticksIn, tickCount, duration, timeReason, engaged, completed, target}
@@ -44,6 +44,21 @@ SixReasons x = every (λ (i : Item). isReason (i .result)) (x .out .ended) ≡ t
 -- a step ends at most 31 waits: at four bytes each, 124 bytes suffice
 abbrev pub FewEnds : Entry → Type 0
 FewEnds x = length (x .out .ended) ≤ 31
+
+-- ── whose wait has ended stands in no queue any more ──
+
+-- task t is ready, and stands in no entry queue, not in the line of callers, not among those held, and not in the delay queue
+pub record Gone (t : ℕ) (s : State) : Type 0 where
+  pub place : placeOf s t ≡ Ready
+  pub queues : (g e : ℕ) → count t (queue s g e) ≡ 0
+  pub callers : count t (s .callers) ≡ 0
+  pub held : count t (s .held) ≡ 0
+  pub delays : count t (s .delays) ≡ 0
+
+-- The fault that started this: "a timed entry call, on expiring, left the delay queue and stayed in its entry queue", and a task "later accepted the dead
+-- call". It cannot be: whoever a step lists as ended, for whatever reason, has left all of them in that same step
+abbrev pub LeavesAll : Entry → Type 0
+LeavesAll x = (t : ℕ) → 0 < length (reasons t (x .out .ended)) → Gone t (x .out .state)
 
 -- ── a caller in rendezvous ──
 
@@ -100,6 +115,8 @@ pub record OverRunsWhole : Type 0 where
   pub six-reasons : (n : ℕ) → n < 4294967296 → (run : List Ask) (a : Ask) → SixReasons (entryWhole (reachWhole (start n) run) a)
   -- 124 bytes of room suffice
   pub few-ends : (n : ℕ) → n < 4294967296 → (run : List Ask) (a : Ask) → FewEnds (entryWhole (reachWhole (start n) run) a)
+  -- whose wait has ended stands in no queue any more
+  pub leaves-all : (n : ℕ) → n < 4294967296 → (run : List Ask) (a : Ask) → LeavesAll (entryWhole (reachWhole (start n) run) a)
   -- a caller in rendezvous is released only by the end of that rendezvous
   pub held-till-end : (n : ℕ) → n < 4294967296 → (run : List Ask) (a : Ask) → HeldTillEnd (entryWhole (reachWhole (start n) run) a)
   -- a wait with a time ends by that time at its tick, exactly when the run reaches that tick with nothing before it

@@ -5,7 +5,7 @@ use mathlib.Core.Bool.{Bool, true, false, not, _&&_, _||_}
 use mathlib.Core.List.{_++_}
 use lib.Dec.{eqb, ltb, leb}
 use Rattle.lists.specs.Lists.{bit, count, every, inOrder, downFrom}
-use Rattle.rules.specs.State.{State, taskOf, placeOf, timerOf, created, isTask, isReady, isQueued, isHeld, isCompleted, partnerOf, accepts, hasTime, ticksLeft}
+use Rattle.rules.specs.State.{State, taskOf, placeOf, timerOf, created, isTask, hasEntry, isReady, isQueued, isHeld, isCompleted, partnerOf, accepts, hasTime, ticksLeft}
 use Rattle.rules.specs.declared.Task.{Task}
 use Rattle.rules.specs.declared.Timer.{Timer}
 use Rattle.rules.specs.declared.Timer.the-variants.{Off, Due}
@@ -18,7 +18,7 @@ inRange p n = ltb 0 p && leb p 15 && leb n 8
 
 -- e is an entry of the called task g, which is there and has not completed
 abbrev pub calls : Task → ℕ → Bool
-calls g e = ltb 0 e && leb e (g .entries) && not (isCompleted (g .place))
+calls g e = hasEntry g e && not (isCompleted (g .place))
 
 -- a task's place, with its time, where g is the task that it has called
 abbrev pub fits : Task → Task → Place → Timer → Bool

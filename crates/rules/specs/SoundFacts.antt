@@ -77,7 +77,9 @@ pub record SoundFacts (s : State) : Type 0 where
   -- in order of ticks left
   pub in-order : inOrder (noLater s) (s .delays) ≡ true
   -- an acceptor's open set names its own entries only
-  pub own-entries : (t : ℕ) (o : Offer) → placeOf s t ≡ Accepting o → o .opens < 2 ^ (taskOf s t .entries)
+  pub own-entries : (t e : ℕ) (o : Offer) → placeOf s t ≡ Accepting o → opens (o .opens) e ≡ true → HasEntry s t e
+  -- and has no bit behind them
+  pub no-further : (t : ℕ) (o : Offer) → placeOf s t ≡ Accepting o → o .opens < 2 ^ (taskOf s t .entries)
   -- is not empty unless it waits with a time
   pub not-empty : (t : ℕ) (o : Offer) → placeOf s t ≡ Accepting o → o .opens ≡ 0 → hasTime (timerOf s t) ≡ true
   -- and none of its open entries has a caller queued

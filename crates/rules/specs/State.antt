@@ -71,6 +71,10 @@ created s = length (s .tasks)
 abbrev pub isTask : State → ℕ → Bool
 isTask s t = ltb 0 t && leb t (created s)
 
+-- e is an entry that a task has: they are 1..entries
+abbrev pub hasEntry : Task → ℕ → Bool
+hasEntry x e = ltb 0 e && leb e (x .entries)
+
 -- ── places ──
 
 -- ready, in the queue of its own priority
@@ -133,9 +137,10 @@ entryOf (Held m) = m .entry
 entryOf (Accepting o) = 0
 entryOf Completed = 0
 
--- bit e - 1 of the open set
+-- entry e is in the open set: bit e - 1; there is no entry 0
 abbrev pub opens : ℕ → ℕ → Bool
-opens o e = eqb (o / 2 ^ (e - 1) % 2) 1
+opens o zero = false
+opens o (suc e) = eqb (o / 2 ^ e % 2) 1
 
 -- a task in this place waits to accept entry e
 abbrev pub accepts : Place → ℕ → Bool

@@ -6,7 +6,7 @@ use mathlib.Core.List.{List, [], _∷_, _++_, map}
 use lib.ListN.{length}
 use lib.Dec.{eqb, ltb, leb}
 use Rattle.lists.specs.Lists.{if_then_else_, bit, filter, first, last}
-use Rattle.rules.specs.State.{State, taskOf, placeOf, timerOf, created, isTask, isCompleted, partnerOf, entryOf, accepts, opens, queue, heldBy, running, after, move, wake, meet, part, wakeAll, add, setClock, waiting, offer}
+use Rattle.rules.specs.State.{State, taskOf, placeOf, timerOf, created, isTask, hasEntry, isCompleted, partnerOf, entryOf, accepts, opens, queue, heldBy, running, after, move, wake, meet, part, wakeAll, add, setClock, waiting, offer}
 use Rattle.rules.specs.Sound.{inRange}
 use Rattle.rules.specs.declared.Item.{Item}
 use Rattle.rules.specs.declared.Timer.{Timer}
@@ -133,7 +133,7 @@ callBusy s t g e Conditional = took s (item t NOT-NOW e g) []
 abbrev pub call : State → ℕ → ℕ → ℕ → CallMode → Outcome
 call s t g e m =
     if not (isTask s g) then refused NO-TARGET
-    else if not (ltb 0 e && leb e (taskOf s g .entries)) then refused NO-ENTRY
+    else if not (hasEntry (taskOf s g) e) then refused NO-ENTRY
     else if isCompleted (placeOf s g) then took s (item t TASKING-ERROR e g) []
     else if accepts (placeOf s g) e then took (meet (wake s g) g t e) (item t WAITS 0 0) (item g ACCEPTED e t ∷ [])
     else callBusy s t g e m

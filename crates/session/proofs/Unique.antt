@@ -4,6 +4,6 @@ use mathlib.Core.Path.{_≡_, sym, _∙_}
 use denote.Ref.{now}
 use Rattle.session.proofs.turns.turn.Reads as turn
 
-pub turn-once : (κs : _) (x : _) (r r′ : _) (y y′ : _) → turn.Post κs x r y → turn.Post κs x r′ y′
+pub turn-once : (κs : _) (x : _) (r r′ : _) (y y′ : _) → turn.Learnt κs x r y → turn.Learnt κs x r′ y′
     → (r ≡ r′) × ((now (y .1 .1 .1 .0) ≡ now (y′ .1 .1 .1 .0)) × (now (y .1 .1 .1 .1 .0) ≡ now (y′ .1 .1 .1 .1 .0)))
 turn-once κs x r r′ y y′ p q = (p .0 ∙ sym (q .0), (p .1 .0 ∙ sym (q .1 .0), p .1 .1 .0 ∙ sym (q .1 .1 .0)))

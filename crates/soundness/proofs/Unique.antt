@@ -4,5 +4,5 @@ use mathlib.Core.Path.{sym, _∙_}
 use Rattle.lists.specs.Once.{Once}
 use Rattle.soundness.proofs.is_sound.Reads as is-sound
 
-pub is-sound-once : Once is-sound.Post
+pub is-sound-once : Once is-sound.Learnt
 is-sound-once κs x r r′ y y′ p q = p ∙ sym q

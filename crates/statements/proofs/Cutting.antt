@@ -1,11 +1,13 @@
 -- ADVANCE through the contract of `step`, proved.
 -- Assumes nothing.
 use Prim.Native.Nat.{ℕ, _+_, _≤_}
-use mathlib.Core.Path.{_≡_, sym, _∙_, ap, subst}
+use mathlib.Core.Path.{_≡_, refl, sym, _∙_, ap, subst}
 use mathlib.Core.Bool.{Bool, not}
 use mathlib.Core.List.{List, [], _∷_, _++_}
+use lib.Dec.{ltb}
 use lib.ListN.{length}
 use Rattle.lists.specs.Lists.{if_then_else_}
+use Rattle.lists.proofs.ListLaws.{by-bool}
 use Rattle.rules.specs.State.{empty}
 use Rattle.rules.specs.Step.{takeCall, roomAfter, SHORT-ROOM, BAD-STATE}
 use Rattle.rules.specs.Whole.{Typed, view, soundWhole, Whole, decline, done, stepWhole, steppedOf}
@@ -15,13 +17,13 @@ use Rattle.rules.specs.declared.Item.{Item}
 use Rattle.rules.specs.declared.Stepped.{Stepped}
 use Rattle.rules.specs.declared.Supervisor.{Supervisor}
 use Rattle.calls.specs.declared.Call as C
-use Rattle.calls.specs.declared.Call.the-variants.{Advance}
+use Rattle.calls.specs.declared.Call.the-variants.{Tick, Advance}
 use Rattle.rules.proofs.Advances.{advances}
 use Rattle.rules.proofs.EveryStruct.{typed-pack, step-typed}
 use Rattle.rules.proofs.OverRuns.{empty-sound}
 use Rattle.rules.proofs.Uses.{items-back}
 use Rattle.statements.specs.Statement3.{reached}
-use Rattle.statements.specs.Cutting.{endedIn, RoomsAlike, TicksAlike, EndsJoined, ReadingsAdded, CutAlike, Unchanged, Cutting}
+use Rattle.statements.specs.Cutting.{endedIn, RoomsAlike, LikeTick, TicksAlike, EndsJoined, ReadingsAdded, CutAlike, Unchanged, Cutting}
 
 -- a step looks at its room's length only to see whether it is enough
 same-room : (s : Supervisor) (c : C.Call) (u v : Use) → RoomsAlike u v → stepWhole s c (length (v .lent)) ≡ stepWhole s c (length (u .lent))
@@ -58,6 +60,24 @@ module _ (s : Supervisor) (u : Use) (k : Keeps s u) {w : Whole} (same : stepWhol
       ∙ ap (itemsIn (length (w .ended))) wrote
       ∙ items-back (w .ended) (u .lent)
 
+-- ADVANCE is answered like TICK: refused for the same reason, or DONE with task and partner 0
+tick-numbers : (s : Supervisor) (n room : ℕ) → let x = stepWhole s (Advance n) room in let y = stepWhole s Tick room in
+    (x .refusal ≡ y .refusal) × (x .answer .result ≡ y .answer .result) × (x .answer .task ≡ y .answer .task) × (x .answer .partner ≡ y .answer .partner)
+unfolding stepWhole
+tick-numbers s n room =
+    by-bool (ltb room 124) (λ b. rw b (refl, refl, refl, refl)) λ b.
+    by-bool (soundWhole s) (λ h. rw (b, h) (refl, refl, refl, refl)) (λ h. rw (b, h) (refl, refl, refl, refl))
+
+like-tick : (s : Supervisor) (u : Use) (n : ℕ) → u .gave ≡ steppedOf (stepWhole s (Advance n) (length (u .lent))) → LikeTick s u
+like-tick s u n e =
+    let y = tick-numbers s n (length (u .lent)) in
+    record {
+      refusal = ap (λ (g : Stepped). g .answer .refusal) e ∙ y .0;
+      result = ap (λ (g : Stepped). g .answer .result) e ∙ y .1;
+      task = ap (λ (g : Stepped). g .answer .task) e ∙ y .2;
+      partner = ap (λ (g : Stepped). g .answer .partner) e ∙ y .3;
+    }
+
 ends-joined : (u v w : Use) {x y : List Item} → endedIn u ≡ x → endedIn v ≡ y → endedIn w ≡ x ++ y → EndsJoined u v w
 ends-joined u v w p q e = e ∙ (λ j. sym p j ++ sym q j)
 
@@ -74,6 +94,7 @@ module _ (s : Supervisor) (t : Typed s) where
         readings = readings-are s u k (called s u e) ∙ a .readings;
         different = a .different;
         few = subst (λ (x : ℕ). x ≤ 31) (sym (readings-are s u k (called s u e))) (a .few);
+        answer = like-tick s u n (gave s u k (called s u e));
       }
 
   unchanged : (u : Use) → Keeps s u → u .call ≡ Advance 0 → Unchanged s u

@@ -2,7 +2,7 @@
 -- Assumes nothing.
 use Prim.Native.Nat.{ℕ, zero, suc, _^_}
 use mathlib.Core.Path.{_≡_, refl, sym, _∙_, ap}
-use mathlib.Core.Bool.{Bool, not, _&&_}
+use mathlib.Core.Bool.{Bool, not}
 use mathlib.Core.List.{List, [], _∷_}
 use native.Mathlib.Omega.{arith}
 use lib.Dec.{eqb, ltb, leb}
@@ -10,7 +10,7 @@ use lib.ListN.{length}
 use borrow.Author.Tests.{ne-eqb}
 use Rattle.lists.specs.Lists.{if_then_else_, count, last}
 use Rattle.lists.proofs.ListLaws.{by-bool, not-in}
-use Rattle.rules.specs.State.{State, created, taskOf, placeOf, isTask, isCompleted, accepts, heldBy, running}
+use Rattle.rules.specs.State.{State, created, taskOf, placeOf, isTask, hasEntry, isCompleted, accepts, heldBy, running}
 use Rattle.rules.specs.Sound.{inRange}
 use Rattle.rules.specs.Step.{Outcome, refused, took, number, ticks, create, delayFor, timedCall, callBusy, call, selectAt, selectNone, selectDelay, select, openEntry, endLast, end, finish, ofRunning, takeCall}
 use Rattle.rules.specs.Whole.{Typed, view, soundWhole, done, stepWhole}
@@ -25,7 +25,7 @@ use Rattle.calls.specs.declared.SelectMode.the-variants as S
 use Rattle.rules.proofs.Invariant.{Sound}
 use Rattle.rules.proofs.Members.{of-held, held-there}
 use Rattle.rules.proofs.WholeLaws.{sound-view}
-use Rattle.statements.specs.Refusals.{badField, noTask, noTarget, noEntry, notServing, stillServing, full, Row, row, rows, firstRow}
+use Rattle.statements.specs.Refusals.{rowsOf, rows, firstRow}
 
 -- the refusal of an outcome, 0 if the call is taken
 abbrev refusalOf : Outcome → ℕ
@@ -65,10 +65,10 @@ module _ (v : State) (t g e : ℕ) where
   busy (Timed d) = waits (ticks d)
   busy Conditional = refl
 
-  called : (m : CallMode) → refusalOf (call v t g e m) ≡ (if not (isTask v g) then 5 else if not (ltb 0 e && leb e (taskOf v g .entries)) then 6 else 0)
+  called : (m : CallMode) → refusalOf (call v t g e m) ≡ (if not (isTask v g) then 5 else if not (hasEntry (taskOf v g) e) then 6 else 0)
   called m =
       by-bool (not (isTask v g)) (λ a. rw a) λ a.
-      by-bool (not (ltb 0 e && leb e (taskOf v g .entries))) (λ b. rw (a, b)) λ b.
+      by-bool (not (hasEntry (taskOf v g) e)) (λ b. rw (a, b)) λ b.
       by-bool (isCompleted (placeOf v g)) (λ c. rw (a, b, c)) λ c.
       by-bool (accepts (placeOf v g) e) (λ d. rw (a, b, c, d)) λ d. rw (a, b, c, d) (busy m)
 
@@ -99,20 +99,7 @@ ends v t = ends-at v t (last (heldBy v t)) ∙ ap (λ (b : Bool). if b then 7 el
 finishes : (v : State) (t : ℕ) → refusalOf (finish v t) ≡ (if ltb 0 (length (heldBy v t)) then 8 else 0)
 finishes v t = by-bool (ltb 0 (length (heldBy v t))) (λ e. rw e) (λ e. rw e)
 
--- the rows of a sound state, with room
-tableOf : State → C.Call → List Row
-tableOf v c =
-    row 3 (badField c)
-    ∷ row 4 (noTask v c)
-    ∷ row 5 (noTarget v c)
-    ∷ row 6 (noEntry v c)
-    ∷ row 7 (notServing v c)
-    ∷ row 8 (stillServing v c)
-    ∷ row 9 (full v c)
-    ∷ []
-
-taken : (v : State) (c : C.Call) → Sound v → refusalOf (takeCall v c) ≡ firstRow (tableOf v c)
-unfolding tableOf
+taken : (v : State) (c : C.Call) → Sound v → refusalOf (takeCall v c) ≡ firstRow (rowsOf v c)
 taken v (Create p n) h = creates v p n
 taken v (Delay d) h = runner (running v) (λ t. delayFor v t (ticks d)) 0 (λ _. delays v (running v) (ticks d))
 taken v (Call g e m) h = runner (running v) (λ t. call v t g e m) _ (λ _. called v (running v) g e m)
@@ -127,7 +114,7 @@ done-refusal s (refused r) = refl
 done-refusal s (took st a l) = refl
 
 pub by-table : (s : Supervisor) (c : C.Call) (n : ℕ) → Typed s → stepWhole s c n .refusal ≡ firstRow (rows s c n)
-unfolding stepWhole tableOf
+unfolding stepWhole
 by-table s c n k =
     by-bool (ltb n 124) (λ e. rw e) λ e.
     by-bool (soundWhole s) (λ f. rw (e, f) (done-refusal s (takeCall (view s) c) ∙ taken (view s) c (sound-view s k f))) (λ f. rw (e, f))

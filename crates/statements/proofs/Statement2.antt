@@ -1,13 +1,17 @@
 -- Statement 2, proved.
 -- Assumes nothing.
 use Prim.Native.Nat.{ℕ, _≤_}
-use mathlib.Core.Path.{_≡_}
+use mathlib.Core.Path.{_≡_, ap, _∙_, subst}
 use mathlib.Core.Bool.{true}
 use lib.ListN.{length}
 use borrow.Author.Tests.{le-ltb}
-use Rattle.rules.specs.State.{queue}
-use Rattle.rules.specs.Step.{takeCall}
-use Rattle.rules.specs.Whole.{view, soundWhole, done, stepWhole}
+use Rattle.rules.specs.State.{State, queue}
+use Rattle.rules.specs.declared.Item.{Item}
+use mathlib.Core.List.{List}
+use Rattle.rules.proofs.WholeLaws.{view-pack, sound-view}
+use Rattle.rules.proofs.StepSound.{Kept, call-sound}
+use Rattle.rules.specs.Step.{took, takeCall}
+use Rattle.rules.specs.Whole.{Typed, Whole, view, soundWhole, done, stepWhole}
 use Rattle.rules.specs.Questions.{countWhole}
 use Rattle.rules.specs.declared.Supervisor.{Supervisor}
 use Rattle.rules.proofs.Dispatch.{dispatched-after, counted, count-absent}
@@ -23,6 +27,11 @@ count-is-length : (s : Supervisor) (t e : ℕ) → soundWhole s ≡ true → cou
 unfolding countWhole
 count-is-length s t e h = rw h
 
+next-state : (s : Supervisor) → Typed s → soundWhole s ≡ true → (c : C.Call) (n : ℕ) → 124 ≤ n → (st : State) (a : Item) (l : List Item)
+    → takeCall (view s) c ≡ took st a l → view (stepWhole s c n .state) ≡ st
+next-state s k e c n h st a l q =
+    ap (λ (w : Whole). view (w .state)) (the-rule s c n h e ∙ ap (done s) q) ∙ view-pack st (subst Kept q (call-sound (view s) c (sound-view s k e)))
+
 pub statement2 : Statement2
 statement2 = record {
   as-the-rules = λ κs x r y p. record { answer = p .0; room = p .1 };
@@ -33,6 +42,7 @@ statement2 = record {
   tells-count = λ κs x r y p. p;
   tells-callable = λ κs x r y p. p;
   the-rule = the-rule;
+  next-state = next-state;
   dispatched = dispatched-after;
   read-back = read-back;
   one-call = one-call;

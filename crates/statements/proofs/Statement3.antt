@@ -5,10 +5,11 @@ use mathlib.Core.Path.{_≡_, refl, sym, _∙_, ap, subst}
 use mathlib.Core.List.{List, [], _∷_, map}
 use Rattle.rules.specs.Whole.{view, soundWhole}
 use Rattle.rules.specs.Runs.{Ask, Entry, start, afterStep, entryWhole, logWhole, reachWhole}
-use Rattle.rules.specs.OverRuns.{WaitsCounted, EndsOnce, WereWaiting, SixReasons, FewEnds, HeldTillEnd, TimedWaits}
+use Rattle.rules.specs.OverRuns.{WaitsCounted, EndsOnce, WereWaiting, SixReasons, FewEnds, LeavesAll, HeldTillEnd, TimedWaits}
 use Rattle.rules.specs.Uses.{Use, Keeps, Chain, asked, readEntry, readLog}
 use Rattle.rules.specs.declared.Stepped.{Stepped}
 use Rattle.rules.specs.declared.Supervisor.{Supervisor}
+use Rattle.rules.proofs.SoundSaid.{soundness-said}
 use Rattle.rules.proofs.Uses.{entry-back, read-back}
 use Rattle.rules.proofs.WholeRuns.{over-runs-whole}
 use Rattle.statements.specs.Statement3.{reached, Run, stateOf, Statement3}
@@ -53,6 +54,7 @@ pub statement3 : Statement3
 statement3 = record {
   starts = λ κs x r y p. p;
   always-sound = λ n run. ap soundWhole (at-end n run) ∙ over-runs-whole .always-sound n (run .clock) (asks n run);
+  soundness-said = soundness-said;
   waits-counted = λ n run.
       subst (λ (l : List Entry). WaitsCounted l (view (stateOf run))) (sym (read-back (start n) (run .uses) (run .kept)))
       (subst (λ (s : Supervisor). WaitsCounted (logWhole (start n) (asks n run)) (view s)) (sym (at-end n run)) (over-runs-whole .waits-counted n (run .clock) (asks n run)));
@@ -62,6 +64,7 @@ statement3 = record {
   were-waiting = λ n run. of-step n run WereWaiting (over-runs-whole .were-waiting n (run .clock) (asks n run));
   six-reasons = λ n run. of-step n run SixReasons (over-runs-whole .six-reasons n (run .clock) (asks n run));
   few-ends = λ n run. of-step n run FewEnds (over-runs-whole .few-ends n (run .clock) (asks n run));
+  leaves-all = λ n run. of-step n run LeavesAll (over-runs-whole .leaves-all n (run .clock) (asks n run));
   held-till-end = λ n run. of-step n run HeldTillEnd (over-runs-whole .held-till-end n (run .clock) (asks n run));
   timed-waits = λ n run u k mid c v j.
       subst (λ (x : Entry). TimedWaits x (readLog (u .gave .state) mid) (readEntry (reached (u .gave .state) mid) v)) (sym (step-at n run u k))

@@ -6,13 +6,13 @@ use mathlib.Core.List.{List, [], _++_}
 use lib.Dec.{ltb}
 use lib.ListN.{length}
 use Rattle.lists.specs.Lists.{count}
-use Rattle.rules.specs.Whole.{Typed}
+use Rattle.rules.specs.Whole.{Typed, stepWhole}
 use Rattle.rules.specs.Runs.{reachWhole, logWhole}
 use Rattle.rules.specs.Advance.{tickAsks, joined, moments}
 use Rattle.rules.specs.Uses.{Use, Keeps, itemsIn}
 use Rattle.rules.specs.declared.Item.{Item}
 use Rattle.rules.specs.declared.Supervisor.{Supervisor}
-use Rattle.calls.specs.declared.Call.the-variants.{Advance}
+use Rattle.calls.specs.declared.Call.the-variants.{Tick, Advance}
 use Rattle.statements.specs.Statement3.{Run, stateOf}
 
 -- the waits that a use ended, read off the bytes that it wrote
@@ -23,14 +23,22 @@ endedIn u = itemsIn (u .gave .answer .ended) (u .wrote)
 abbrev pub RoomsAlike : Use → Use → Type 0
 RoomsAlike u v = ltb (length (u .lent)) 124 ≡ ltb (length (v .lent)) 124
 
+-- u is answered as one TICK in its place is: refusal, result, task and partner
+pub record LikeTick (s : Supervisor) (u : Use) : Type 0 where
+  pub refusal : u .gave .answer .refusal ≡ stepWhole s Tick (length (u .lent)) .refusal
+  pub result : u .gave .answer .result ≡ stepWhole s Tick (length (u .lent)) .answer .result
+  pub task : u .gave .answer .task ≡ stepWhole s Tick (length (u .lent)) .answer .task
+  pub partner : u .gave .answer .partner ≡ stepWhole s Tick (length (u .lent)) .answer .partner
+
 -- the state and the list of u are those of n TICKs with their lists joined; its entry field counts the readings at which a wait ended,
--- all different, never above 31
+-- all different, never above 31; it is answered like TICK
 pub record TicksAlike (s : Supervisor) (n : ℕ) (u : Use) : Type 0 where
   pub state : u .gave .state ≡ reachWhole s (tickAsks n (length (u .lent)))
   pub ends : endedIn u ≡ joined (logWhole s (tickAsks n (length (u .lent))))
   pub readings : u .gave .answer .entry ≡ length (moments (logWhole s (tickAsks n (length (u .lent)))))
   pub different : n < 4294967296 → (r : ℕ) → count r (moments (logWhole s (tickAsks n (length (u .lent))))) ≤ 1
   pub few : u .gave .answer .entry ≤ 31
+  pub answer : LikeTick s u
 
 -- the list of u and then that of v are the list of w
 abbrev pub EndsJoined : Use → Use → Use → Type 0

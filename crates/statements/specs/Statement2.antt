@@ -7,8 +7,9 @@ use mathlib.Core.Bool.{true}
 use mathlib.Core.List.{List, _++_}
 use lib.ListN.{length, take}
 use denote.Ref.{now}
-use Rattle.rules.specs.State.{queue}
-use Rattle.rules.specs.Step.{takeCall}
+use Rattle.rules.specs.State.{State, queue}
+use Rattle.rules.specs.declared.Item.{Item}
+use Rattle.rules.specs.Step.{took, takeCall}
 use Rattle.rules.specs.Whole.{Typed, view, soundWhole, done, stepWhole}
 use Rattle.rules.specs.Questions.{countWhole, callableWhole, runningWhole}
 use Rattle.rules.specs.EachStep.{Dispatched, waitingOn}
@@ -32,18 +33,21 @@ use Rattle.supervisor.proofs.callable.Reads as callable
 pub record Statement2 : Type 1 where
   -- whatever the contract of `step` allows, in a state x .0 with the call x .1 .0 and a lent room, is a use that keeps the rules' step
   -- (x has what the function is given, r is its answer, y has what is lent as it is afterwards)
-  pub as-the-rules : (κs : _) (x : _) (r : _) (y : _) → step.Post κs x r y
+  pub as-the-rules : (κs : _) (x : _) (r : _) (y : _) → step.Learnt κs x r y
       → Keeps (x .0) (record { call = x .1 .0; lent = now (x .1 .1 .0); gave = r; wrote = now (y .1 .1 .0) })
   -- the same of the reader, the writer and the questions: whatever their contracts allow is what the definitions say
-  pub reads : (κs : _) (x : _) (r : _) (y : _) → read-record.Post κs x r y → r ≡ readOf (now (x .0))
-  pub writes : (κs : _) (x : _) (r : _) (y : _) → write-record.Post κs x r y
+  pub reads : (κs : _) (x : _) (r : _) (y : _) → read-record.Learnt κs x r y → r ≡ readOf (now (x .0))
+  pub writes : (κs : _) (x : _) (r : _) (y : _) → write-record.Learnt κs x r y
       → (r ≡ writtenOf (encode (x .0)) (now (x .1 .0))) × (now (y .1 .0) ≡ roomWritten (encode (x .0)) (now (x .1 .0)))
-  pub tells-sound : (κs : _) (x : _) (r : _) (y : _) → sound.Post κs x r y → r ≡ soundWhole (x .0)
-  pub tells-running : (κs : _) (x : _) (r : _) (y : _) → running.Post κs x r y → r ≡ runningWhole (x .0)
-  pub tells-count : (κs : _) (x : _) (r : _) (y : _) → count.Post κs x r y → r ≡ countWhole (x .0) (x .1 .0) (x .1 .1 .0)
-  pub tells-callable : (κs : _) (x : _) (r : _) (y : _) → callable.Post κs x r y → r ≡ callableWhole (x .0) (x .1 .0)
+  pub tells-sound : (κs : _) (x : _) (r : _) (y : _) → sound.Learnt κs x r y → r ≡ soundWhole (x .0)
+  pub tells-running : (κs : _) (x : _) (r : _) (y : _) → running.Learnt κs x r y → r ≡ runningWhole (x .0)
+  pub tells-count : (κs : _) (x : _) (r : _) (y : _) → count.Learnt κs x r y → r ≡ countWhole (x .0) (x .1 .0) (x .1 .1 .0)
+  pub tells-callable : (κs : _) (x : _) (r : _) (y : _) → callable.Learnt κs x r y → r ≡ callableWhole (x .0) (x .1 .0)
   -- with room enough and in a sound state, the rules' step is the rule of the call: next state, result, ended waits, dispatched task
   pub the-rule : (s : Supervisor) (c : C.Call) (n : ℕ) → 124 ≤ n → soundWhole s ≡ true → stepWhole s c n ≡ done s (takeCall (view s) c)
+  -- and its struct stands for the rule's next state: `pack` cuts nothing off
+  pub next-state : (s : Supervisor) → Typed s → soundWhole s ≡ true → (c : C.Call) (n : ℕ) → 124 ≤ n → (st : State) (a : Item) (l : List Item)
+      → takeCall (view s) c ≡ took st a l → view (stepWhole s c n .state) ≡ st
   -- "the dispatched task heads the highest ready level"; it is 0 where nobody is ready
   pub dispatched : (s : Supervisor) → Typed s → soundWhole s ≡ true → (c : C.Call) (n : ℕ) → 124 ≤ n
       → Dispatched (view (stepWhole s c n .state)) (stepWhole s c n .next)

@@ -7,8 +7,9 @@ use mathlib.Core.Path.{_≡_}
 use mathlib.Core.Bool.{true}
 use mathlib.Core.List.{List, [], _∷_}
 use Rattle.rules.specs.Whole.{view, soundWhole}
+use Rattle.rules.specs.SoundFacts.{SoundnessSaid}
 use Rattle.rules.specs.Runs.{Entry, start}
-use Rattle.rules.specs.OverRuns.{WaitsCounted, EndsOnce, WereWaiting, SixReasons, FewEnds, HeldTillEnd, TimedWaits}
+use Rattle.rules.specs.OverRuns.{WaitsCounted, EndsOnce, WereWaiting, SixReasons, FewEnds, LeavesAll, HeldTillEnd, TimedWaits}
 use Rattle.rules.specs.Uses.{Use, Keeps, Chain, readEntry, readLog}
 use Rattle.rules.specs.declared.Supervisor.{Supervisor}
 use Rattle.supervisor.proofs.empty.Reads as empty
@@ -33,9 +34,11 @@ logOf {n} run = readLog (start n) (run .uses)
 
 pub record Statement3 : Type 1 where
   -- "from an empty supervisor": whatever the contract of `empty` allows is the start of a run with that clock
-  pub starts : (κs : _) (x : _) (r : _) (y : _) → empty.Post κs x r y → r ≡ start (x .0)
+  pub starts : (κs : _) (x : _) (r : _) (y : _) → empty.Learnt κs x r y → r ≡ start (x .0)
   -- "every state reached is sound"
   pub always-sound : (n : ℕ) (run : Run n) → soundWhole (stateOf run) ≡ true
+  -- and what is called sound is what document 01 calls so: the test holds exactly where its facts do
+  pub soundness-said : SoundnessSaid
   -- "for each task the waits begun equal the waits ended plus one if it is waiting now"
   pub waits-counted : (n : ℕ) (run : Run n) → WaitsCounted (logOf run) (view (stateOf run))
   -- "each ended wait ended once": then, and not again in the uses behind it before another has begun
@@ -47,6 +50,9 @@ pub record Statement3 : Type 1 where
   pub six-reasons : (n : ℕ) (run : Run n) (u : Use) → Keeps (stateOf run) u → SixReasons (readEntry (stateOf run) u)
   -- 124 bytes of room suffice
   pub few-ends : (n : ℕ) (run : Run n) (u : Use) → Keeps (stateOf run) u → FewEnds (readEntry (stateOf run) u)
+  -- the fault that started this cannot be: whose wait has ended, by time or otherwise, stands in no entry queue, not among the callers or the held, and
+  -- not in the delay queue, from that same step on
+  pub leaves-all : (n : ℕ) (run : Run n) (u : Use) → Keeps (stateOf run) u → LeavesAll (readEntry (stateOf run) u)
   -- "a caller in rendezvous is released only by the end of that rendezvous"
   pub held-till-end : (n : ℕ) (run : Run n) (u : Use) → Keeps (stateOf run) u → HeldTillEnd (readEntry (stateOf run) u)
   -- "a wait with a time of d ticks ends by that time at the d-th tick after it began, exactly when .."

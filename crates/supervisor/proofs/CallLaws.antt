@@ -9,7 +9,7 @@ use lib.Dec.{ltb, leb}
 use lib.ListN.{length}
 use borrow.Author.Tests.{not-true, not-false}
 use Rattle.lists.proofs.Tests.{between}
-use Rattle.rules.specs.State.{State, created, taskOf, wake, running, after, isTask, placeOf, isCompleted, accepts, meeting, meet}
+use Rattle.rules.specs.State.{State, created, taskOf, wake, running, after, isTask, hasEntry, placeOf, isCompleted, accepts, meeting, meet}
 use Rattle.rules.specs.Step.{refused, took, NO-TASK, NO-TARGET, NO-ENTRY, item, WAITS, CALL-EXPIRED, TASKING-ERROR, ACCEPTED, ticks, enqueue, timedCall, callBusy, call, takeCall}
 use Rattle.rules.specs.Sound.{sound}
 use Rattle.rules.specs.Whole.{view, pack}
@@ -45,17 +45,17 @@ module _ (v : State) (t g e : ℕ) (m : CallMode) where
   pub call-target : isTask v g ≡ false → call v t g e m ≡ refused NO-TARGET
   call-target q1 = rw q1
 
-  pub call-entry : isTask v g ≡ true → (ltb 0 e && leb e (taskOf v g .entries)) ≡ false → call v t g e m ≡ refused NO-ENTRY
+  pub call-entry : isTask v g ≡ true → hasEntry (taskOf v g) e ≡ false → call v t g e m ≡ refused NO-ENTRY
   call-entry q1 q2 = rw (q1, q2)
 
-  pub call-dead : isTask v g ≡ true → (ltb 0 e && leb e (taskOf v g .entries)) ≡ true → isCompleted (placeOf v g) ≡ true → call v t g e m ≡ took v (item t TASKING-ERROR e g) []
+  pub call-dead : isTask v g ≡ true → hasEntry (taskOf v g) e ≡ true → isCompleted (placeOf v g) ≡ true → call v t g e m ≡ took v (item t TASKING-ERROR e g) []
   call-dead q1 q2 q3 = rw (q1, q2, q3)
 
-  pub call-meets : isTask v g ≡ true → (ltb 0 e && leb e (taskOf v g .entries)) ≡ true → isCompleted (placeOf v g) ≡ false → accepts (placeOf v g) e ≡ true
+  pub call-meets : isTask v g ≡ true → hasEntry (taskOf v g) e ≡ true → isCompleted (placeOf v g) ≡ false → accepts (placeOf v g) e ≡ true
       → call v t g e m ≡ took (meet (wake v g) g t e) (item t WAITS 0 0) (item g ACCEPTED e t ∷ [])
   call-meets q1 q2 q3 q4 = rw (q1, q2, q3, q4)
 
-  pub call-goes : isTask v g ≡ true → (ltb 0 e && leb e (taskOf v g .entries)) ≡ true → isCompleted (placeOf v g) ≡ false → accepts (placeOf v g) e ≡ false → call v t g e m ≡ callBusy v t g e m
+  pub call-goes : isTask v g ≡ true → hasEntry (taskOf v g) e ≡ true → isCompleted (placeOf v g) ≡ false → accepts (placeOf v g) e ≡ false → call v t g e m ≡ callBusy v t g e m
   call-goes q1 q2 q3 q4 = rw (q1, q2, q3, q4)
 
 module _ (v : State) (t g e : ℕ) (d : ℤ) (n : ℕ) (is : n ≡ ticks d) where

@@ -33,94 +33,94 @@ use Rattle.table.proofs.tasks.with_task.Reads as with-task
 
 -- ── dispatch ──
 
-pub running-once : Once running.Post
+pub running-once : Once running.Learnt
 running-once κs x r r′ y y′ p q = p ∙ sym q
 
 -- ── moves ──
 
-pub moved-once : Once moved.Post
+pub moved-once : Once moved.Learnt
 moved-once κs x r r′ y y′ p q = p ∙ sym q
 
-pub met-once : Once met.Post
+pub met-once : Once met.Learnt
 met-once κs x r r′ y y′ p q = p ∙ sym q
 
-pub parted-once : Once parted.Post
+pub parted-once : Once parted.Learnt
 parted-once κs x r r′ y y′ p q = p ∙ sym q
 
-pub woken-once : Once woken.Post
+pub woken-once : Once woken.Learnt
 woken-once κs x r r′ y y′ p q = p ∙ sym q
 
 -- ── place ──
 
-pub is-ready-once : Once is-ready.Post
+pub is-ready-once : Once is-ready.Learnt
 is-ready-once κs x r r′ y y′ p q = p ∙ sym q
 
-pub is-queued-once : Once is-queued.Post
+pub is-queued-once : Once is-queued.Learnt
 is-queued-once κs x r r′ y y′ p q = p ∙ sym q
 
-pub is-held-once : Once is-held.Post
+pub is-held-once : Once is-held.Learnt
 is-held-once κs x r r′ y y′ p q = p ∙ sym q
 
-pub is-completed-once : Once is-completed.Post
+pub is-completed-once : Once is-completed.Learnt
 is-completed-once κs x r r′ y y′ p q = p ∙ sym q
 
-pub partner-of-once : Once partner-of.Post
+pub partner-of-once : Once partner-of.Learnt
 partner-of-once κs x r r′ y y′ p q = p ∙ sym q
 
-pub entry-of-once : Once entry-of.Post
+pub entry-of-once : Once entry-of.Learnt
 entry-of-once κs x r r′ y y′ p q = p ∙ sym q
 
-pub expiry-of-once : Once expiry-of.Post
+pub expiry-of-once : Once expiry-of.Learnt
 expiry-of-once κs x r r′ y y′ p q = p ∙ sym q
 
-pub has-time-once : Once has-time.Post
+pub has-time-once : Once has-time.Learnt
 has-time-once κs x r r′ y y′ p q = p ∙ sym q
 
-pub ticks-left-once : Once ticks-left.Post
+pub ticks-left-once : Once ticks-left.Learnt
 ticks-left-once κs x r r′ y y′ p q = p ∙ sym q
 
-pub is-between-once : Once is-between.Post
+pub is-between-once : Once is-between.Learnt
 is-between-once κs x r r′ y y′ p q = p ∙ sym q
 
-pub in-range-once : Once in-range.Post
+pub in-range-once : Once in-range.Learnt
 in-range-once κs x r r′ y y′ p q = p ∙ sym q
 
-pub is-open-once : Once is-open.Post
+pub is-open-once : Once is-open.Learnt
 is-open-once κs x r r′ y y′ p q = p ∙ sym q
 
-pub is-too-wide-once : Once is-too-wide.Post
+pub is-too-wide-once : Once is-too-wide.Learnt
 is-too-wide-once κs x r r′ y y′ p q = p ∙ sym q
 
-pub accepts-at-once : Once accepts-at.Post
+pub accepts-at-once : Once accepts-at.Learnt
 accepts-at-once κs x r r′ y y′ p q = p ∙ sym q
 
 -- ── queues ──
 
-pub picked-once : Once picked.Post
+pub picked-once : Once picked.Learnt
 picked-once κs x r r′ y y′ p q = p ∙ sym q
 
 -- ── tasks ──
 
-pub blank-task-once : Once blank-task.Post
+pub blank-task-once : Once blank-task.Learnt
 blank-task-once κs x r r′ y y′ p q = p ∙ sym q
 
-pub fresh-task-once : Once fresh-task.Post
+pub fresh-task-once : Once fresh-task.Learnt
 fresh-task-once κs x r r′ y y′ p q = p ∙ sym q
 
-pub placed-at-once : Once placed-at.Post
+pub placed-at-once : Once placed-at.Learnt
 placed-at-once κs x r r′ y y′ p q = p ∙ sym q
 
-pub index-of-once : Once index-of.Post
+pub index-of-once : Once index-of.Learnt
 index-of-once κs x r r′ y y′ p q = p .0 ∙ sym (q .0)
 
-pub shown-once : Once shown.Post
+pub shown-once : Once shown.Learnt
 shown-once κs x r r′ y y′ p q = p ∙ sym q
 
-pub left-of-once : Once left-of.Post
+pub left-of-once : Once left-of.Learnt
 left-of-once κs x r r′ y y′ p q = p ∙ sym q
 
-pub task-of-once : Once task-of.Post
+pub task-of-once : Once task-of.Learnt
 task-of-once κs x r r′ y y′ p q = p ∙ sym q
 
-pub with-task-once : Once with-task.Post
+pub with-task-once : Once with-task.Learnt
 with-task-once κs x r r′ y y′ p q = p ∙ sym q

@@ -117,7 +117,7 @@ pub fn is_open(o: u8, e: u8) -> bool
     ensures { λ r. ⌜ r ≡ opens o e ⌝ }
 {
     if e == 0 {
-        return o % 2 == 1;
+        return false; // there is no entry 0
     }
     if e > 8 {
         return false;

@@ -41,11 +41,11 @@ module _ {M : Type 1} (𝓤 : URA M) (H : Heap 𝓤) (A : Atoms 𝓤) (W : Given
 
 -- ── tables by value ──
 
-pub owned-fresh-once : (κs : _) (x : _) (r r′ : _) (y y′ : _) → owned-fresh.Post κs x r y → owned-fresh.Post κs x r′ y′ → r ≡ r′
+pub owned-fresh-once : (κs : _) (x : _) (r r′ : _) (y y′ : _) → owned-fresh.Learnt κs x r y → owned-fresh.Learnt κs x r′ y′ → r ≡ r′
 owned-fresh-once κs x r r′ y y′ p q = p ∙ sym q
 
-pub owned-request-once : (κs : _) (x : _) (r r′ : _) (y y′ : _) → owned-request.Post κs x r y → owned-request.Post κs x r′ y′ → r ≡ r′
+pub owned-request-once : (κs : _) (x : _) (r r′ : _) (y y′ : _) → owned-request.Learnt κs x r y → owned-request.Learnt κs x r′ y′ → r ≡ r′
 owned-request-once κs x r r′ y y′ p q = p ∙ sym q
 
-pub owned-release-once : (κs : _) (x : _) (r r′ : _) (y y′ : _) → owned-release.Post κs x r y → owned-release.Post κs x r′ y′ → r ≡ r′
+pub owned-release-once : (κs : _) (x : _) (r r′ : _) (y y′ : _) → owned-release.Learnt κs x r y → owned-release.Learnt κs x r′ y′ → r ≡ r′
 owned-release-once κs x r r′ y y′ p q = p ∙ sym q
