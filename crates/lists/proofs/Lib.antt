@@ -5,5 +5,6 @@ pub mod ListLaws
 pub mod LineLaws
 pub mod Turns
 pub mod MarkLaws
+pub mod AheadLaws
 pub mod OverLaws
 pub mod Parts

@@ -1,9 +1,9 @@
 -- The few operations on lists of task numbers that the rules need, and the choice by a test.
 -- Assumes nothing.
 use Prim.Native.Nat.{ℕ, zero, suc, _+_}
-use mathlib.Core.Bool.{Bool, true, false, not, _&&_}
+use mathlib.Core.Bool.{Bool, true, false, not, _&&_, _||_}
 use mathlib.Core.List.{List, [], _∷_, _++_}
-use lib.Dec.{eqb}
+use lib.Dec.{eqb, ltb}
 
 infixr 5 if_then_else_
 -- `if b then x else y`
@@ -39,6 +39,11 @@ insert f t (x ∷ xs) = if f x then t ∷ x ∷ xs else x ∷ insert f t xs
 abbrev pub count : ℕ → List ℕ → ℕ
 count t [] = 0
 count t (x ∷ xs) = bit (eqb x t) + count t xs
+
+-- x stands in the list, and y behind it
+abbrev pub ahead : ℕ → ℕ → List ℕ → Bool
+ahead x y [] = false
+ahead x y (z ∷ zs) = (eqb z x && ltb 0 (count y zs)) || ahead x y zs
 
 -- the first and the last; 0 of the empty list
 abbrev pub first : List ℕ → ℕ

@@ -20,5 +20,11 @@ pub mod WholeRuns
 pub mod Uses
 pub mod AtOnce
 pub mod AdvanceFits
+pub mod Moves
+pub mod OrderKept
+pub mod CallerOrder
+pub mod HeldOrder
+pub mod TimeOrder
+pub mod OrdersWhole
 pub mod AsTicks
 pub mod Advances

@@ -145,7 +145,7 @@ next s a t p due k d h y w = go (entry s a .out) refl (step-fate s a t h)
 
 -- ── a held caller over a run: held, or its wait has ended ──
 
-held-run : (mid : List Ask) (s : State) (t : ℕ) (mt : Meeting) → Sound s → placeOf s t ≡ Held mt → (placeOf (reach s mid) t ≡ Held mt) ⊎ (0 < ended t (logOf s mid))
+pub held-run : (mid : List Ask) (s : State) (t : ℕ) (mt : Meeting) → Sound s → placeOf s t ≡ Held mt → (placeOf (reach s mid) t ≡ Held mt) ⊎ (0 < ended t (logOf s mid))
 held-run [] s t mt h q = inl q
 held-run (a ∷ rest) s t mt h q = go (held-step s a t mt h q) (held-run rest (entry s a .out .state) t mt (step-sound s a h))
   where
@@ -170,7 +170,7 @@ pub data Course (s : State) (mid : List Ask) (t : ℕ) (p : Place) (due k d : �
   over : (engaged t (logOf s mid) ≡ true) ⊎ ((completed (partnerOf p) (logOf s mid) ≡ true) ⊎ (d ≤ k + tickCount (logOf s mid)))
       → ((mt : Meeting) × (placeOf (reach s mid) t ≡ Held mt)) ⊎ (0 < ended t (logOf s mid)) → Course s mid t p due k d
 
-course : (mid : List Ask) (s : State) (t : ℕ) (p : Place) (due k d : ℕ) → Sound s → Timely p → Pending s t p due k d → Course s mid t p due k d
+pub course : (mid : List Ask) (s : State) (t : ℕ) (p : Place) (due k d : ℕ) → Sound s → Timely p → Pending s t p due k d → Course s mid t p due k d
 course [] s t p due k d h y w = still (record { place = w .place; timer = w .timer; ticks = omega (arith, w .ticks) }) refl refl refl
 course (a ∷ rest) s t p due k d h y w =
     go (next s a t p due k d h y w) (course rest s1 t p due (ticksIn x + k) d (step-sound s a h) y)
@@ -211,7 +211,7 @@ course (a ∷ rest) s t p due k d h y w =
 
 -- ── the theorem ──
 
-timely : (s : State) (c : C.Call) → isWaiting (placeFor s c) ≡ true → Timely (placeFor s c) × (partnerOf (placeFor s c) ≡ target c) × (expiry (placeFor s c) ≡ timeReason c) × (ticksOf c ≡ 0)
+pub timely : (s : State) (c : C.Call) → isWaiting (placeFor s c) ≡ true → Timely (placeFor s c) × (partnerOf (placeFor s c) ≡ target c) × (expiry (placeFor s c) ≡ timeReason c) × (ticksOf c ≡ 0)
 timely s (Create p n) e = no (cc)
 timely s (Delay d) e = (delayed, refl, refl, refl)
 timely s (Call g j m) e = (queued (waiting g j), refl, refl, refl)
@@ -221,12 +221,12 @@ timely s Finish e = no (cc)
 timely s Tick e = no (cc)
 timely s (Advance n) e = no (cc)
 
-timer-in : (now d : ℕ) → 0 < d → timerIn now d ≡ Due (after now d)
+pub timer-in : (now d : ℕ) → 0 < d → timerIn now d ≡ Due (after now d)
 timer-in now zero h = absurd (omega arith)
 timer-in now (suc d) h = refl
 
 -- a held caller's wait does not end by time
-held-ends : (s : State) (b : Ask) (t : ℕ) (mt : Meeting) (r : ℕ) → Sound s → placeOf s t ≡ Held mt → eqb r SERVED ≡ false → reasons t (entry s b .out .ended) ≡ r ∷ [] → ⊥
+pub held-ends : (s : State) (b : Ask) (t : ℕ) (mt : Meeting) (r : ℕ) → Sound s → placeOf s t ≡ Held mt → eqb r SERVED ≡ false → reasons t (entry s b .out .ended) ≡ r ∷ [] → ⊥
 held-ends s b t mt r h q n z = go (held-step s b t mt h q)
   where
     go : Stays t mt (entry s b) ⊎ Released t mt (entry s b) → ⊥
@@ -235,7 +235,7 @@ held-ends s b t mt r h q n z = go (held-step s b t mt h q)
         let u : reasons t (entry s b .out .ended) ≡ SERVED ∷ [] = rw (re .ended, eq-eqb t t refl) in
         let v : r ≡ SERVED = cc in eqb-false r SERVED n v
 
-reason-not : (c : C.Call) → eqb (timeReason c) SERVED ≡ false
+pub reason-not : (c : C.Call) → eqb (timeReason c) SERVED ≡ false
 reason-not (Create p n) = refl
 reason-not (Delay d) = refl
 reason-not (Call g j m) = refl

@@ -18,6 +18,8 @@ pub mod EachStep
 pub mod Runs
 -- statement 3: what holds of every run
 pub mod OverRuns
+-- and in which order waits and rendezvous end
+pub mod Orders
 -- ADVANCE: that it is n ticks, and that these wake all whose time comes at once
 pub mod Advance
 -- the same log, read off what the code's `step` answered and wrote

@@ -6,13 +6,15 @@ use mathlib.Core.List.{List, [], _∷_, map}
 use Rattle.rules.specs.Whole.{view, soundWhole}
 use Rattle.rules.specs.Runs.{Ask, Entry, start, afterStep, entryWhole, logWhole, reachWhole}
 use Rattle.rules.specs.OverRuns.{WaitsCounted, EndsOnce, WereWaiting, SixReasons, FewEnds, LeavesAll, HeldTillEnd, TimedWaits}
+use Rattle.rules.specs.Orders.{OfThree, TimesInOrder, LongestFirst, LastFirst}
 use Rattle.rules.specs.Uses.{Use, Keeps, Chain, asked, readEntry, readLog}
 use Rattle.rules.specs.declared.Stepped.{Stepped}
 use Rattle.rules.specs.declared.Supervisor.{Supervisor}
 use Rattle.rules.proofs.SoundSaid.{soundness-said}
 use Rattle.rules.proofs.Uses.{entry-back, read-back}
+use Rattle.rules.proofs.OrdersWhole.{orders-whole}
 use Rattle.rules.proofs.WholeRuns.{over-runs-whole}
-use Rattle.statements.specs.Statement3.{reached, Run, stateOf, Statement3}
+use Rattle.statements.specs.Statement3.{reached, Run, stateOf, logOf, Statement3}
 
 -- the state that a use gives is that of the rules
 gave-state : (s : Supervisor) (u : Use) → Keeps s u → u .gave .state ≡ afterStep s (asked u)
@@ -50,13 +52,17 @@ module _ (n : ℕ) (run : Run n) where
   of-step : (P : Entry → Type 0) → ((a : Ask) → P (entryWhole (reachWhole (start n) asks) a)) → (u : Use) → Keeps (stateOf run) u → P (readEntry (stateOf run) u)
   of-step P f u k = subst P (sym (step-at u k)) (f (asked u))
 
+  -- the log
+  of-log : (P : List Entry → Type 0) → P (logWhole (start n) asks) → P (logOf run)
+  of-log P f = subst P (sym (read-back (start n) (run .uses) (run .kept))) f
+
 pub statement3 : Statement3
 statement3 = record {
   starts = λ κs x r y p. p;
   always-sound = λ n run. ap soundWhole (at-end n run) ∙ over-runs-whole .always-sound n (run .clock) (asks n run);
   soundness-said = soundness-said;
   waits-counted = λ n run.
-      subst (λ (l : List Entry). WaitsCounted l (view (stateOf run))) (sym (read-back (start n) (run .uses) (run .kept)))
+      of-log n run (λ (l : List Entry). WaitsCounted l (view (stateOf run)))
       (subst (λ (s : Supervisor). WaitsCounted (logWhole (start n) (asks n run)) (view s)) (sym (at-end n run)) (over-runs-whole .waits-counted n (run .clock) (asks n run)));
   ends-once = λ n run u k mid c.
       subst (λ (x : Entry). EndsOnce x (readLog (u .gave .state) mid)) (sym (step-at n run u k))
@@ -66,6 +72,9 @@ statement3 = record {
   few-ends = λ n run. of-step n run FewEnds (over-runs-whole .few-ends n (run .clock) (asks n run));
   leaves-all = λ n run. of-step n run LeavesAll (over-runs-whole .leaves-all n (run .clock) (asks n run));
   held-till-end = λ n run. of-step n run HeldTillEnd (over-runs-whole .held-till-end n (run .clock) (asks n run));
+  equal-times = λ n run. of-log n run (λ (l : List Entry). OfThree l TimesInOrder) (orders-whole .equal-times n (run .clock) (asks n run));
+  longest-first = λ n run. of-log n run (λ (l : List Entry). OfThree l LongestFirst) (orders-whole .longest-first n (run .clock) (asks n run));
+  last-first = λ n run. of-log n run (λ (l : List Entry). OfThree l LastFirst) (orders-whole .last-first n (run .clock) (asks n run));
   timed-waits = λ n run u k mid c v j.
       subst (λ (x : Entry). TimedWaits x (readLog (u .gave .state) mid) (readEntry (reached (u .gave .state) mid) v)) (sym (step-at n run u k))
       (subst (λ (l : List Entry). TimedWaits (entryWhole (reachWhole (start n) (asks n run)) (asked u)) l (readEntry (reached (u .gave .state) mid) v)) (sym (log-at n run u k mid c))

@@ -10,6 +10,7 @@ use Rattle.rules.specs.Whole.{view, soundWhole}
 use Rattle.rules.specs.SoundFacts.{SoundnessSaid}
 use Rattle.rules.specs.Runs.{Entry, start}
 use Rattle.rules.specs.OverRuns.{WaitsCounted, EndsOnce, WereWaiting, SixReasons, FewEnds, LeavesAll, HeldTillEnd, TimedWaits}
+use Rattle.rules.specs.Orders.{OfThree, TimesInOrder, LongestFirst, LastFirst}
 use Rattle.rules.specs.Uses.{Use, Keeps, Chain, readEntry, readLog}
 use Rattle.rules.specs.declared.Supervisor.{Supervisor}
 use Rattle.supervisor.proofs.empty.Reads as empty
@@ -55,6 +56,11 @@ pub record Statement3 : Type 1 where
   pub leaves-all : (n : ℕ) (run : Run n) (u : Use) → Keeps (stateOf run) u → LeavesAll (readEntry (stateOf run) u)
   -- "a caller in rendezvous is released only by the end of that rendezvous"
   pub held-till-end : (n : ℕ) (run : Run n) (u : Use) → Keeps (stateOf run) u → HeldTillEnd (readEntry (stateOf run) u)
+  -- the orders of document 01, of any three steps of a run: equal times end in the order in which the waits began; the caller that is taken is the
+  -- longest-waiting one of its entry; of those whom a task holds, the rendezvous that began last ends first
+  pub equal-times : (n : ℕ) (run : Run n) → OfThree (logOf run) TimesInOrder
+  pub longest-first : (n : ℕ) (run : Run n) → OfThree (logOf run) LongestFirst
+  pub last-first : (n : ℕ) (run : Run n) → OfThree (logOf run) LastFirst
   -- "a wait with a time of d ticks ends by that time at the d-th tick after it began, exactly when .."
   pub timed-waits : (n : ℕ) (run : Run n) (u : Use) → Keeps (stateOf run) u → (mid : List Use) → Chain (u .gave .state) mid
       → (v : Use) → Keeps (reached (u .gave .state) mid) v
