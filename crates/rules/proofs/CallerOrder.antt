@@ -3,23 +3,23 @@
 use Prim.Native.Nat.{_<_}
 use mathlib.Core.Path.{_≡_, refl, sym, _∙_}
 use mathlib.Core.Bool.{true, false}
-use mathlib.Core.List.{List, _∷_}
+use mathlib.Core.List.{_∷_}
 use native.Mathlib.Omega.{arith}
 use Rattle.lists.specs.Lists.{count, first}
 use Rattle.lists.proofs.Tests.{bit-le}
 use Rattle.lists.proofs.ListLaws.{clash, by-bool, count-filter-yes}
 use Rattle.lists.proofs.AheadLaws.{ahead-filter, first-ahead, one-way, Leads}
 use Rattle.rules.specs.State.{State, placeOf, isQueued, isHeld, waitsOn, queue}
-use Rattle.rules.specs.Runs.{Ask, isWaiting}
+use Rattle.rules.specs.Runs.{isWaiting}
 use Rattle.rules.specs.declared.Place.{Place}
 use Rattle.rules.specs.declared.Place.the-variants.{Blank, Ready, Delayed, Queued, Held, Accepting, Completed}
 use Rattle.rules.specs.Orders.{LongestFirst}
 use Rattle.rules.proofs.Invariant.{Sound}
 use Rattle.rules.proofs.Members.{WaitsOn, queued-is, bit-true}
-use Rattle.rules.proofs.StateRuns.{entry, logOf, reach}
+use Rattle.rules.proofs.StateRuns.{entry, reach}
 use Rattle.rules.proofs.OverRuns.{step-sound, reach-sound}
 use Rattle.rules.proofs.Moves.{step-moved}
-use Rattle.rules.proofs.OrderKept.{taken-heads, Rests, callers-run, begins-waits, waits-on}
+use Rattle.rules.proofs.OrderKept.{OfAsks, taken-heads, Rests, callers-run, begins-waits, waits-on}
 
 queued-waits : (p : Place) → isQueued p ≡ true → isWaiting p ≡ true
 queued-waits (Queued q) e = refl
@@ -30,9 +30,7 @@ queued-waits (Held m) e = clash e refl
 queued-waits (Accepting o) e = clash e refl
 queued-waits Completed e = clash e refl
 
-pub longest-first : (s : State) (a : Ask) (mid : List Ask) (b : Ask) (mid′ : List Ask) (z : Ask) → Sound s
-    → let x = entry s a in let s2 = reach (x .out .state) mid in let y = entry s2 b in
-    LongestFirst x (logOf (x .out .state) mid) y (logOf (y .out .state) mid′) (entry (reach (y .out .state) mid′) z)
+pub longest-first : OfAsks LongestFirst
 longest-first s a mid b mid′ z h g e c c′ bc bc′ en w w′ = by-bool (isHeld (placeOf (entry s4 z .out .state) c′)) taken (λ n. n)
   where
     s1 : State

@@ -11,10 +11,10 @@ use lib.Dec.{ltb}
 use borrow.Author.Tests.{eqb-true, eq-eqb, le-ltb}
 use Rattle.lists.specs.Lists.{count, downFrom}
 use Rattle.rules.specs.State.{State, placeOf, priorityOf, created, isReady, level, atLevel, headUpTo, running, queue, waitsOn}
-use Rattle.rules.specs.Step.{Outcome, refused, took, SHORT-ROOM, BAD-STATE, Refusal, takeCall}
+use Rattle.rules.specs.Step.{Outcome, refused, took, none, roomAfter, SHORT-ROOM, BAD-STATE, Refusal, takeCall}
 use Rattle.rules.specs.Whole.{Typed, Whole, view, soundWhole, decline, done, stepWhole}
 use Rattle.rules.specs.Questions.{countWhole}
-use Rattle.rules.specs.EachStep.{Untouched, Dispatched, waitingOn}
+use Rattle.rules.specs.EachStep.{Dispatched, waitingOn}
 use Rattle.rules.specs.SoundFacts.{HasEntry}
 use Rattle.rules.specs.declared.Supervisor.{Supervisor}
 use Rattle.rules.specs.declared.Place.the-variants.{Ready}
@@ -28,6 +28,13 @@ use Rattle.rules.proofs.WholeLaws.{view-pack, sound-view}
 use Rattle.rules.proofs.Bounds.{queue-has-room}
 
 -- ── a refused step ──
+
+-- a refused step: the state it was given, no ended waits, the lent room untouched, and 0 in the result and its numbers
+pub record Untouched (s : Supervisor) (w : Whole) : Type 0 where
+  pub state : w .state ≡ s
+  pub ended : w .ended ≡ []
+  pub room : (bytes : List ℕ) → roomAfter bytes (w .ended) ≡ bytes
+  pub answer : w .answer ≡ none
 
 declined : (s : Supervisor) (r : Refusal) (n : ℕ) → Untouched s (decline s r n)
 declined s r n = record { state = refl; ended = refl; room = λ b. refl; answer = refl }

@@ -4,7 +4,7 @@ use Prim.Native.Nat.{ℕ, _<_}
 use mathlib.Core.Path.{_≡_, sym, _∙_, ap}
 use mathlib.Core.Logic.{_⊎_, inl, inr}
 use mathlib.Core.Bool.{true}
-use mathlib.Core.List.{List, [], _∷_}
+use mathlib.Core.List.{[], _∷_}
 use native.Mathlib.Omega.{arith}
 use borrow.Author.Tests.{eq-eqb}
 use Rattle.lists.specs.Lists.{count, ahead, last}
@@ -12,7 +12,7 @@ use Rattle.lists.proofs.Tests.{bit-le}
 use Rattle.lists.proofs.ListLaws.{clash, count-filter-yes}
 use Rattle.lists.proofs.AheadLaws.{ahead-filter, last-behind, one-way, Leads}
 use Rattle.rules.specs.State.{State, placeOf, isHeld, holds, heldBy}
-use Rattle.rules.specs.Runs.{Ask, reasons}
+use Rattle.rules.specs.Runs.{reasons}
 use Rattle.rules.specs.OverRuns.{Stays, Released}
 use Rattle.rules.specs.Orders.{LastFirst}
 use Rattle.rules.specs.declared.Meeting.{Meeting}
@@ -21,7 +21,7 @@ use Rattle.rules.proofs.Invariant.{Sound}
 use Rattle.rules.proofs.Members.{held-is}
 use Rattle.rules.proofs.StateRuns.{entry, logOf, reach}
 use Rattle.rules.proofs.OverRuns.{step-sound, reach-sound, held-step}
-use Rattle.rules.proofs.OrderKept.{Rests, rests, held-line-run, ended-append}
+use Rattle.rules.proofs.OrderKept.{OfAsks, Rests, rests, held-line-run, ended-append}
 
 -- c stands ahead of c′ in the line of those held, both are held by g, and c is released: that cannot be
 not-released : (s : State) (g c c′ : ℕ) → Sound s → holds s g c ≡ true → holds s g c′ ≡ true → ahead c c′ (s .held) ≡ true → last (heldBy s g) ≡ c → (c ≡ c′ → ⊥) → ⊥
@@ -31,9 +31,7 @@ not-released s g c c′ h p q a l n =
     one-way c c′ (s .held) (omega (arith, h .held c, bit-le (isHeld (placeOf s c)))) (omega (arith, h .held c′, bit-le (isHeld (placeOf s c′)))) a
     (sym (ahead-filter (holds s g) c′ c (s .held) q p) ∙ rw l at b)
 
-pub last-first : (s : State) (a : Ask) (mid : List Ask) (b : Ask) (mid′ : List Ask) (z : Ask) → Sound s
-    → let x = entry s a in let s2 = reach (x .out .state) mid in let y = entry s2 b in
-    LastFirst x (logOf (x .out .state) mid) y (logOf (y .out .state) mid′) (entry (reach (y .out .state) mid′) z)
+pub last-first : OfAsks LastFirst
 last-first s a mid b mid′ z h g c c′ m m′ e k = ends (held-step s4 z c mt h4 p4)
   where
     s1 : State

@@ -206,3 +206,11 @@ waits-on s a mid more t h bg en nh =
     let w2 : isWaiting (placeOf s2 t) ≡ true = rw (r1 .1) w1 in
     let r2 = rests more s2 t h2 w2 e2 (λ _. nh) in
     (r2 .0, r2 .1, w2)
+
+-- ── three steps of a run ──
+
+-- it holds of any three steps of a run of the rules from a sound state
+abbrev pub OfAsks : (Entry → List Entry → Entry → List Entry → Entry → Type 0) → Type 0
+OfAsks P =
+    (s : State) (a : Ask) (mid : List Ask) (b : Ask) (mid′ : List Ask) (c : Ask) → Sound s
+    → let s1 = entry s a .out .state in let s2 = reach s1 mid in let s3 = entry s2 b .out .state in P (entry s a) (logOf s1 mid) (entry s2 b) (logOf s3 mid′) (entry (reach s3 mid′) c)

@@ -11,6 +11,7 @@ use Rattle.rules.proofs.Invariant.{Sound}
 use Rattle.rules.proofs.StateRuns.{entry, logOf, reach}
 use Rattle.rules.proofs.OverRuns.{empty-sound, reach-sound}
 use Rattle.rules.proofs.WholeLaws.{log-whole}
+use Rattle.rules.proofs.OrderKept.{OfAsks}
 use Rattle.rules.proofs.TimeOrder.{equal-times}
 use Rattle.rules.proofs.CallerOrder.{longest-first}
 use Rattle.rules.proofs.HeldOrder.{last-first}
@@ -33,38 +34,32 @@ split (p ∷ ps) x rest (a ∷ run) s e =
     let q : p ≡ entry s a = cc in
     record { asks = a ∷ i .asks; ask = i .ask; more = i .more; pre-is = λ j. q j ∷ i .pre-is j; x-is = i .x-is; rest-is = i .rest-is }
 
-carry : (P : Entry → List Entry → Entry → List Entry → Entry → Type 0) {x x′ y y′ z z′ : Entry} {l l′ m m′ : List Entry}
-    → x ≡ x′ → l ≡ l′ → y ≡ y′ → m ≡ m′ → z ≡ z′ → P x′ l′ y′ m′ z′ → P x l y m z
-carry P {x} {x′} {y} {y′} {z} {z′} {l} {l′} {m} {m′} a b c d e p =
-    subst (λ (w : Entry). P w l y m z) (sym a)
-    (subst (λ (w : List Entry). P x′ w y m z) (sym b)
-    (subst (λ (w : Entry). P x′ l′ w m z) (sym c)
-    (subst (λ (w : List Entry). P x′ l′ y′ w z) (sym d)
-    (subst (λ (w : Entry). P x′ l′ y′ m′ w) (sym e) p))))
+-- what holds of each step of a run, and of the log up to it, holds of x and pre
+of-at : (P : List Entry → Entry → Type 0) (s : State) (pre : List Entry) (x : Entry) (rest : List Entry) → At s pre x rest
+    → ((asks : List Ask) (a : Ask) (more : List Ask) → logOf (entry (reach s asks) a .out .state) more ≡ rest → P (logOf s asks) (entry (reach s asks) a))
+    → P pre x
+of-at P s pre x rest i f =
+    subst (λ (l : List Entry). P l x) (sym (i .pre-is)) (subst (λ (e : Entry). P (logOf s (i .asks)) e) (sym (i .x-is)) (f (i .asks) (i .ask) (i .more) (i .rest-is)))
 
 -- what holds of any three steps of a run of the rules holds of any three of its log
 of-three : (P : Entry → List Entry → Entry → List Entry → Entry → Type 0)
-    → ((s : State) (a : Ask) (mid : List Ask) (b : Ask) (mid′ : List Ask) (c : Ask) → Sound s
-    → let s1 = entry s a .out .state in let s2 = reach s1 mid in let s3 = entry s2 b .out .state in P (entry s a) (logOf s1 mid) (entry s2 b) (logOf s3 mid′) (entry (reach s3 mid′) c))
-    → (n : ℕ) → n < 4294967296 → (run : List Ask) → OfThree (logOf (empty n) run) P
-of-three P f n h run x between y since z t =
-    let i = split (t .before) x (between ++ (y ∷ (since ++ (z ∷ t .behind)))) run (empty n) (t .is) in
-    let s = reach (empty n) (i .asks) in
-    let s1 = entry s (i .ask) .out .state in
-    let j = split between y (since ++ (z ∷ t .behind)) (i .more) s1 (i .rest-is) in
-    let s3 = entry (reach s1 (j .asks)) (j .ask) .out .state in
-    let k = split since z (t .behind) (j .more) s3 (j .rest-is) in
-    carry P (i .x-is) (j .pre-is) (j .x-is) (k .pre-is) (k .x-is)
-    (f s (i .ask) (j .asks) (j .ask) (k .asks) (k .ask) (reach-sound (i .asks) (empty n) (empty-sound n h)))
-
--- and so of the struct's log
-of-whole : (P : Entry → List Entry → Entry → List Entry → Entry → Type 0) (n : ℕ) (h : n < 4294967296) (run : List Ask)
-    → OfThree (logOf (empty n) run) P → OfThree (logWhole (start n) run) P
-of-whole P n h run f = subst (λ (l : List Entry). OfThree l P) (sym (log-whole run (empty n) (empty-sound n h))) f
+    → OfAsks P → (s : State) → Sound s → (run : List Ask) → OfThree (logOf s run) P
+of-three P f s h run x between y since z t =
+    of-at (λ _ x. P x between y since z) s (t .before) x (between ++ (y ∷ (since ++ (z ∷ t .behind)))) (split (t .before) x (between ++ (y ∷ (since ++ (z ∷ t .behind)))) run s (t .is)) λ pre a more e.
+    let s1 = entry (reach s pre) a .out .state in
+    of-at (λ l y. P (entry (reach s pre) a) l y since z) s1 between y (since ++ (z ∷ t .behind)) (split between y (since ++ (z ∷ t .behind)) more s1 e) λ mid b more′ e′.
+    let s3 = entry (reach s1 mid) b .out .state in
+    of-at (P (entry (reach s pre) a) (logOf s1 mid) (entry (reach s1 mid) b)) s3 since z (t .behind) (split since z (t .behind) more′ s3 e′) λ mid′ c _ _.
+    f (reach s pre) a mid b mid′ c (reach-sound pre s h)
 
 pub orders-whole : OrdersWhole
 orders-whole = record {
-  equal-times = λ n h run. of-whole TimesInOrder n h run (of-three TimesInOrder equal-times n h run);
-  longest-first = λ n h run. of-whole LongestFirst n h run (of-three LongestFirst longest-first n h run);
-  last-first = λ n h run. of-whole LastFirst n h run (of-three LastFirst last-first n h run);
+  equal-times = of-run TimesInOrder equal-times;
+  longest-first = of-run LongestFirst longest-first;
+  last-first = of-run LastFirst last-first;
 }
+  where
+    -- and so of the struct's log
+    of-run : (P : Entry → List Entry → Entry → List Entry → Entry → Type 0)
+        → OfAsks P → (n : ℕ) → n < 4294967296 → (run : List Ask) → OfThree (logWhole (start n) run) P
+    of-run P f n h run = let k = empty-sound n h in subst (λ (l : List Entry). OfThree l P) (sym (log-whole run (empty n) k)) (of-three P f (empty n) k run)

@@ -42,7 +42,7 @@ use Rattle.rules.proofs.OverRuns.{StepFate, not-taken, was-taken, by-st
 use Rattle.rules.proofs.TimedWait.{Pending, Timely, Course, still, over, course, timely, held-ends, reason-not}
 use Rattle.rules.proofs.AtOnce.{at-once}
 use Rattle.rules.proofs.Moves.{listed}
-use Rattle.rules.proofs.OrderKept.{Rests, held-some, not-held, delays-run, ended-append, begins-waits, waits-on}
+use Rattle.rules.proofs.OrderKept.{OfAsks, Rests, held-some, not-held, delays-run, ended-append, begins-waits, waits-on}
 
 -- ── a wait with a time begins: one move of the running task ──
 
@@ -236,9 +236,7 @@ time-free : (s : State) (z : Ask) (t : ℕ) (c : C.Call) → Sound s → reasons
 time-free s z t c h p =
     by-bool (isHeld (placeOf s t)) (λ b. let m = held-some (placeOf s t) b in absurd (held-ends s z t (m .0) (timeReason c) h (m .1) (reason-not c) p)) (λ b. b)
 
-pub equal-times : (s : State) (a : Ask) (mid : List Ask) (b : Ask) (mid′ : List Ask) (z : Ask) → Sound s
-    → let x = entry s a in let s2 = reach (x .out .state) mid in let y = entry s2 b in
-    TimesInOrder x (logOf (x .out .state) mid) y (logOf (y .out .state) mid′) (entry (reach (y .out .state) mid′) z)
+pub equal-times : OfAsks TimesInOrder
 equal-times s a mid b mid′ z h t u bt dt bu du et eu le =
     listed-in-order s4 z t u (a .call) (b .call) h4 (delays-run mid′ s3 t u h3 (on-t .0 .1) (on-u .0) ∙ behind) (et .time) (eu .time)
   where

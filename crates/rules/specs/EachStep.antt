@@ -1,4 +1,4 @@
--- What is said of a refused step, of the dispatched task and of COUNT.
+-- What is said of the dispatched task and of COUNT.
 -- Assumes nothing.
 use Prim.Native.Nat.{ℕ, _<_}
 use mathlib.Core.Path.{_≡_}
@@ -6,16 +6,6 @@ use mathlib.Core.Logic.{_⊎_}
 use mathlib.Core.List.{List, [], _∷_}
 use Rattle.lists.specs.Lists.{filter, downFrom}
 use Rattle.rules.specs.State.{State, created, level, waitsOn}
-use Rattle.rules.specs.Step.{none, roomAfter}
-use Rattle.rules.specs.Whole.{Whole}
-use Rattle.rules.specs.declared.Supervisor.{Supervisor}
-
--- a refused step: the state it was given, no ended waits, the lent room untouched, and 0 in the result and its numbers
-pub record Untouched (s : Supervisor) (w : Whole) : Type 0 where
-  pub state : w .state ≡ s
-  pub ended : w .ended ≡ []
-  pub room : (bytes : List ℕ) → roomAfter bytes (w .ended) ≡ bytes
-  pub answer : w .answer ≡ none
 
 -- n is the first of a ready level, and every higher level is empty
 pub record Heads (s : State) (n : ℕ) : Type 0 where

@@ -12,7 +12,7 @@ pub mod Whole
 pub mod Questions
 -- when a state is sound, fact by fact
 pub mod SoundFacts
--- what holds of each step: a refusal changes nothing, the dispatched task, room in queues, COUNT
+-- the dispatched task, and COUNT
 pub mod EachStep
 -- runs, their logs, and what is read off a log
 pub mod Runs
