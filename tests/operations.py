@@ -1,7 +1,8 @@
 """operations.py: statement 1 has every public operation.
 
 A public operation is a public function of `calls`, `supervisor`, `workspace` or `card`. Of each, a file of crates/statements/specs names the
-toolchain's statement (`use Rattle.CRATE.proofs.PATH.Statement as NAME`) and has it as a field (`NAME : {M : Type 1} → NAME.statement M`).
+toolchain's statement (`use Rattle.CRATE.proofs.PATH.Statement as NAME`) and has it as a field (`NAME : {M : Type 1} → NAME.statement M`),
+and that its contract asks nothing (`NAME-asks : ..`; of the functions over lent tables, which have no such reading, `lent-asks` says it).
 Where the crate's root passes a function on (`pub use`), its name alone is a path too.
 """
 import re
@@ -22,7 +23,9 @@ def stated(texts, crate, function):
     for text in texts:
         for name in use.findall(text):
             word = re.escape(name)
-            if re.search(rf"(?m)^  pub {word} : {{M : Type 1}} → {word}\.statement M$", text):
+            met = re.search(rf"(?m)^  pub {word} : {{M : Type 1}} → {word}\.statement M$", text)
+            asks = re.search(rf"(?m)^  pub {word}(?:-asks : AsksNothing of-{word}\.Asked| : .* {word}-contract\.clauses .*\.requires tt ≡ emp 𝓤)$", text)
+            if met and asks:
                 return True
     return False
 

@@ -1,4 +1,5 @@
 pub mod Refusals
+pub mod Linked
 pub mod Statement1
 pub mod Statement2
 pub mod Statement3

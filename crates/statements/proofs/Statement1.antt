@@ -43,6 +43,7 @@ use Rattle.supervisor.proofs.refused_answer.Met as refused-answer
 use Rattle.statements.specs.Statement1.{Statement1, Refused}
 use Rattle.statements.specs.Refusals.{rows, firstRow}
 use Rattle.statements.proofs.Refusals.{by-table}
+use Rattle.statements.proofs.Linked.{linked}
 
 -- a question's refusal, from the test of the state
 question : (b : Bool) → (_≡_ {A = ℕ} (if b then 0 else 2) 2) ↔ (b ≡ false)
@@ -155,6 +156,7 @@ statement1 = record {
   count-asks = count-asks;
   callable-asks = callable-asks;
   refused-answer-asks = refused-answer-asks;
+  linked = linked;
   use-refused = use-refused;
   count-refused = count-refused;
   callable-refused = callable-refused;

@@ -1,12 +1,14 @@
 -- What the assessor signs, after the rules (crate rules). Read in this order.
 -- the table of refusals, row by row
 pub mod Refusals
+-- the functions that other programs link
+pub mod Linked
 pub mod Statement1
 pub mod Statement2
 pub mod Statement3
 -- ADVANCE as ticks, and cut in two
 pub mod Cutting
--- the functions that other programs link, and the library as a run of statement 3
+-- the library as a run of statement 3
 pub mod Library
 -- request (x): workspaces
 pub mod Workspaces

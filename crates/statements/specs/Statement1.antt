@@ -39,6 +39,7 @@ use Rattle.supervisor.proofs.callable.Reads as of-callable
 use Rattle.supervisor.proofs.sound.Reads as of-sound
 use Rattle.supervisor.proofs.refused_answer.Reads as of-refused-answer
 use Rattle.statements.specs.Refusals.{rows, firstRow}
+use Rattle.statements.specs.Linked.{Linked}
 
 -- a refused step gives back the state it was given, leaves every byte of the lent room, lists no ended wait, and answers 0 in all other numbers but the dispatched task
 pub record Refused (s : Supervisor) (u : Use) : Type 0 where
@@ -67,6 +68,8 @@ pub record Statement1 : Type 2 where
   pub count-asks : AsksNothing of-count.Asked
   pub callable-asks : AsksNothing of-callable.Asked
   pub refused-answer-asks : AsksNothing of-refused-answer.Asked
+  -- both of the functions that other programs link: those of `card` and `workspace`, and the small ones of `calls`
+  pub linked : Linked
   -- "bad input gets the refusal number": that of the first row of the table that applies, and 0, which is none, where no row does
   pub use-refused : (s : Supervisor) → Typed s → (u : Use) → Keeps s u → u .gave .answer .refusal ≡ firstRow (rows s (u .call) (length (u .lent)))
   -- a question is refused, with 2, exactly when the state is not sound
