@@ -139,7 +139,7 @@ def rows():
     """The table: a row for each function, for each contract, and for each file of definitions."""
     found, _ = all_wrong()
     places = list(dict.fromkeys((w.crate, w.where) for w in found))
-    yield "| function, or file of definitions | wrong answers | refused edits |"
+    yield "| function, its contract, or file of definitions | wrong answers | refused edits |"
     yield "|---|---|---|"
     for crate, where in places:
         own = [w for w in found if (w.crate, w.where) == (crate, where)]
