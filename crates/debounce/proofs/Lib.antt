@@ -1,0 +1,12 @@
+pub mod CodeLaws
+pub mod ContactLaws
+pub mod StepLaws
+pub mod ServeLaws
+pub mod TickLaws
+pub mod StartLaws
+pub mod CheckLaws
+pub mod HistoryLaws
+pub mod FreshLaws
+pub mod TickSaid
+pub mod SettingsLaws
+pub mod Unique
