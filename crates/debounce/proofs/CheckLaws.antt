@@ -17,6 +17,7 @@ use Rattle.rules.specs.declared.Task.{Task}
 use Rattle.rules.specs.declared.Place.{Place}
 use Rattle.rules.specs.declared.Place.the-variants.{Blank, Ready, Delayed, Queued, Held, Accepting, Completed}
 use Rattle.rules.proofs.WholeLaws.{sound-pack, sound-view, whole-packed}
+use Rattle.rules.proofs.EveryStruct.{typed-pack}
 use Rattle.debounce.specs.declared.Card.{Card}
 use Rattle.debounce.specs.declared.Contact.{Contact}
 use Rattle.debounce.specs.Card.{noContact, nthOf, goodSetting, isDelayed, waitsFor, allWait, whole}
@@ -153,3 +154,7 @@ module _ (c : Card) (t : CardTyped c) where
       } in
       let e : cardOf (view s) (c .contacts) ≡ c = λ i. record { supervisor = sym (whole-packed s (t .supervisor) (f .sound)) i; contacts = c .contacts } in
       subst (λ (x : Card). whole x ≡ true) e (idle-whole (view s) (c .contacts) d)
+
+-- between two ticks a card is not damaged
+pub idle-undamaged : (v : State) (cs : List Contact) → Idle v cs → Undamaged (cardOf v cs)
+idle-undamaged v cs d = undamaged (cardOf v cs) (record { supervisor = typed-pack v (d .sound); contacts = d .contacts }) (idle-whole v cs d)

@@ -14,9 +14,10 @@ use Rattle.debounce.specs.declared.Contact.{Contact}
 use Rattle.debounce.specs.Rule.{Setting, reportByte}
 use Rattle.debounce.specs.Card.{goodSetting, opened, noSetting, noContact, nthOf, whole, tickedCard, answered, noTasks, startAll}
 use Rattle.debounce.specs.Settings.{freshCard}
+use Rattle.debounce.specs.Facts.{Undamaged}
 use Rattle.debounce.proofs.ContactLaws.{InRange, in-range-of}
 use Rattle.debounce.proofs.StartLaws.{Started, start-all, starts-none}
-use Rattle.debounce.proofs.HistoryLaws.{Tells, After, after-whole, after-tick, after-reach, reach, report-is}
+use Rattle.debounce.proofs.HistoryLaws.{Tells, After, after-whole, after-undamaged, after-tick, after-reach, reach, report-is}
 
 -- ── the settings and their contacts ──
 
@@ -89,6 +90,9 @@ module _ (xs : List Setting) (eight : length xs ≡ 8) (good : every (λ x. good
     -- the card is not damaged
     pub stays-whole : whole (reach xs (freshCard xs) history) ≡ true
     stays-whole = after-whole xs history (reach xs (freshCard xs) history) after
+
+    pub stays-undamaged : Undamaged (reach xs (freshCard xs) history)
+    stays-undamaged = after-undamaged xs history (reach xs (freshCard xs) history) after
 
     -- and the next report is the rule's, worked out from the raw bits alone
     pub reports-rule : (bits : ℕ) → answered (tickedCard (reach xs (freshCard xs) history) bits) .reported ≡ reportByte xs (bits ∷ history)

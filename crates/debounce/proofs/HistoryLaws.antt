@@ -16,10 +16,11 @@ use Rattle.debounce.specs.declared.Card.{Card}
 use Rattle.debounce.specs.declared.Contact.{Contact}
 use Rattle.debounce.specs.Rule.{Setting, closedIn, samplesOf, reportOf, reportsFrom, reportByte, byteOf}
 use Rattle.debounce.specs.Card.{noSetting, noContact, nthOf, sampled, isClosed, whole, tickedCard, answered}
+use Rattle.debounce.specs.Facts.{Undamaged}
 use Rattle.debounce.proofs.ContactLaws.{InRange, sampled-n, sampled-p, Knows, knows-sampled}
 use Rattle.debounce.proofs.ServeLaws.{Idle, cardOf}
 use Rattle.debounce.proofs.TickLaws.{TickDone, tick-done}
-use Rattle.debounce.proofs.CheckLaws.{idle-whole}
+use Rattle.debounce.proofs.CheckLaws.{idle-whole, idle-undamaged}
 
 -- ── the ticks of a contact ──
 
@@ -51,6 +52,9 @@ module _ (xs : List Setting) where
 
   pub after-whole : (history : List ℕ) (c : Card) → After history c → whole c ≡ true
   after-whole history c a = subst (λ (x : Card). whole x ≡ true) (sym (a .is)) (idle-whole (a .state) (a .contacts) (a .idle))
+
+  pub after-undamaged : (history : List ℕ) (c : Card) → After history c → Undamaged c
+  after-undamaged history c a = subst Undamaged (sym (a .is)) (idle-undamaged (a .state) (a .contacts) (a .idle))
 
   -- one tick
   module _ (history : List ℕ) (bits : ℕ) (v : State) (cs : List Contact) (d : Idle v cs) (tells : (k : ℕ) → 0 < k → k ≤ 8 → Tells history v (nthOf cs k) k) where

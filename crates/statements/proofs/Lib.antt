@@ -7,3 +7,4 @@ pub mod Cutting
 pub mod Workspaces
 pub mod FullQueue
 pub mod Library
+pub mod Debouncer

@@ -14,3 +14,5 @@ pub mod Library
 pub mod Workspaces
 -- a queue of 31 callers
 pub mod FullQueue
+-- the contact debouncer
+pub mod Debouncer
