@@ -1,3 +1,4 @@
 pub mod CardLaws
 pub mod NoEncoding
+pub mod ContactsLaws
 pub mod Unique

@@ -8,6 +8,8 @@ use Rattle.card.proofs.card_step.Reads as step
 use Rattle.card.proofs.card_count.Reads as count
 use Rattle.card.proofs.card_callable.Reads as callable
 use Rattle.card.proofs.card_running.Reads as running
+use Rattle.card.proofs.contacts.debounce_fresh.Reads as debounce-fresh
+use Rattle.card.proofs.contacts.debounce_tick.Reads as debounce-tick
 
 pub empty-once : (κs : _) (x : _) (r r′ : _) (y y′ : _) → empty.Learnt κs x r y → empty.Learnt κs x r′ y′ → (r ≡ r′) × (now (y .0) ≡ now (y′ .0))
 empty-once κs x r r′ y y′ p q = (p .0 ∙ sym (q .0), p .1 ∙ sym (q .1))
@@ -28,3 +30,10 @@ callable-once κs x r r′ y y′ p q = (p .0 ∙ sym (q .0), p .1 ∙ sym (q .1
 
 pub running-once : (κs : _) (x : _) (r r′ : _) (y y′ : _) → running.Learnt κs x r y → running.Learnt κs x r′ y′ → (r ≡ r′) × (now (y .1 .0) ≡ now (y′ .1 .0))
 running-once κs x r r′ y y′ p q = (p .0 ∙ sym (q .0), p .1 ∙ sym (q .1))
+
+pub debounce-fresh-once : (κs : _) (x : _) (r r′ : _) (y y′ : _) → debounce-fresh.Post κs x r y → debounce-fresh.Post κs x r′ y′ → (r ≡ r′) × (now (y .0) ≡ now (y′ .0))
+debounce-fresh-once κs x r r′ y y′ p q = (p .0 ∙ sym (q .0), p .1 ∙ sym (q .1))
+
+pub debounce-tick-once : (κs : _) (x : _) (r r′ : _) (y y′ : _) → debounce-tick.Post κs x r y → debounce-tick.Post κs x r′ y′
+    → (r ≡ r′) × (now (y .0) ≡ now (y′ .0)) × (now (y .1 .1 .0) ≡ now (y′ .1 .1 .0))
+debounce-tick-once κs x r r′ y y′ p q = (p .0 ∙ sym (q .0), p .1 .0 ∙ sym (q .1 .0), p .1 .1 ∙ sym (q .1 .1))

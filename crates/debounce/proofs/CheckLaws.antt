@@ -2,14 +2,14 @@
 -- Assumes nothing.
 use Prim.Native.Nat.{ℕ, zero, suc, _-_, _≤_, _<_}
 use mathlib.Core.Path.{_≡_, refl, sym, _∙_, ap, subst}
-use mathlib.Core.Bool.{true}
+use mathlib.Core.Bool.{true, false}
 use mathlib.Core.List.{List, [], _∷_}
 use native.Mathlib.Omega.{arith}
 use lib.ListN.{length, getD, take, replicate, List·getD-append, length-append, length-replicate, take-append-drop, drop}
 use lib.Seq.{length-take-le}
 use lib.Dec.{eqb, leb}
 use borrow.Author.Tests.{eqb-true, eq-eqb, leb-true, le-leb}
-use Rattle.lists.proofs.ListLaws.{clash}
+use Rattle.lists.proofs.ListLaws.{by-bool, clash}
 use Rattle.lists.proofs.Tests.{each, and-first, and-second, and-both}
 use Rattle.rules.specs.State.{State, blank, taskOf, ticksLeft}
 use Rattle.rules.specs.Whole.{view, pack, soundWhole}
@@ -158,3 +158,12 @@ module _ (c : Card) (t : CardTyped c) where
 -- between two ticks a card is not damaged
 pub idle-undamaged : (v : State) (cs : List Contact) → Idle v cs → Undamaged (cardOf v cs)
 idle-undamaged v cs d = undamaged (cardOf v cs) (record { supervisor = typed-pack v (d .sound); contacts = d .contacts }) (idle-whole v cs d)
+
+-- a card with a contact that is not there is damaged
+pub out-of-range : (c : Card) (i : ℕ) → i < length (c .contacts) → getD (c .contacts) i noContact ≡ noContact → whole c ≡ false
+out-of-range c i h e =
+    let s = c .supervisor in
+    let x = getD (s .tasks) i blank in
+    by-bool (whole c)
+    (λ w. clash (all-at (s .clock) (s .tasks) (c .contacts) (whole-parts c w .2) i h) (ap (waitsFor (s .clock) x) e))
+    (λ w. w)

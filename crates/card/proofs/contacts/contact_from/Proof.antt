@@ -1,0 +1,15 @@
+use borrow.Author.Needs.{needs}
+use mathlib.Core.Path.{sym, _∙_}
+use borrow.Author.Tests.{le-leb, lt-leb}
+use Rattle.lists.proofs.Tests.{if-true, if-false}
+use Rattle.card.proofs.contacts.contact_from.Statement.{statement}
+use Rattle.card.proofs.contacts.contact_from.Tie as tie
+
+returns : tie.Need-returns
+returns c = sym (if-true _ _ _ (le-leb (c .before .args .closed) 1 (c .if1 .taken)))
+
+returns-2 : tie.Need-returns-2
+returns-2 c = c .no-contact .ensures ∙ sym (if-false _ _ _ (lt-leb (c .before .before .args .closed) 1 (c .before .if1 .left)))
+
+pub contact-from-spec : {M : Type 1} → statement M
+contact-from-spec = tie.close (tie.spec (λ c. search needs) (λ c. search needs) returns (λ c κs. search needs) returns-2)
