@@ -21,6 +21,12 @@ package Fuzgerlint is
    Room_Length   : constant := 124;
    Answer_Length : constant := 7;
 
+   --  The contact debouncer: its settings, its card (the supervisor's bytes, then five for each contact), and its report
+
+   Settings_Length : constant := 48;
+   Card_Length     : constant := State_Length + 8 * 5;
+   Report_Length   : constant := 1;
+
    --  Tags of call records
 
    Tag_Create  : constant Byte := 1;
@@ -59,6 +65,7 @@ package Fuzgerlint is
    Refusal_Full          : constant Byte := 9;
    Refusal_Bad_Record    : constant Byte := 11;
    Refusal_End_Of_Log    : constant Byte := 12;
+   Refusal_Bad_Setting   : constant Byte := 17;
 
    function Empty
      (State : System.Address; State_Length : Interfaces.C.size_t; Clock : Interfaces.Unsigned_32) return Byte;
@@ -87,5 +94,15 @@ package Fuzgerlint is
    function Running
      (State : System.Address; State_Length : Interfaces.C.size_t; Answer : System.Address; Answer_Length : Interfaces.C.size_t) return Byte;
    pragma Import (C, Running, "card_running");
+
+   function Debounce_Fresh
+     (Card     : System.Address; Card_Length     : Interfaces.C.size_t;
+      Settings : System.Address; Settings_Length : Interfaces.C.size_t) return Byte;
+   pragma Import (C, Debounce_Fresh, "debounce_fresh");
+
+   function Debounce_Tick
+     (Card   : System.Address; Card_Length   : Interfaces.C.size_t; Bits : Byte;
+      Report : System.Address; Report_Length : Interfaces.C.size_t) return Byte;
+   pragma Import (C, Debounce_Tick, "debounce_tick");
 
 end Fuzgerlint;

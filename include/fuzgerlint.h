@@ -7,7 +7,7 @@
  *   until a call has returned no other call uses the same state: who ticks from an interrupt masks it around each call;
  *   what interrupts a call on the same stack leaves the 128 bytes below the stack pointer as they are.
  * Each function but card_sound answers a refusal number, 0 for none. A refused call changes nothing but the answer. Bytes behind those
- * named here are left as they are. docs/CARD.md has the layout of a state, and the stack that each function takes.
+ * named here are left as they are. docs/CARD.md has the layout of a state and of a debouncer's card, and the stack that each function takes.
  */
 #ifndef FUZGERLINT_H
 #define FUZGERLINT_H
@@ -23,6 +23,12 @@ enum {
     CARD_STATE = 439, /* bytes of a state: clock 4, created 1, 31 tasks of 10, lines ready, callers, held, delays of 31 */
     CARD_ROOM = 124,  /* bytes of room for ended waits: 31 items of task, result, entry, partner */
     CARD_ANSWER = 7   /* bytes of an answer: refusal, result, task, entry, partner, ended waits, dispatched task */
+};
+
+enum {
+    DEBOUNCE_SETTINGS = 48,             /* bytes of settings: contact 1 to 8, its number, 0, 3, n (1 to 16), p (two bytes, 1 to 65535) */
+    DEBOUNCE_CARD = CARD_STATE + 8 * 5, /* bytes of a debouncer's card: its supervisor, then n, p (2), closed, against of each contact */
+    DEBOUNCE_REPORT = 1                 /* bytes of a report: bit k - 1 for contact k, 1 for closed */
 };
 
 /* A call record is a tag, a length of two bytes, and fields; numbers have their high byte first, and d is a signed number of ticks in four
@@ -71,7 +77,8 @@ enum {
     CARD_STILL_SERVING = 8,
     CARD_FULL = 9,
     CARD_BAD_RECORD = 11,
-    CARD_END_OF_LOG = 12
+    CARD_END_OF_LOG = 12,
+    CARD_BAD_SETTING = 17
 };
 
 /* Makes a supervisor with no tasks; refusal 1 where there are fewer than CARD_STATE bytes. */
@@ -89,6 +96,14 @@ uint8_t card_step(uint8_t *state, size_t state_length, const uint8_t *record, si
 uint8_t card_count(const uint8_t *state, size_t state_length, uint8_t task, uint8_t entry, uint8_t *answer, size_t answer_length);
 uint8_t card_callable(const uint8_t *state, size_t state_length, uint8_t task, uint8_t *answer, size_t answer_length);
 uint8_t card_running(const uint8_t *state, size_t state_length, uint8_t *answer, size_t answer_length);
+
+/* The contact debouncer. Makes a card of settings: every contact is open. Refusal 1 where there are fewer than DEBOUNCE_CARD bytes, then 17
+ * for anything but settings, and then there is no card: nothing is written. */
+uint8_t debounce_fresh(uint8_t *card, size_t card_length, const uint8_t *settings, size_t settings_length);
+
+/* One tick, with the raw bits of the contacts: bit k - 1 for contact k, 1 for closed. Refusal 1 where the report has no byte, and then
+ * nothing is written; 2 for a damaged card, fewer than DEBOUNCE_CARD bytes too, and then its bytes stay, and the report is 0. */
+uint8_t debounce_tick(uint8_t *card, size_t card_length, uint8_t bits, uint8_t *report, size_t report_length);
 
 #ifdef __cplusplus
 }

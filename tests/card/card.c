@@ -1,4 +1,5 @@
-/* The sample of document 01, the calls that it has not, the questions and some refusals, through the library that a C program links. */
+/* The sample of document 01, the calls that it has not, the questions, a debouncer's card and some refusals, through the library that a C program
+ * links. */
 #include <stdio.h>
 #include <string.h>
 #include "fuzgerlint.h"
@@ -51,6 +52,37 @@ static void ask(void)
     printf(" running %d %d\n", refusal, one[0]);
 }
 
+/* Debounces raw bits: of each contact the last two samples count, and those of even number are sampled every other tick. */
+static void debounce(void)
+{
+    static const uint8_t raw[] = {1, 0, 3, 3, 255, 254, 255, 170, 0, 0, 0};
+    uint8_t card[DEBOUNCE_CARD + BEHIND], before[sizeof card], settings[DEBOUNCE_SETTINGS], report[DEBOUNCE_REPORT + BEHIND], refusal;
+    for (int k = 0; k < 8; k++) {
+        const uint8_t field[] = {k + 1, 0, 3, 2, 0, 1 + k % 2};
+        memcpy(settings + 6 * k, field, sizeof field);
+    }
+    memset(card, MARK, sizeof card);
+    memset(report, MARK, sizeof report);
+    printf("debounce %d\n", debounce_fresh(card, sizeof card, settings, sizeof settings));
+    for (size_t i = 0; i < sizeof raw; i++) {
+        refusal = debounce_tick(card, sizeof card, raw[i], report, sizeof report);
+        printf("%d %d %d\n", refusal, raw[i], report[0]);
+    }
+
+    memcpy(before, card, sizeof card);
+    printf("short card %d", debounce_fresh(card, DEBOUNCE_CARD - 1, settings, sizeof settings));
+    refusal = debounce_tick(card, DEBOUNCE_CARD - 1, 255, report, sizeof report);
+    printf(" %d %d\n", refusal, report[0]);
+    printf("no report %d\n", debounce_tick(card, sizeof card, 255, NULL, 0));
+    printf("short settings %d\n", debounce_fresh(card, sizeof card, settings, sizeof settings - 1));
+    settings[3] = 17;
+    printf("other setting %d\n", debounce_fresh(card, sizeof card, settings, sizeof settings));
+    card[CARD_STATE + 3] = 2;
+    printf("neither closed nor open %d\n", debounce_tick(card, sizeof card, 255, report, sizeof report));
+    card[CARD_STATE + 3] = before[CARD_STATE + 3];
+    printf("untouched %d\n", memcmp(before, card, sizeof card) == 0 && marked(card, DEBOUNCE_CARD) && marked(report, DEBOUNCE_REPORT));
+}
+
 int main(void)
 {
     static const uint8_t sample[] = {
@@ -90,5 +122,6 @@ int main(void)
     printf(" %d", card_callable(state, sizeof state, 3, NULL, 0));
     printf(" %d\n", card_running(state, sizeof state, NULL, 0));
     printf("untouched %d\n", memcmp(before, state, sizeof state) == 0 && marked(state, CARD_STATE) && marked(room, CARD_ROOM) && marked(answer, CARD_ANSWER));
+    debounce();
     return 0;
 }

@@ -1,4 +1,4 @@
---  The sample of document 01, the calls that it has not, the questions and some refusals, through the library that an Ada program links.
+--  The sample of document 01, the calls that it has not, the questions, a debouncer's card and some refusals, through the library that an Ada program links.
 
 with Ada.Text_IO;  use Ada.Text_IO;
 with Interfaces;   use Interfaces;
@@ -105,6 +105,59 @@ procedure Card_Test is
       return True;
    end Marked;
 
+   --  Debounces raw bits: of each contact the last two samples count, and those of even number are sampled every other tick.
+   procedure Debounce is
+      Raw      : constant Bytes := (1, 0, 3, 3, 255, 254, 255, 170, 0, 0, 0);
+      Card     : Bytes (1 .. Card_Length + Behind) := (others => Mark);
+      Before   : Bytes (Card'Range);
+      Settings : Bytes (1 .. Settings_Length);
+      Report   : Bytes (1 .. Report_Length + Behind) := (others => Mark);
+      Refusal  : Byte;
+
+      --  Makes a card, with room and settings of so many bytes.
+      function Do_Fresh (Cards, Settings_Given : Natural) return Byte is
+      begin
+         return Debounce_Fresh
+           (Card     => Card'Address,     Card_Length     => size_t (Cards),
+            Settings => Settings'Address, Settings_Length => size_t (Settings_Given));
+      end Do_Fresh;
+
+      --  A tick, with a card of so many bytes.
+      function Do_Tick (Cards : Natural; Bits : Byte) return Byte is
+      begin
+         return Debounce_Tick
+           (Card   => Card'Address,   Card_Length   => size_t (Cards), Bits => Bits,
+            Report => Report'Address, Report_Length => Report'Length);
+      end Do_Tick;
+
+   begin
+      for K in 0 .. 7 loop
+         Settings (6 * K + 1 .. 6 * K + 6) := (Byte (K + 1), 0, 3, 2, 0, Byte (1 + K mod 2));
+      end loop;
+      Put_Line ("debounce " & Image (Do_Fresh (Card'Length, Settings'Length)));
+      for I in Raw'Range loop
+         Refusal := Do_Tick (Card'Length, Raw (I));
+         Put_Line (Image (Refusal) & " " & Image (Raw (I)) & " " & Image (Report (1)));
+      end loop;
+
+      Before := Card;
+      Put ("short card " & Image (Do_Fresh (Card_Length - 1, Settings'Length)));
+      Refusal := Do_Tick (Card_Length - 1, 255);
+      Put_Line (" " & Image (Refusal) & " " & Image (Report (1)));
+      Put_Line ("no report " & Image (Debounce_Tick (Card'Address, Card'Length, 255, Null_Address, 0)));
+      Put_Line ("short settings " & Image (Do_Fresh (Card'Length, Settings'Length - 1)));
+      Settings (4) := 17;
+      Put_Line ("other setting " & Image (Do_Fresh (Card'Length, Settings'Length)));
+      Card (State_Length + 4) := 2;
+      Put_Line ("neither closed nor open " & Image (Do_Tick (Card'Length, 255)));
+      Card (State_Length + 4) := Before (State_Length + 4);
+      if Before = Card and then Marked (Card (Card_Length + 1 .. Card'Last)) and then Marked (Report (Report_Length + 1 .. Report'Last)) then
+         Put_Line ("untouched 1");
+      else
+         Put_Line ("untouched 0");
+      end if;
+   end Debounce;
+
 begin
    Put_Line ("empty " & Image (Empty (State => State'Address, State_Length => State'Length, Clock => 4294967294)));
    Take (Sample);
@@ -142,4 +195,5 @@ begin
    else
       Put_Line ("0");
    end if;
+   Debounce;
 end Card_Test;
