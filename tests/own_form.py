@@ -17,6 +17,8 @@ FUNCTIONS = [
     "codec::state_in",
     "codec::store",
     "card::card_step",
+    "card::contacts::debounce_fresh",
+    "card::contacts::debounce_tick",
 ]
 
 # a program that uses the library, so that the compiler gets all of it
@@ -27,6 +29,9 @@ PROGRAM = """fn main() {
     card::card_empty(&mut state, 0);
     card::card_step(&mut state, &[7, 0, 0], &mut room, &mut answer);
     card::card_running(&state, &mut answer);
+    let mut debouncer = [0u8; 479];
+    card::contacts::debounce_fresh(&mut debouncer, &[]);
+    card::contacts::debounce_tick(&mut debouncer, 0, &mut answer);
 }
 """
 

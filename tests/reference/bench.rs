@@ -2,7 +2,7 @@
 //! It is measured twice: each on its own form of the state, the supervisor's struct and the reference's vectors; and as
 //! the library's `card_step` does it, from bytes to bytes. Each line is measured in several passes over the whole table,
 //! and its figure is that of the fastest round in any of them, so that other work on the machine disturbs it little: a slow
-//! phase takes whole seconds, but seldom all passes.
+//! phase takes whole seconds, but seldom all passes. Last, what a tick of the contact debouncer costs, which makes such steps.
 
 // the modules are those of main.rs, and the benchmark needs a part of them
 #![allow(dead_code)]
@@ -239,10 +239,29 @@ fn parts(lines: &[Line]) {
     }
 }
 
+/// What a tick of the debouncer costs from bytes, with so many of its eight contacts sampled: in ns, and against a TICK at
+/// which nothing is due, of eight tasks and from bytes too.
+fn debouncer(lines: &[Line], passes: usize) {
+    let tick = lines.iter().find(|line| line.scene.name == "TICK: nothing due" && line.scene.tasks == 8).expect("a TICK");
+    println!("\nA tick of the debouncer from bytes, against a TICK of 8 tasks from bytes at which nothing is due:\n");
+    println!("| contacts sampled | ns | TICKs |\n|---|---|---|");
+    for sampled in [0, 1, 8] {
+        let card = own::card(&std::array::from_fn(|k| (1, if k < sampled { 1 } else { 9 }))).expect("good settings");
+        assert_eq!(own::tick(&mut card.clone(), 255), Some(((1u16 << sampled) - 1) as u8));
+        let ns = (0..passes).fold(f64::MAX, |least, _| {
+            least.min(fastest(&card, |card| {
+                black_box(own::tick(card, black_box(255)));
+            }))
+        });
+        println!("| {sampled} | {ns:.0} | {:.1} |", ns / tick.bytes.ours);
+    }
+}
+
 fn table(passes: usize) {
     let (lines, copy) = measured(passes);
     steps(&lines, copy);
     parts(&lines);
+    debouncer(&lines, passes);
 }
 
 fn main() {

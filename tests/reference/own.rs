@@ -10,6 +10,8 @@ use crate::flat::STATE;
 
 const CALL_AT: usize = 4;
 const ANSWER_AT: usize = 628;
+/// The bytes of a debouncer's card: those of its supervisor, and five for each contact.
+pub const CARD: usize = STATE + 8 * 5;
 
 /// A struct of the supervisor, with room for the largest: a state and an answer.
 #[repr(C, align(16))]
@@ -26,6 +28,10 @@ extern "C" {
     fn store(state: *const Form, bytes: *const Slice);
     #[link_name = "card::card_step"]
     fn card_step(state: *const Slice, record: *const Slice, room: *const Slice, answer: *const Slice) -> u8;
+    #[link_name = "card::contacts::debounce_fresh"]
+    fn debounce_fresh(card: *const Slice, settings: *const Slice) -> u8;
+    #[link_name = "card::contacts::debounce_tick"]
+    fn debounce_tick(card: *const Slice, bits: u8, report: *const Slice) -> u8;
     #[link_name = "calls::reader::read_record"]
     fn read_record(read: *mut Form, record: *const Slice);
     #[link_name = "supervisor::step"]
@@ -91,4 +97,21 @@ pub fn byte_step(state: &mut [u8; STATE], record: &[u8], room: &mut [u8]) -> [u8
     // SAFETY: the function reads and writes the bytes that are lent to it, and no others; the four do not overlap.
     unsafe { card_step(&state, &record, &room, &lent) };
     answer
+}
+
+/// A debouncer's card with these settings, n and p of each contact; none where they are refused.
+pub fn card(settings: &[(u8, u16); 8]) -> Option<[u8; CARD]> {
+    let mut card = [0; CARD];
+    let fields: Vec<u8> = (1..).zip(settings).flat_map(|(k, &(n, p))| [k, 0, 3, n, (p >> 8) as u8, p as u8]).collect();
+    // SAFETY: the function reads and writes the bytes that are lent to it, and no others; the two do not overlap.
+    let refusal = unsafe { debounce_fresh(&Slice(card.as_mut_ptr(), CARD), &Slice(fields.as_ptr(), fields.len())) };
+    (refusal == 0).then_some(card)
+}
+
+/// One tick of a card: the report, none where the card is damaged.
+pub fn tick(card: &mut [u8; CARD], bits: u8) -> Option<u8> {
+    let mut report = 0;
+    // SAFETY: the function reads and writes the bytes that are lent to it, and no others; the two do not overlap.
+    let refusal = unsafe { debounce_tick(&Slice(card.as_mut_ptr(), CARD), bits, &Slice(&raw mut report, 1)) };
+    (refusal == 0).then_some(report)
 }
