@@ -50,16 +50,26 @@ fn one(random: &mut Random, reached: &Supervisor) -> Vec<u8> {
         true => flat::write(reached),
         false => forge::state(random),
     };
-    match random.below(15) {
-        0..=3 => {}
-        4 | 5 => one_byte(random, &mut bytes),
-        6 | 7 => one_field(random, &mut bytes),
-        8 | 9 => one_line(random, &mut bytes),
-        10..=12 => one_relation(random, &mut bytes),
-        13 => (0..1 + random.below(3)).for_each(|_| one_field(random, &mut bytes)),
-        _ => (0..1 + random.below(STATE)).for_each(|_| one_byte(random, &mut bytes)),
-    }
+    let kind = random.below(KINDS);
+    spoil(random, &mut bytes, kind);
     bytes
+}
+
+/// The kinds of damage, of which the first are none.
+pub const KINDS: usize = 15;
+pub const NO_DAMAGE: usize = 4;
+
+/// Damages a state.
+pub fn spoil(random: &mut Random, bytes: &mut [u8], kind: usize) {
+    match kind {
+        0..NO_DAMAGE => {}
+        4 | 5 => one_byte(random, bytes),
+        6 | 7 => one_field(random, bytes),
+        8 | 9 => one_line(random, bytes),
+        10..=12 => one_relation(random, bytes),
+        13 => (0..1 + random.below(3)).for_each(|_| one_field(random, bytes)),
+        _ => (0..1 + random.below(STATE)).for_each(|_| one_byte(random, bytes)),
+    }
 }
 
 /// Another value for one byte: a step up or down, one bit, the ends, or anything.

@@ -1,9 +1,14 @@
-//! The reference: document 01, and ADVANCE of document 02, in plain Rust, apart from the rules and the proofs, to hold the programs against.
+//! The reference: document 01, ADVANCE and the debouncer of document 02, in plain Rust, apart from the rules and the proofs, to hold the programs against.
 
 mod advances;
 mod aims;
+mod bounces;
 mod calls;
+mod contact_tally;
+mod contact_words;
+mod contacts;
 mod damage;
+mod debounce;
 mod explore;
 mod flat;
 mod forge;
@@ -46,6 +51,16 @@ const USAGE: &str = "the reference of the supervisor; it reads standard input wh
   explore N                  writes the cases of the first N states of a small world, each with every call of it
   judge CASES WRITTEN        fails, with the first difference, if the answers in WRITTEN are not the reference's
   tally-states               prints how many states break each rule; fails if a rule is never broken
+  debouncer                  prints what the program debouncer prints for an input
+  contact-input SEED TICKS   writes an input of the program debouncer: good settings, and contacts that bounce
+  contact-edges              checks the lines that a file of such inputs in words says are printed
+  contact-run NAME           writes the input of that name in such a file
+  contact-runs               checks that a card, tick by tick, reports what the raw bits alone say
+  contact-cases SEED N       writes N cases of settings, or of a card and the raw bits of some ticks
+  contact-bytes SEED         writes the cases of settings and of a card with each of their bytes set to others
+  contact-tally              prints how often each event occurs in such cases; fails if one never does
+  contact-replies            writes what the reference answers to such cases
+  contact-judge CASES WRITTEN  fails, with the first difference, if the answers in WRITTEN are not the reference's
 ";
 
 fn input() -> Result<Vec<u8>, String> {
@@ -142,12 +157,39 @@ fn explore(states: usize) -> Result<(), String> {
     output(&cases)
 }
 
-/// Holds the answers of a library against the reference's.
-fn judge(cases: &str, written: &str) -> Result<(), String> {
+fn contact_runs() -> Result<Vec<contact_words::Run>, String> {
+    contact_words::read_file(&String::from_utf8(input()?).map_err(|e| e.to_string())?)
+}
+
+fn contact_edges() -> Result<(), String> {
+    let mut lines = 0;
+    for run in contact_runs()? {
+        let printed = debounce::printed(&run.input);
+        for (line, expected) in run.expected {
+            let found = match line {
+                Some(line) => printed.lines().nth(line - 1).unwrap_or("nothing"),
+                None => printed.trim_end(),
+            };
+            if found != expected {
+                return Err(format!("run {}: printed\n{found}\nexpected\n{expected}", run.name));
+            }
+            lines += 1;
+        }
+    }
+    output(format!("{lines} lines of the debouncer are as expected\n").as_bytes())
+}
+
+fn contact_run(name: &str) -> Result<(), String> {
+    let run = contact_runs()?.into_iter().find(|run| run.name == name);
+    output(&run.ok_or_else(|| format!("no run {name}"))?.input)
+}
+
+/// Holds the answers of a library against the reference's, on cases of some length.
+fn judged(files: [&str; 2], case: usize, difference: impl Fn(&[u8], &[u8]) -> Option<String>) -> Result<(), String> {
     let read = |file: &str| std::fs::read(file).map_err(|e| format!("{file}: {e}"));
-    let cases = read(cases)?;
-    match judge::first_difference(&cases, &read(written)?) {
-        None => output(format!("{} cases are answered alike\n", cases.len() / replies::CASE).as_bytes()),
+    let cases = read(files[0])?;
+    match difference(&cases, &read(files[1])?) {
+        None => output(format!("{} cases are answered alike\n", cases.len() / case).as_bytes()),
         Some(text) => Err(text),
     }
 }
@@ -174,7 +216,17 @@ fn run(words: &[&str]) -> Result<(), String> {
         ["replies"] => output(&replies::replies(&input()?)),
         ["each-byte", seed] => output(&judge::each_byte(number(seed)?)),
         ["explore", states] => explore(number(states)? as usize),
-        ["judge", cases, written] => judge(cases, written),
+        ["judge", cases, written] => judged([cases, written], replies::CASE, judge::first_difference),
+        ["debouncer"] => output(debounce::printed(&input()?).as_bytes()),
+        ["contact-input", seed, ticks] => output(&contacts::input(number(seed)?, number(ticks)? as usize)),
+        ["contact-edges"] => contact_edges(),
+        ["contact-run", name] => contact_run(name),
+        ["contact-runs"] => output(contacts::agree()?.as_bytes()),
+        ["contact-cases", seed, count] => output(&contacts::cases(number(seed)?, number(count)? as usize)),
+        ["contact-bytes", seed] => output(&contacts::each_byte(number(seed)?)),
+        ["contact-tally"] => counted(&contact_tally::tally(&input()?)),
+        ["contact-replies"] => output(&bounces::replies(&input()?)),
+        ["contact-judge", cases, written] => judged([cases, written], bounces::CASE, bounces::first_difference),
         _ => Err(USAGE.to_string()),
     }
 }

@@ -34,4 +34,5 @@ pub mod refusal {
     pub const STILL_SERVING: u8 = 8;
     pub const FULL: u8 = 9;
     pub const BAD_RECORD: u8 = 11;
+    pub const BAD_SETTING: u8 = 17;
 }
