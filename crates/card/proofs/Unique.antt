@@ -31,9 +31,9 @@ callable-once κs x r r′ y y′ p q = (p .0 ∙ sym (q .0), p .1 ∙ sym (q .1
 pub running-once : (κs : _) (x : _) (r r′ : _) (y y′ : _) → running.Learnt κs x r y → running.Learnt κs x r′ y′ → (r ≡ r′) × (now (y .1 .0) ≡ now (y′ .1 .0))
 running-once κs x r r′ y y′ p q = (p .0 ∙ sym (q .0), p .1 ∙ sym (q .1))
 
-pub debounce-fresh-once : (κs : _) (x : _) (r r′ : _) (y y′ : _) → debounce-fresh.Post κs x r y → debounce-fresh.Post κs x r′ y′ → (r ≡ r′) × (now (y .0) ≡ now (y′ .0))
+pub debounce-fresh-once : (κs : _) (x : _) (r r′ : _) (y y′ : _) → debounce-fresh.Learnt κs x r y → debounce-fresh.Learnt κs x r′ y′ → (r ≡ r′) × (now (y .0) ≡ now (y′ .0))
 debounce-fresh-once κs x r r′ y y′ p q = (p .0 ∙ sym (q .0), p .1 ∙ sym (q .1))
 
-pub debounce-tick-once : (κs : _) (x : _) (r r′ : _) (y y′ : _) → debounce-tick.Post κs x r y → debounce-tick.Post κs x r′ y′
+pub debounce-tick-once : (κs : _) (x : _) (r r′ : _) (y y′ : _) → debounce-tick.Learnt κs x r y → debounce-tick.Learnt κs x r′ y′
     → (r ≡ r′) × (now (y .0) ≡ now (y′ .0)) × (now (y .1 .1 .0) ≡ now (y′ .1 .1 .0))
 debounce-tick-once κs x r r′ y y′ p q = (p .0 ∙ sym (q .0), p .1 .0 ∙ sym (q .1 .0), p .1 .1 ∙ sym (q .1 .1))

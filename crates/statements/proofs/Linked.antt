@@ -7,6 +7,8 @@ use Rattle.card.proofs.card_step.Met as card-step
 use Rattle.card.proofs.card_count.Met as card-count
 use Rattle.card.proofs.card_callable.Met as card-callable
 use Rattle.card.proofs.card_running.Met as card-running
+use Rattle.card.proofs.contacts.debounce_fresh.Met as debounce-fresh
+use Rattle.card.proofs.contacts.debounce_tick.Met as debounce-tick
 use Rattle.workspace.proofs.fresh.Met as fresh
 use Rattle.workspace.proofs.request.Met as request
 use Rattle.workspace.proofs.release.Met as release
@@ -28,6 +30,8 @@ linked = record {
   card-count = card-count.met;
   card-callable = card-callable.met;
   card-running = card-running.met;
+  debounce-fresh = debounce-fresh.met;
+  debounce-tick = debounce-tick.met;
   fresh = fresh.met;
   request = request.met;
   release = release.met;
@@ -45,6 +49,8 @@ linked = record {
   card-count-asks = λ κs x. tt;
   card-callable-asks = λ κs x. tt;
   card-running-asks = λ κs x. tt;
+  debounce-fresh-asks = λ κs x. tt;
+  debounce-tick-asks = λ κs x. tt;
   lent-asks = λ 𝓤 H A mem run. record { fresh = λ κs x. refl; request = λ κs x. refl; release = λ κs x. refl };
   owned-fresh-asks = λ κs x. tt;
   owned-request-asks = λ κs x. tt;

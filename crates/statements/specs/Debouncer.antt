@@ -5,6 +5,7 @@ use Prim.Native.Nat.{ℕ}
 use mathlib.Core.Path.{_≡_}
 use mathlib.Core.List.{List, [], _∷_, map}
 use denote.Ref.{now}
+use Rattle.lists.specs.Once.{AsksNothing}
 use Rattle.calls.specs.Range.{Bytes}
 use Rattle.debounce.specs.declared.Card.{Card}
 use Rattle.debounce.specs.declared.Ticked.{Ticked}
@@ -12,8 +13,8 @@ use Rattle.debounce.specs.Rule.{Setting, reportByte}
 use Rattle.debounce.specs.Facts.{CardTyped, Undamaged, OneTick, SettingsOf}
 use Rattle.debounce.proofs.fresh.Statement as fresh
 use Rattle.debounce.proofs.tick.Statement as tick
-use Rattle.debounce.proofs.fresh.Reads as fresh-reads
-use Rattle.debounce.proofs.tick.Reads as tick-reads
+use Rattle.debounce.proofs.fresh.Reads as of-fresh
+use Rattle.debounce.proofs.tick.Reads as of-tick
 
 -- one use of `tick`: the eight raw contact bits, and what it answered
 pub record Tick : Type 0 where
@@ -22,7 +23,7 @@ pub record Tick : Type 0 where
 
 -- the contract of `tick` allows it, of the card c; in front of the answer stands what was given, and behind it the same
 abbrev pub Allowed : Card → Tick → Type 0
-Allowed c u = tick-reads.Learnt tt (c, (u .bits, tt)) (u .gave) (c, (u .bits, tt))
+Allowed c u = of-tick.Learnt tt (c, (u .bits, tt)) (u .gave) (c, (u .bits, tt))
 
 -- the card behind ticks, that of the latest first
 abbrev pub reached : Card → List Tick → Card
@@ -62,13 +63,13 @@ pub record Debouncer : Type 2 where
   pub fresh : {M : Type 1} → fresh.statement M
   pub tick : {M : Type 1} → tick.statement M
   -- nothing is asked of who calls
-  pub fresh-asks : (κs : _) (x : _) → fresh-reads.Asked κs x
-  pub tick-asks : (κs : _) (x : _) → tick-reads.Asked κs x
+  pub fresh-asks : AsksNothing of-fresh.Asked
+  pub tick-asks : AsksNothing of-tick.Asked
   -- "Show that the report equals this rule worked out from the raw bits alone": of the card that settings of the form said make
-  pub made : (κs : _) (x : _) (r : _) (y : _) → fresh-reads.Learnt κs x r y → (settings : List Setting) → SettingsOf settings (now (x .0))
+  pub made : (κs : _) (x : _) (r : _) (y : _) → of-fresh.Learnt κs x r y → (settings : List Setting) → SettingsOf settings (now (x .0))
       → (r .refusal ≡ 0) × Debounces (r .card) settings
   -- "17 BAD_SETTING for .. bytes not of exactly this form, with no card made": what stands in its place is refused by every tick
-  pub bad-setting : (κs : _) (x : _) (r : _) (y : _) → fresh-reads.Learnt κs x r y → Bytes (now (x .0))
+  pub bad-setting : (κs : _) (x : _) (r : _) (y : _) → of-fresh.Learnt κs x r y → Bytes (now (x .0))
       → ((settings : List Setting) → SettingsOf settings (now (x .0)) → ⊥)
       → (r .refusal ≡ 17) × ((u : Tick) → Allowed (r .card) u → Refused (r .card) u)
   -- "2 for a damaged card", however it came about, and for no other

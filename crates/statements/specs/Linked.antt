@@ -15,12 +15,16 @@ use Rattle.card.proofs.card_step.Statement as card-step
 use Rattle.card.proofs.card_count.Statement as card-count
 use Rattle.card.proofs.card_callable.Statement as card-callable
 use Rattle.card.proofs.card_running.Statement as card-running
+use Rattle.card.proofs.contacts.debounce_fresh.Statement as debounce-fresh
+use Rattle.card.proofs.contacts.debounce_tick.Statement as debounce-tick
 use Rattle.card.proofs.card_empty.Reads as of-card-empty
 use Rattle.card.proofs.card_sound.Reads as of-card-sound
 use Rattle.card.proofs.card_step.Reads as of-card-step
 use Rattle.card.proofs.card_count.Reads as of-card-count
 use Rattle.card.proofs.card_callable.Reads as of-card-callable
 use Rattle.card.proofs.card_running.Reads as of-card-running
+use Rattle.card.proofs.contacts.debounce_fresh.Reads as of-debounce-fresh
+use Rattle.card.proofs.contacts.debounce_tick.Reads as of-debounce-tick
 use Rattle.workspace.proofs.fresh as fresh-contract
 use Rattle.workspace.proofs.request as request-contract
 use Rattle.workspace.proofs.release as release-contract
@@ -59,6 +63,8 @@ pub record Linked : Type 2 where
   pub card-count : {M : Type 1} → card-count.statement M
   pub card-callable : {M : Type 1} → card-callable.statement M
   pub card-running : {M : Type 1} → card-running.statement M
+  pub debounce-fresh : {M : Type 1} → debounce-fresh.statement M
+  pub debounce-tick : {M : Type 1} → debounce-tick.statement M
   pub fresh : {M : Type 1} → fresh.statement M
   pub request : {M : Type 1} → request.statement M
   pub release : {M : Type 1} → release.statement M
@@ -77,6 +83,8 @@ pub record Linked : Type 2 where
   pub card-count-asks : AsksNothing of-card-count.Asked
   pub card-callable-asks : AsksNothing of-card-callable.Asked
   pub card-running-asks : AsksNothing of-card-running.Asked
+  pub debounce-fresh-asks : AsksNothing of-debounce-fresh.Asked
+  pub debounce-tick-asks : AsksNothing of-debounce-tick.Asked
   pub lent-asks : {M : Type 1} (𝓤 : URA M) (H : Heap 𝓤) (A : Atoms 𝓤) (mem : Memory → SProp 𝓤) (run : Routine → Fun 𝓤) → LentAsks 𝓤 H A mem run
   pub owned-fresh-asks : AsksNothing of-owned-fresh.Asked
   pub owned-request-asks : AsksNothing of-owned-request.Asked
