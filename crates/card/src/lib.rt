@@ -12,17 +12,18 @@ ghost use Rattle.rules.specs.State.{empty};
 ghost use Rattle.rules.specs.Step.{roomAfter};
 ghost use Rattle.rules.specs.Whole.{pack, soundWhole, stepWhole, answerOf};
 ghost use Rattle.card.specs.Answers.{cardStep, stateAfter, answerBytes, ifRoom, oneAfter};
-ghost use Rattle.codec.specs.Layout.{stateIn, stored};
+ghost use Rattle.codec.specs.Layout.{stateSize, stateIn, stored};
 use calls::Call;
 use calls::Read;
 use calls::numbers::BAD_RECORD;
 use calls::numbers::END_OF_LOG;
 use calls::numbers::SHORT_ROOM;
+use codec::STATE_SIZE;
 use codec::put_at;
 use codec::state_in;
 use codec::store;
 use rules::Answer;
-use supervisor::refused_answer;
+use steps::answers::refused_answer;
 
 // 1 for yes, 0 for no.
 fn flag(yes: bool) -> u8
@@ -34,10 +35,10 @@ fn flag(yes: bool) -> u8
 // Makes a supervisor with no tasks.
 #[no_mangle]
 pub extern "C" fn card_empty(state: &mut [u8], clock: u32) -> u8
-    ensures { λ r. ⌜ r ≡ ifRoom 439 (now (state .entry)) 1 0 ⌝ }
+    ensures { λ r. ⌜ r ≡ ifRoom stateSize (now (state .entry)) 1 0 ⌝ }
     ensures { λ _. ⌜ now (state .exit) ≡ stored (pack (empty clock)) (now (state .entry)) ⌝ }
 {
-    if state.len() < 439 {
+    if state.len() < STATE_SIZE {
         return SHORT_ROOM;
     }
     let s = supervisor::empty(clock);

@@ -80,7 +80,7 @@ sameItems (i ∷ is) (j ∷ js) = sameItem i j && sameItems is js
 
 -- what the last call gives is what the row says
 abbrev pub gives : Whole → Row → Bool
-gives w r = prints w (r .line) && eqb (w .state .clock) (r .clock) && sameItems (w .ended) (r .ended)
+gives w r = prints w (r .line) && eqb (w .state .core .clock) (r .clock) && sameItems (w .ended) (r .ended)
 
 abbrev pub holds : (Supervisor → C.Call → Whole) → Row → Bool
 holds step r = gives (lastOf step (pack (empty (r .start))) (r .calls)) r

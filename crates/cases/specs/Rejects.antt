@@ -34,7 +34,7 @@ untouched s c = let w = stepOf s c in record { refusal = w .refusal; answer = w 
 
 -- "one that works at its first step and idles later": later, some task is created
 abbrev pub idlesLater : Supervisor → C.Call → Whole
-idlesLater s c = cond (eqb (s .created) 0) (stepOf s c) (idle s)
+idlesLater s c = cond (eqb (s .core .created) 0) (stepOf s c) (idle s)
 
 -- the first two ended waits in the other order
 abbrev exchanged : List Item → List Item

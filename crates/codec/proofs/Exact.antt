@@ -14,7 +14,7 @@ use Rattle.calls.specs.Duration.{bytesOf}
 use Rattle.calls.specs.Record.{byte, fourFrom}
 use Rattle.calls.specs.Range.{Bytes}
 use Rattle.rules.specs.State.{entryOf}
-use Rattle.codec.specs.Layout.{placeTag, placeFirst, timerTag, timerDue, taskBytes, tasksBytes, encode, isPlace, isTimer, placeFrom, timerFrom, isTask, taskFrom, areTasks, tasksFrom, isEncoding, decode}
+use Rattle.codec.specs.Layout.{taskSize, tasksSize, readyAt, callersAt, heldAt, delaysAt, stateSize, placeTag, placeFirst, timerTag, timerDue, taskBytes, tasksBytes, encode, isPlace, isTimer, placeFrom, timerFrom, isTask, taskFrom, areTasks, tasksFrom, isEncoding, decode}
 
 -- ── a task ──
 
@@ -46,7 +46,7 @@ timer-exact (suc (suc n)) d e =
 abbrev ten : List ℕ → List ℕ
 ten b = byte b 0 ∷ byte b 1 ∷ byte b 2 ∷ byte b 3 ∷ byte b 4 ∷ byte b 5 ∷ byte b 6 ∷ byte b 7 ∷ byte b 8 ∷ byte b 9 ∷ []
 
-ten-is : (b : List ℕ) → 10 ≤ length b → b ≡ ten b ++ drop 10 b
+ten-is : (b : List ℕ) → taskSize ≤ length b → b ≡ ten b ++ drop taskSize b
 ten-is [] h = absurd (omega arith)
 ten-is (x₀ ∷ []) h = absurd (omega arith)
 ten-is (x₀ ∷ x₁ ∷ []) h = absurd (omega arith)
@@ -78,38 +78,38 @@ task-exact b all e =
 rest-bytes : (b : List ℕ) (k : ℕ) → Bytes b → Bytes (drop k b)
 rest-bytes b k all i = rw (getD-drop k b i 0) (all (k + i))
 
-tasks-exact : (n : ℕ) (b : List ℕ) → Bytes b → n * 10 ≤ length b → areTasks n b ≡ true → tasksBytes (tasksFrom n b) ≡ take (n * 10) b
+tasks-exact : (n : ℕ) (b : List ℕ) → Bytes b → n * taskSize ≤ length b → areTasks n b ≡ true → tasksBytes (tasksFrom n b) ≡ take (n * taskSize) b
 unfolding areTasks tasksFrom
 tasks-exact zero b all h e = refl
 tasks-exact (suc n) b all h e =
-    let long : n * 10 ≤ length (drop 10 b) = simp length-drop (omega arith) in
-    let ih = tasks-exact n (drop 10 b) (rest-bytes b 10 all) long (and-second (isTask b) (areTasks n (drop 10 b)) e) in
-    let t = task-exact b all (and-first (isTask b) (areTasks n (drop 10 b)) e) in
-    let k : suc n * 10 ≡ 10 + n * 10 = omega arith in
-    let s : take (10 + n * 10) b ≡ ten b ++ take (n * 10) (drop 10 b) =
-    ap (λ (l : List ℕ). take (10 + n * 10) l) (ten-is b (omega arith)) ∙ take-append-add (ten b) (drop 10 b) (n * 10) in
-    ap (λ (x : List ℕ). x ++ tasksBytes (tasksFrom n (drop 10 b))) t ∙ ap (λ (x : List ℕ). ten b ++ x) ih ∙ sym (ap (λ (m : ℕ). take m b) k ∙ s)
+    let long : n * taskSize ≤ length (drop taskSize b) = simp length-drop (omega arith) in
+    let ih = tasks-exact n (drop taskSize b) (rest-bytes b taskSize all) long (and-second (isTask b) (areTasks n (drop taskSize b)) e) in
+    let t = task-exact b all (and-first (isTask b) (areTasks n (drop taskSize b)) e) in
+    let k : suc n * taskSize ≡ taskSize + n * taskSize = omega arith in
+    let s : take (taskSize + n * taskSize) b ≡ ten b ++ take (n * taskSize) (drop taskSize b) =
+    ap (λ (l : List ℕ). take (taskSize + n * taskSize) l) (ten-is b (omega arith)) ∙ take-append-add (ten b) (drop taskSize b) (n * taskSize) in
+    ap (λ (x : List ℕ). x ++ tasksBytes (tasksFrom n (drop taskSize b))) t ∙ ap (λ (x : List ℕ). ten b ++ x) ih ∙ sym (ap (λ (m : ℕ). take m b) k ∙ s)
 
 -- ── a state ──
 
-pub encode-decode : (b : List ℕ) → Bytes b → isEncoding b ≡ true → encode (decode b) ≡ take 439 b
+pub encode-decode : (b : List ℕ) → Bytes b → isEncoding b ≡ true → encode (decode b) ≡ take stateSize b
 unfolding isEncoding encode decode
 encode-decode b all e =
-    let long = leb-true 439 (length b) (and-first (leb 439 (length b)) (areTasks 31 (drop 5 b)) e) in
-    let room : 31 * 10 ≤ length (drop 5 b) = simp length-drop (omega arith) in
-    let t = tasks-exact 31 (drop 5 b) (rest-bytes b 5 all) room (and-second (leb 439 (length b)) (areTasks 31 (drop 5 b)) e) in
+    let long = leb-true stateSize (length b) (and-first (leb stateSize (length b)) (areTasks 31 (drop 5 b)) e) in
+    let room : 31 * taskSize ≤ length (drop 5 b) = simp length-drop (omega arith) in
+    let t = tasks-exact 31 (drop 5 b) (rest-bytes b 5 all) room (and-second (leb stateSize (length b)) (areTasks 31 (drop 5 b)) e) in
     let h : bytesOf (fourFrom b 0) ++ (byte b 4 ∷ []) ≡ take 5 b = ap (λ (l : List ℕ). l ++ (byte b 4 ∷ [])) (four-bytes b 0 all) ∙ sym (five b (omega arith)) in
-    let s₁ = take-add 5 310 b in
-    let s₂ = take-add 315 31 b in
-    let s₃ = take-add 346 31 b in
-    let s₄ = take-add 377 31 b in
-    let s₅ = take-add 408 31 b in
-    ap (λ (l : List ℕ). l ++ tasksBytes (tasksFrom 31 (drop 5 b)) ++ take 31 (drop 315 b) ++ take 31 (drop 346 b) ++ take 31 (drop 377 b) ++ take 31 (drop 408 b)) h
-    ∙ ap (λ (l : List ℕ). take 5 b ++ l ++ take 31 (drop 315 b) ++ take 31 (drop 346 b) ++ take 31 (drop 377 b) ++ take 31 (drop 408 b)) t
-    ∙ ap (λ (l : List ℕ). l ++ take 31 (drop 315 b) ++ take 31 (drop 346 b) ++ take 31 (drop 377 b) ++ take 31 (drop 408 b)) (sym s₁)
-    ∙ ap (λ (l : List ℕ). l ++ take 31 (drop 346 b) ++ take 31 (drop 377 b) ++ take 31 (drop 408 b)) (sym s₂)
-    ∙ ap (λ (l : List ℕ). l ++ take 31 (drop 377 b) ++ take 31 (drop 408 b)) (sym s₃)
-    ∙ ap (λ (l : List ℕ). l ++ take 31 (drop 408 b)) (sym s₄)
+    let s₁ = take-add 5 tasksSize b in
+    let s₂ = take-add readyAt 31 b in
+    let s₃ = take-add callersAt 31 b in
+    let s₄ = take-add heldAt 31 b in
+    let s₅ = take-add delaysAt 31 b in
+    ap (λ (l : List ℕ). l ++ tasksBytes (tasksFrom 31 (drop 5 b)) ++ take 31 (drop readyAt b) ++ take 31 (drop callersAt b) ++ take 31 (drop heldAt b) ++ take 31 (drop delaysAt b)) h
+    ∙ ap (λ (l : List ℕ). take 5 b ++ l ++ take 31 (drop readyAt b) ++ take 31 (drop callersAt b) ++ take 31 (drop heldAt b) ++ take 31 (drop delaysAt b)) t
+    ∙ ap (λ (l : List ℕ). l ++ take 31 (drop readyAt b) ++ take 31 (drop callersAt b) ++ take 31 (drop heldAt b) ++ take 31 (drop delaysAt b)) (sym s₁)
+    ∙ ap (λ (l : List ℕ). l ++ take 31 (drop callersAt b) ++ take 31 (drop heldAt b) ++ take 31 (drop delaysAt b)) (sym s₂)
+    ∙ ap (λ (l : List ℕ). l ++ take 31 (drop heldAt b) ++ take 31 (drop delaysAt b)) (sym s₃)
+    ∙ ap (λ (l : List ℕ). l ++ take 31 (drop delaysAt b)) (sym s₄)
     ∙ sym s₅
   where
     five : (b : List ℕ) → 5 ≤ length b → take 5 b ≡ byte b 0 ∷ byte b 1 ∷ byte b 2 ∷ byte b 3 ∷ byte b 4 ∷ []

@@ -18,7 +18,7 @@ use Rattle.rules.specs.declared.Place.{Place}
 use Rattle.rules.specs.declared.Place.the-variants.{Blank, Ready, Delayed, Queued, Held, Accepting, Completed}
 use Rattle.rules.specs.declared.Supervisor.{Supervisor}
 use Rattle.rules.specs.State.{entryOf}
-use Rattle.codec.specs.Layout.{placeTag, placeFirst, timerTag, timerDue, taskBytes, tasksBytes, encode, isPlace, isTimer, placeFrom, timerFrom, isTask, taskFrom, areTasks, tasksFrom, isEncoding, decode, lost, stateIn}
+use Rattle.codec.specs.Layout.{tasksSize, readyAt, callersAt, heldAt, delaysAt, stateSize, placeTag, placeFirst, timerTag, timerDue, taskBytes, tasksBytes, encode, isPlace, isTimer, placeFrom, timerFrom, isTask, taskFrom, areTasks, tasksFrom, isEncoding, decode, lost, stateIn}
 use Rattle.codec.proofs.CodecLaws.{tasks-long}
 
 -- ── a task ──
@@ -63,21 +63,21 @@ line-at p x q k hp hx = rw (drop-at p (x ++ q) k hp) (take-at x q 31 hx)
 
 -- what stands where in the bytes of a state
 record Found (b t r c h d rest : List ℕ) : Type 0 where
-  long : length b ≡ 439 + length rest
+  long : length b ≡ stateSize + length rest
   tasks : drop 5 b ≡ t ++ (r ++ (c ++ (h ++ (d ++ rest))))
-  ready : take 31 (drop 315 b) ≡ r
-  callers : take 31 (drop 346 b) ≡ c
-  held : take 31 (drop 377 b) ≡ h
-  delays : take 31 (drop 408 b) ≡ d
+  ready : take 31 (drop readyAt b) ≡ r
+  callers : take 31 (drop callersAt b) ≡ c
+  held : take 31 (drop heldAt b) ≡ h
+  delays : take 31 (drop delaysAt b) ≡ d
 
 at-least : (n k m : ℕ) → n ≡ k + m → k ≤ n
 at-least n k m e = omega arith
 
-module _ (a t r c h d rest : List ℕ) (ha : length a ≡ 5) (ht : length t ≡ 310) (hr : length r ≡ 31) (hc : length c ≡ 31) (hh : length h ≡ 31) (hd : length d ≡ 31) where
+module _ (a t r c h d rest : List ℕ) (ha : length a ≡ 5) (ht : length t ≡ tasksSize) (hr : length r ≡ 31) (hc : length c ≡ 31) (hh : length h ≡ 31) (hd : length d ≡ 31) where
   abbrev whole : List ℕ
   whole = a ++ t ++ r ++ c ++ h ++ d ++ rest
 
-  whole-long : length whole ≡ 439 + length rest
+  whole-long : length whole ≡ stateSize + length rest
   whole-long = simp length-append (omega arith)
 
   at-tasks : drop 5 whole ≡ t ++ (r ++ (c ++ (h ++ (d ++ rest))))
@@ -85,64 +85,64 @@ module _ (a t r c h d rest : List ℕ) (ha : length a ≡ 5) (ht : length t ≡ 
       let e : whole ≡ a ++ (t ++ (r ++ (c ++ (h ++ (d ++ rest))))) = simp append-assoc in
       rw e (drop-at a (t ++ (r ++ (c ++ (h ++ (d ++ rest))))) 5 ha)
 
-  at-ready : take 31 (drop 315 whole) ≡ r
+  at-ready : take 31 (drop readyAt whole) ≡ r
   at-ready =
       let e : whole ≡ (a ++ t) ++ (r ++ (c ++ (h ++ (d ++ rest)))) = simp append-assoc in
-      let l : length (a ++ t) ≡ 315 = simp length-append (omega arith) in
-      rw e (line-at (a ++ t) r (c ++ (h ++ (d ++ rest))) 315 l hr)
+      let l : length (a ++ t) ≡ readyAt = simp length-append (omega arith) in
+      rw e (line-at (a ++ t) r (c ++ (h ++ (d ++ rest))) readyAt l hr)
 
-  at-callers : take 31 (drop 346 whole) ≡ c
+  at-callers : take 31 (drop callersAt whole) ≡ c
   at-callers =
       let e : whole ≡ (a ++ t ++ r) ++ (c ++ (h ++ (d ++ rest))) = simp append-assoc in
-      let l : length (a ++ t ++ r) ≡ 346 = simp length-append (omega arith) in
-      rw e (line-at (a ++ t ++ r) c (h ++ (d ++ rest)) 346 l hc)
+      let l : length (a ++ t ++ r) ≡ callersAt = simp length-append (omega arith) in
+      rw e (line-at (a ++ t ++ r) c (h ++ (d ++ rest)) callersAt l hc)
 
-  at-held : take 31 (drop 377 whole) ≡ h
+  at-held : take 31 (drop heldAt whole) ≡ h
   at-held =
       let e : whole ≡ (a ++ t ++ r ++ c) ++ (h ++ (d ++ rest)) = simp append-assoc in
-      let l : length (a ++ t ++ r ++ c) ≡ 377 = simp length-append (omega arith) in
-      rw e (line-at (a ++ t ++ r ++ c) h (d ++ rest) 377 l hh)
+      let l : length (a ++ t ++ r ++ c) ≡ heldAt = simp length-append (omega arith) in
+      rw e (line-at (a ++ t ++ r ++ c) h (d ++ rest) heldAt l hh)
 
-  at-delays : take 31 (drop 408 whole) ≡ d
+  at-delays : take 31 (drop delaysAt whole) ≡ d
   at-delays =
       let e : whole ≡ (a ++ t ++ r ++ c ++ h) ++ (d ++ rest) = simp append-assoc in
-      let l : length (a ++ t ++ r ++ c ++ h) ≡ 408 = simp length-append (omega arith) in
-      rw e (line-at (a ++ t ++ r ++ c ++ h) d rest 408 l hd)
+      let l : length (a ++ t ++ r ++ c ++ h) ≡ delaysAt = simp length-append (omega arith) in
+      rw e (line-at (a ++ t ++ r ++ c ++ h) d rest delaysAt l hd)
 
   pieces : Found whole t r c h d rest
   pieces = record { long = whole-long; tasks = at-tasks; ready = at-ready; callers = at-callers; held = at-held; delays = at-delays }
 
 -- what the types of the code say of a state: 31 tasks, and 31 places in each line
 pub record Sized (s : Supervisor) : Type 0 where
-  pub tasks : length (s .tasks) ≡ 31
-  pub ready : length (s .ready) ≡ 31
+  pub tasks : length (s .core .tasks) ≡ 31
+  pub ready : length (s .core .ready) ≡ 31
   pub callers : length (s .callers) ≡ 31
-  pub held : length (s .held) ≡ 31
-  pub delays : length (s .delays) ≡ 31
+  pub held : length (s .core .held) ≡ 31
+  pub delays : length (s .core .delays) ≡ 31
 
 module _ (s : Supervisor) (z : Sized s) (rest : List ℕ) where
   abbrev head : List ℕ
-  head = bytesOf (s .clock) ++ (s .created ∷ [])
+  head = bytesOf (s .core .clock) ++ (s .core .created ∷ [])
 
   abbrev more : List ℕ
-  more = s .ready ++ (s .callers ++ (s .held ++ (s .delays ++ rest)))
+  more = s .core .ready ++ (s .callers ++ (s .core .held ++ (s .core .delays ++ rest)))
 
-  tasks-there : (tasksFrom 31 (tasksBytes (s .tasks) ++ more) ≡ s .tasks) × (areTasks 31 (tasksBytes (s .tasks) ++ more) ≡ true)
+  tasks-there : (tasksFrom 31 (tasksBytes (s .core .tasks) ++ more) ≡ s .core .tasks) × (areTasks 31 (tasksBytes (s .core .tasks) ++ more) ≡ true)
   tasks-there =
-      subst (λ (n : ℕ). (tasksFrom n (tasksBytes (s .tasks) ++ more) ≡ s .tasks) × (areTasks n (tasksBytes (s .tasks) ++ more) ≡ true)) (z .tasks)
-      (tasks-back (s .tasks) more)
+      subst (λ (n : ℕ). (tasksFrom n (tasksBytes (s .core .tasks) ++ more) ≡ s .core .tasks) × (areTasks n (tasksBytes (s .core .tasks) ++ more) ≡ true)) (z .tasks)
+      (tasks-back (s .core .tasks) more)
 
-  tasks-room : length (tasksBytes (s .tasks)) ≡ 310
-  tasks-room = let h = z .tasks in omega (arith, tasks-long (s .tasks))
+  tasks-room : length (tasksBytes (s .core .tasks)) ≡ tasksSize
+  tasks-room = let h = z .tasks in omega (arith, tasks-long (s .core .tasks))
 
-  found : Found (head ++ tasksBytes (s .tasks) ++ s .ready ++ s .callers ++ s .held ++ s .delays ++ rest) (tasksBytes (s .tasks)) (s .ready) (s .callers) (s .held) (s .delays) rest
-  found = pieces head (tasksBytes (s .tasks)) (s .ready) (s .callers) (s .held) (s .delays) rest refl tasks-room (z .ready) (z .callers) (z .held) (z .delays)
+  found : Found (head ++ tasksBytes (s .core .tasks) ++ s .core .ready ++ s .callers ++ s .core .held ++ s .core .delays ++ rest) (tasksBytes (s .core .tasks)) (s .core .ready) (s .callers) (s .core .held) (s .core .delays) rest
+  found = pieces head (tasksBytes (s .core .tasks)) (s .core .ready) (s .callers) (s .core .held) (s .core .delays) rest refl tasks-room (z .ready) (z .callers) (z .held) (z .delays)
 
   pub encoded : isEncoding (encode s ++ rest) ≡ true
   unfolding isEncoding encode
   encoded =
       and-both
-      (le-leb 439 (length (encode s ++ rest)) (at-least (length (encode s ++ rest)) 439 (length rest) (found .long)))
+      (le-leb stateSize (length (encode s ++ rest)) (at-least (length (encode s ++ rest)) stateSize (length rest) (found .long)))
       (ap (areTasks 31) (found .tasks) ∙ tasks-there .1)
 
   pub decode-encode : decode (encode s ++ rest) ≡ s
@@ -150,13 +150,15 @@ module _ (s : Supervisor) (z : Sized s) (rest : List ℕ) where
   decode-encode =
       let t = ap (tasksFrom 31) (found .tasks) ∙ tasks-there .0 in
       λ i. record {
-        clock = four-back (s .clock) i;
-        created = s .created;
-        tasks = t i;
-        ready = found .ready i;
+        core = record {
+          clock = four-back (s .core .clock) i;
+          created = s .core .created;
+          tasks = t i;
+          ready = found .ready i;
+          held = found .held i;
+          delays = found .delays i;
+        };
         callers = found .callers i;
-        held = found .held i;
-        delays = found .delays i;
       }
 
   -- what was put into lent bytes is found there

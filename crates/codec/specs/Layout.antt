@@ -1,5 +1,5 @@
 -- A supervisor's 439 bytes: clock 4, created 1, 31 tasks of 10, four lines of 31. Numbers have their high byte first.
-use Prim.Native.Nat.{ℕ, zero, suc, _+_}
+use Prim.Native.Nat.{ℕ, zero, suc, _+_, _*_}
 use mathlib.Core.Bool.{Bool, true, _&&_, _||_}
 use mathlib.Core.List.{List, [], _∷_, _++_}
 use lib.ListN.{length, take, drop}
@@ -16,6 +16,32 @@ use Rattle.rules.specs.declared.Place.{Place}
 use Rattle.rules.specs.declared.Place.the-variants.{Blank, Ready, Delayed, Queued, Held, Accepting, Completed}
 use Rattle.rules.specs.declared.Supervisor.{Supervisor}
 use Rattle.codec.specs.declared.Fields.{Fields}
+
+-- ── the sizes ──
+
+-- the bytes of a task, and of all
+abbrev pub taskSize : ℕ
+taskSize = 10
+
+abbrev pub tasksSize : ℕ
+tasksSize = 31 * taskSize
+
+-- where each line stands, behind the clock, the number of tasks and the tasks
+abbrev pub readyAt : ℕ
+readyAt = 5 + tasksSize
+
+abbrev pub callersAt : ℕ
+callersAt = readyAt + 31
+
+abbrev pub heldAt : ℕ
+heldAt = callersAt + 31
+
+abbrev pub delaysAt : ℕ
+delaysAt = heldAt + 31
+
+-- the bytes of a state
+abbrev pub stateSize : ℕ
+stateSize = delaysAt + 31
 
 -- ── the bytes of a state ──
 
@@ -61,7 +87,7 @@ tasksBytes (x ∷ xs) = taskBytes x ++ tasksBytes xs
 
 -- the bytes of a state: clock, created, tasks, ready, callers, held, delays
 unfoldable pub encode : Supervisor → List ℕ
-encode s = (bytesOf (s .clock) ++ (s .created ∷ [])) ++ tasksBytes (s .tasks) ++ s .ready ++ s .callers ++ s .held ++ s .delays
+encode s = (bytesOf (s .core .clock) ++ (s .core .created ∷ [])) ++ tasksBytes (s .core .tasks) ++ s .core .ready ++ s .callers ++ s .core .held ++ s .core .delays
 
 -- ── the state of bytes ──
 
@@ -124,39 +150,43 @@ taskFrom b = fieldsTask (fieldsOf b)
 -- the first n times ten bytes are tasks
 unfoldable pub areTasks : ℕ → List ℕ → Bool
 areTasks zero b = true
-areTasks (suc n) b = isTask b && areTasks n (drop 10 b)
+areTasks (suc n) b = isTask b && areTasks n (drop taskSize b)
 
 -- the tasks of the first n times ten bytes
 unfoldable pub tasksFrom : ℕ → List ℕ → List Task
 tasksFrom zero b = []
-tasksFrom (suc n) b = taskFrom b ∷ tasksFrom n (drop 10 b)
+tasksFrom (suc n) b = taskFrom b ∷ tasksFrom n (drop taskSize b)
 
 -- bytes that begin with a state: long enough, with no other tag and no unused byte but 0
 unfoldable pub isEncoding : List ℕ → Bool
-isEncoding b = leb 439 (length b) && areTasks 31 (drop 5 b)
+isEncoding b = leb stateSize (length b) && areTasks 31 (drop 5 b)
 
 -- the state with which bytes begin
 unfoldable pub decode : List ℕ → Supervisor
 decode b = record {
-  clock = fourFrom b 0;
-  created = byte b 4;
-  tasks = tasksFrom 31 (drop 5 b);
-  ready = take 31 (drop 315 b);
-  callers = take 31 (drop 346 b);
-  held = take 31 (drop 377 b);
-  delays = take 31 (drop 408 b);
+  core = record {
+    clock = fourFrom b 0;
+    created = byte b 4;
+    tasks = tasksFrom 31 (drop 5 b);
+    ready = take 31 (drop readyAt b);
+    held = take 31 (drop heldAt b);
+    delays = take 31 (drop delaysAt b);
+  };
+  callers = take 31 (drop callersAt b);
 }
 
 -- a state that says it has 255 tasks: it is not sound
 abbrev pub overfull : Supervisor → Supervisor
 overfull s = record {
-  clock = s .clock;
-  created = 255;
-  tasks = s .tasks;
-  ready = s .ready;
+  core = record {
+    clock = s .core .clock;
+    created = 255;
+    tasks = s .core .tasks;
+    ready = s .core .ready;
+    held = s .core .held;
+    delays = s .core .delays;
+  };
   callers = s .callers;
-  held = s .held;
-  delays = s .delays;
 }
 
 -- the state that stands for bytes that are no encoding
@@ -177,8 +207,8 @@ placedAt b at piece = if leb (at + length piece) (length b) then putAt b at piec
 
 -- the four lines behind the tasks
 abbrev pub placedLines : List ℕ → List ℕ → List ℕ → List ℕ → List ℕ → List ℕ
-placedLines b ready callers held delays = placedAt (placedAt (placedAt (placedAt b 315 ready) 346 callers) 377 held) 408 delays
+placedLines b ready callers held delays = placedAt (placedAt (placedAt (placedAt b readyAt ready) callersAt callers) heldAt held) delaysAt delays
 
 -- lent bytes with a state put into them; bytes behind the 439th stay, and so do all where there are fewer
 unfoldable pub stored : Supervisor → List ℕ → List ℕ
-stored s b = if ltb (length b) 439 then b else encode s ++ drop 439 b
+stored s b = if ltb (length b) stateSize then b else encode s ++ drop stateSize b

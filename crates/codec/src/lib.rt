@@ -5,10 +5,11 @@ ghost use mathlib.Core.List.{[], _∷_};
 ghost use lib.ListN.{length, take, drop};
 ghost use Rattle.lists.specs.Line.{blanks};
 ghost use Rattle.rules.specs.State.{entryOf};
-ghost use Rattle.codec.specs.Layout.{placeTag, placeFirst, timerTag, timerDue, taskBytes, tasksBytes, isPlace, isTimer, placeFrom, timerFrom, fieldsOf, fieldsGood, fieldsTask, lost, stateIn, putAt, placedAt, placedLines, stored};
+ghost use Rattle.codec.specs.Layout.{stateSize, taskSize, placeTag, placeFirst, timerTag, timerDue, taskBytes, tasksBytes, isPlace, isTimer, placeFrom, timerFrom, fieldsOf, fieldsGood, fieldsTask, lost, stateIn, putAt, placedAt, placedLines, stored};
 ghost use Rattle.codec.specs.Used.{tableFrom, usedTasks, bareIn};
 use calls::bytes_of;
 use calls::word;
+use rules::Core;
 use rules::Meeting;
 use rules::Offer;
 use rules::Place;
@@ -17,6 +18,19 @@ use rules::Task;
 use rules::Timer;
 use rules::Waiting;
 use table::tasks::blank_task;
+
+// How many bytes a task takes, where the lines stand, and how many a state takes.
+pub const TASK_SIZE: usize = 10;
+
+pub const READY_AT: usize = 315;
+
+pub const CALLERS_AT: usize = 346;
+
+pub const HELD_AT: usize = 377;
+
+pub const DELAYS_AT: usize = 408;
+
+pub const STATE_SIZE: usize = 439;
 
 // The three bytes of a place: its tag; the called task, the holder or the open set; the called entry.
 fn place_bytes(p: Place) -> [u8; 3]
@@ -135,7 +149,7 @@ struct Fields {
 
 // The numbers of the first ten bytes.
 fn fields_of(b: &[u8]) -> Fields
-    requires { ⌜ 10 ≤ length (now b) ⌝ }
+    requires { ⌜ taskSize ≤ length (now b) ⌝ }
     ensures { λ r. ⌜ r ≡ fieldsOf (now (b .entry)) ⌝ }
 {
     let due = word(b[6], b[7], b[8], b[9]);
@@ -173,12 +187,12 @@ fn task_from(f: Fields) -> Task
 
 // Whether the bytes of the table of tasks are 0 from an index on.
 fn are_zero(b: &[u8], from: usize) -> bool
-    requires { ⌜ 439 ≤ length (now b) ⌝ }
+    requires { ⌜ stateSize ≤ length (now b) ⌝ }
     ensures { λ r. ⌜ r ≡ blanks (tableFrom (now (b .entry)) from) ⌝ }
 {
     let mut all = true;
     let mut i = from;
-    while i < 315 {
+    while i < READY_AT {
         all = all & (b[i] == 0);
         i += 1;
     }
@@ -189,14 +203,14 @@ fn are_zero(b: &[u8], from: usize) -> bool
 fn used_tasks(b: &[u8]) -> usize
     ensures { λ r. ⌜ r ≡ usedTasks (now (b .entry)) ⌝ }
 {
-    if b.len() < 439 {
+    if b.len() < STATE_SIZE {
         return 0;
     }
     let n = b[4] as usize;
     if 31 < n {
         return 31;
     }
-    let behind = 5 + n * 10;
+    let behind = 5 + n * TASK_SIZE;
     if are_zero(b, behind) { n } else { 31 }
 }
 
@@ -217,14 +231,17 @@ fn lost_state() -> Supervisor
 {
     let tasks = [blank_task(); 31];
     let line = [0u8; 31];
-    Supervisor {
+    let core = Core {
         clock: 0,
         created: 255,
         tasks,
         ready: line,
-        callers: line,
         held: line,
         delays: line,
+    };
+    Supervisor {
+        core,
+        callers: line,
     }
 }
 
@@ -232,47 +249,47 @@ fn lost_state() -> Supervisor
 fn bare_state(b: &[u8]) -> Supervisor
     ensures { λ r. ⌜ r ≡ bareIn (now (b .entry)) ⌝ }
 {
-    if 439 <= b.len() {
+    if STATE_SIZE <= b.len() {
         let clock = word(b[0], b[1], b[2], b[3]);
         let tasks = [blank_task(); 31];
-        let ready = line_from(b, 315);
-        let callers = line_from(b, 346);
-        let held = line_from(b, 377);
-        let delays = line_from(b, 408);
-        return Supervisor {
+        let ready = line_from(b, READY_AT);
+        let callers = line_from(b, CALLERS_AT);
+        let held = line_from(b, HELD_AT);
+        let delays = line_from(b, DELAYS_AT);
+        let core = Core {
             clock,
             created: b[4],
             tasks,
             ready,
-            callers,
             held,
             delays,
         };
+        return Supervisor { core, callers };
     }
     lost_state()
 }
 
-// The state of lent bytes; one that is not sound where they are no encoding. One variable is filled, and returned on each way: where a
-// state is made in two places, it is copied field by field.
+// The state of lent bytes; one that is not sound where they are no encoding.
 pub fn state_in(b: &[u8]) -> Supervisor
     ensures { λ r. ⌜ r ≡ stateIn (now (b .entry)) ⌝ }
 {
-    let mut s = bare_state(b);
+    let bare = bare_state(b);
+    let callers = bare.callers;
+    let mut core = bare.core;
     let n = used_tasks(b);
     let mut good = true;
     let mut i: usize = 0;
     while i < n {
-        let at = 5 + i * 10;
+        let at = 5 + i * TASK_SIZE;
         let f = fields_of(&b[at..]);
-        s.tasks[i] = task_from(f);
+        core.tasks[i] = task_from(f);
         good = good & is_task(f);
         i += 1;
     }
     if good {
-        return s;
+        return Supervisor { core, callers };
     }
-    s = lost_state();
-    s
+    lost_state()
 }
 
 // Puts a piece at an index of the room, or nothing where it has no room there.
@@ -292,12 +309,12 @@ pub fn put_at(room: &mut [u8], at: usize, piece: &[u8])
 
 // Puts the tasks of a state behind the clock and the number of tasks.
 fn put_tasks(room: &mut [u8], tasks: [Task; 31])
-    requires { ⌜ 439 ≤ length (now room) ⌝ }
+    requires { ⌜ stateSize ≤ length (now room) ⌝ }
     ensures { λ _. ⌜ now (room .exit) ≡ putAt (now (room .entry)) 5 (tasksBytes tasks) ⌝ }
 {
     let mut i: usize = 0;
     while i < 31 {
-        let at = 5 + i * 10;
+        let at = 5 + i * TASK_SIZE;
         let x = task_bytes(tasks[i]);
         put_at(room, at, &x);
         i += 1;
@@ -308,27 +325,27 @@ fn put_tasks(room: &mut [u8], tasks: [Task; 31])
 fn put_lines(room: &mut [u8], ready: [u8; 31], callers: [u8; 31], held: [u8; 31], delays: [u8; 31])
     ensures { λ _. ⌜ now (room .exit) ≡ placedLines (now (room .entry)) ready callers held delays ⌝ }
 {
-    put_at(room, 315, &ready);
-    put_at(room, 346, &callers);
-    put_at(room, 377, &held);
-    put_at(room, 408, &delays);
+    put_at(room, READY_AT, &ready);
+    put_at(room, CALLERS_AT, &callers);
+    put_at(room, HELD_AT, &held);
+    put_at(room, DELAYS_AT, &delays);
 }
 
 // Puts a state into lent bytes, if they are long enough.
 pub fn store(s: Supervisor, room: &mut [u8])
     ensures { λ _. ⌜ now (room .exit) ≡ stored s (now (room .entry)) ⌝ }
 {
-    if room.len() < 439 {
+    if room.len() < STATE_SIZE {
         return;
     }
-    let n = bytes_of(s.clock);
-    let head = [n[0], n[1], n[2], n[3], s.created];
+    let n = bytes_of(s.core.clock);
+    let head = [n[0], n[1], n[2], n[3], s.core.created];
     put_at(room, 0, &head);
-    let tasks = s.tasks;
+    let tasks = s.core.tasks;
     put_tasks(room, tasks);
-    let ready = s.ready;
+    let ready = s.core.ready;
     let callers = s.callers;
-    let held = s.held;
-    let delays = s.delays;
+    let held = s.core.held;
+    let delays = s.core.delays;
     put_lines(room, ready, callers, held, delays);
 }

@@ -40,8 +40,8 @@ more : (s : Supervisor) (n room : ℕ) (r : Whole) (s′ : Supervisor) (l : List
 more s n room r s′ l k t e g = record {
   state = ap (λ (w : Whole). reachWhole (w .state) asks) e ∙ g .state;
   ends = ap (λ (w : Whole). w .ended ++ joined (logWhole (w .state) asks)) e ∙ ap (λ (m : List Item). r .ended ++ m) (g .ends);
-  readings = ap (λ (w : Whole). length (if ltb 0 (length (w .ended)) then w .state .clock ∷ moments (logWhole (w .state) asks) else moments (logWhole (w .state) asks))) e
-      ∙ count-if (ltb 0 (length (r .ended))) (r .state .clock) (moments (logWhole (r .state) asks)) ∙ ap (λ (x : ℕ). bit (ltb 0 (length (r .ended))) + x) (g .readings);
+  readings = ap (λ (w : Whole). length (if ltb 0 (length (w .ended)) then w .state .core .clock ∷ moments (logWhole (w .state) asks) else moments (logWhole (w .state) asks))) e
+      ∙ count-if (ltb 0 (length (r .ended))) (r .state .core .clock) (moments (logWhole (r .state) asks)) ∙ ap (λ (x : ℕ). bit (ltb 0 (length (r .ended))) + x) (g .readings);
   ticks = ap (λ (w : Whole). (if eqb (w .refusal) 0 then 1 else 0) + tickCount (logWhole (w .state) asks)) e ∙ ap (λ (x : ℕ). (if eqb (r .refusal) 0 then 1 else 0) + x) (g .ticks);
 }
   where
@@ -72,7 +72,7 @@ apart : (n : ℕ) (s : State) (room : ℕ) → ltb room 124 ≡ false → Sound 
     → (count r (moments (logWhole (pack s) (tickAsks n room))) ≤ 1) × (0 < count r (moments (logWhole (pack s) (tickAsks n room))) → (0 < left (s .clock) r) × (left (s .clock) r ≤ n) × (r < 4294967296))
 apart zero s room e h i r = (omega arith, λ k. absurd (omega arith))
 apart (suc n) s room e h i r =
-    subst (λ (w : Whole). P (if ltb 0 (length (w .ended)) then w .state .clock ∷ moments (logWhole (w .state) asks) else moments (logWhole (w .state) asks))) (sym (step-taken s Tick room h e))
+    subst (λ (w : Whole). P (if ltb 0 (length (w .ended)) then w .state .core .clock ∷ moments (logWhole (w .state) asks) else moments (logWhole (w .state) asks))) (sym (step-taken s Tick room h e))
     (by-test P (ltb 0 (length (endsAt s now))) (λ _. first (apart n (tickTo s now) room e (tick-kept s h) (omega arith) r)) (λ _. let q = apart n (tickTo s now) room e (tick-kept s h) (omega arith) r in (q .0, later q)))
   where
     asks : List Ask

@@ -10,7 +10,7 @@ use Rattle.lists.proofs.LineLaws.{length-pad}
 use Rattle.lists.proofs.ListLaws.{by-bool}
 use Rattle.rules.specs.State.{State, blank, created}
 use Rattle.rules.specs.Step.{Refusal, SHORT-ROOM, BAD-STATE, takeCall}
-use Rattle.rules.specs.Whole.{Typed, view, pack, soundWhole, Whole, decline, stepWhole}
+use Rattle.rules.specs.Whole.{TypedCore, Typed, view, packCore, pack, soundWhole, Whole, decline, stepWhole}
 use Rattle.rules.specs.declared.Supervisor.{Supervisor}
 use Rattle.calls.specs.declared.Call as C
 use Rattle.rules.proofs.Invariant.{Sound}
@@ -20,15 +20,17 @@ use Rattle.rules.proofs.OverRuns.{step-sound}
 use Rattle.rules.proofs.WholeLaws.{whole-packed, sound-view, wholeOf, step-whole}
 
 -- the struct of a sound state is of the type
-pub typed-pack : (s : State) → Sound s → Typed (pack s)
-typed-pack s h = record {
+pub typed-core : (s : State) → Sound s → TypedCore (packCore s)
+typed-core s h = record {
   clock = h .clock;
   tasks = omega (arith, h .few, length-append (s .tasks) (replicate (31 - created s) blank), length-replicate (31 - created s) blank);
   ready = length-pad (s .ready);
-  callers = length-pad (s .callers);
   held = length-pad (s .held);
   delays = length-pad (s .delays);
 }
+
+pub typed-pack : (s : State) → Sound s → Typed (pack s)
+typed-pack s h = record { core = typed-core s h; callers = length-pad (s .callers) }
 
 -- what holds where every call is refused, and where the struct is that of a sound state and the room is enough, holds of each struct
 pub by-struct {κ} : (P : Supervisor → Type κ) (s : Supervisor) (room : ℕ) → Typed s

@@ -28,3 +28,5 @@ pub mod TimeOrder
 pub mod OrdersWhole
 pub mod AsTicks
 pub mod Advances
+pub mod Apart
+pub mod SecondLaws

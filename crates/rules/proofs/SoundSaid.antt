@@ -30,7 +30,7 @@ use Rattle.rules.proofs.Members.{of-queue, of-held, queued-good, timed-
 use Rattle.rules.proofs.Passes.{in-time}
 use Rattle.rules.proofs.SoundTest.{sound-test, sound-props}
 use Rattle.rules.proofs.Fate.{accepts-is}
-use Rattle.rules.proofs.WholeLaws.{blank-is, parts}
+use Rattle.rules.proofs.WholeLaws.{blank-is, parts, core-parts}
 
 -- ── members ──
 
@@ -219,28 +219,29 @@ unused-of (suc n) (x ∷ xs) h = unused-of n xs (λ i k. h (suc i) (omega arith)
 
 -- ── both ways ──
 
-struct-of : (s : Supervisor) → s .clock < 4294967296 → soundWhole s ≡ true → SoundStruct s
-struct-of s k e =
+struct-of : (s : Supervisor) → s .core .clock < 4294967296 → soundWhole s ≡ true → SoundStruct s
+struct-of s c e =
     let p = parts s e in
+    let k = core-parts (s .core) (p .core) in
     record {
-      few = p .few;
-      tasks = unused-at (s .created) (s .tasks) (p .blank-behind);
-      ready = tidy-at (s .ready) (p .ready);
+      few = k .few;
+      tasks = unused-at (s .core .created) (s .core .tasks) (k .blank-behind);
+      ready = tidy-at (s .core .ready) (k .ready);
       callers = tidy-at (s .callers) (p .callers);
-      held = tidy-at (s .held) (p .held);
-      delays = tidy-at (s .delays) (p .delays);
-      state = facts-of (view s) (sound-props (view s) k (p .state));
+      held = tidy-at (s .core .held) (k .held);
+      delays = tidy-at (s .core .delays) (k .delays);
+      state = facts-of (view s) (sound-props (view s) c (p .state));
     }
 
-of-struct : (s : Supervisor) → s .clock < 4294967296 → SoundStruct s → soundWhole s ≡ true
+of-struct : (s : Supervisor) → s .core .clock < 4294967296 → SoundStruct s → soundWhole s ≡ true
 of-struct s k f =
     rw (
-      le-leb (s .created) 31 (f .few),
-      unused-of (s .created) (s .tasks) (f .tasks),
-      tidy-of (s .ready) (f .ready),
+      le-leb (s .core .created) 31 (f .few),
+      unused-of (s .core .created) (s .core .tasks) (f .tasks),
+      tidy-of (s .core .ready) (f .ready),
       tidy-of (s .callers) (f .callers),
-      tidy-of (s .held) (f .held),
-      tidy-of (s .delays) (f .delays),
+      tidy-of (s .core .held) (f .held),
+      tidy-of (s .core .delays) (f .delays),
     ) (sound-test (view s) (sound-of (view s) (f .state) k))
 
 pub soundness-said : SoundnessSaid

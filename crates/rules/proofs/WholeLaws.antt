@@ -2,7 +2,7 @@
 -- Assumes nothing.
 use Prim.Native.Nat.{ℕ, zero, suc, _+_, _-_, _≤_, _<_}
 use mathlib.Core.Path.{_≡_, refl, sym, _∙_, ap}
-use mathlib.Core.Bool.{Bool, true, false, not}
+use mathlib.Core.Bool.{Bool, true, false, not, _&&_}
 use mathlib.Core.List.{List, [], _∷_, _++_}
 use native.Mathlib.Omega.{arith}
 use lib.ListN.{length, take, drop, replicate, length-drop, take-append-drop}
@@ -15,11 +15,13 @@ use Rattle.lists.specs.Lists.{bit, count, every}
 use Rattle.rules.specs.State.{State, blank, nth, created, isReady, isQueued, isHeld, hasTime}
 use Rattle.rules.specs.Sound.{sound}
 use Rattle.rules.specs.Step.{Outcome, refused, took, takeCall}
-use Rattle.rules.specs.Whole.{Typed, view, pack, isBlank, unused, packed, soundWhole, Whole, done, stepWhole}
+use Rattle.rules.specs.Whole.{TypedCore, Typed, viewCore, view, packCore, pack, isBlank, unused, packedCore, soundWhole, Whole, doneBy, stepWhole}
+use Rattle.rules.specs.Callers.{withCallers, core}
+use Rattle.rules.specs.declared.Core.{Core}
 use Rattle.rules.specs.declared.Supervisor.{Supervisor}
 use Rattle.calls.specs.declared.Call as C
 use Rattle.rules.specs.declared.Task.{Task}
-use Rattle.lists.proofs.Tests.{each, bit-le}
+use Rattle.lists.proofs.Tests.{each, and-first, and-second, bit-le}
 use Rattle.lists.proofs.ListLaws.{by-bool, every-alike, at-most}
 use Rattle.rules.proofs.Invariant.{Sound}
 use Rattle.rules.proofs.Members.{nth-beyond}
@@ -65,26 +67,29 @@ module _ (s : State) (h : Sound s) where
   pub delays-fit : length (s .delays) ≤ 31
   delays-fit = omega (arith, h .few, lined-short (s .tasks) (λ x. hasTime (x .timer)) (s .delays) refl (h .delays))
 
-pub view-pack : (s : State) → Sound s → view (pack s) ≡ s
-view-pack s h = λ i. record {
+pub view-core : (s : State) → Sound s → viewCore (packCore s) ≡ core s
+view-core s h = λ i. record {
   clock = s .clock;
   tasks = take-append-seam (s .tasks) (replicate (31 - created s) blank) i;
   ready = line-pad (s .ready) (no-zero (s .ready) (h .ready 0)) (ready-fits s h) i;
-  callers = line-pad (s .callers) (no-zero (s .callers) (h .callers 0)) (callers-fit s h) i;
+  callers = [];
   held = line-pad (s .held) (no-zero (s .held) (h .held 0)) (held-fit s h) i;
   delays = line-pad (s .delays) (no-zero (s .delays) (h .delays 0)) (delays-fit s h) i;
 }
+
+pub view-pack : (s : State) → Sound s → view (pack s) ≡ s
+view-pack s h = λ i. withCallers (view-core s h i) (line-pad (s .callers) (no-zero (s .callers) (h .callers 0)) (callers-fit s h) i)
 
 every-unused : (n : ℕ) → every unused (replicate n blank) ≡ true
 every-unused zero = refl
 every-unused (suc n) = every-unused n
 
-pub packed-pack : (s : State) → Sound s → packed (pack s) ≡ true
-packed-pack s h =
-    rw (le-leb (created s) 31 (h .few), drop-append-seam (s .tasks) (replicate (31 - created s) blank), every-unused (31 - created s), behind (s .ready) (h .ready 0), behind (s .callers) (h .callers 0), behind (s .held) (h .held 0), behind (s .delays) (h .delays 0))
-  where
-    behind : (l : List ℕ) → count 0 l ≡ 0 → tidy (pad l) ≡ true
-    behind l z = pad-tidy l (no-zero l z)
+pub behind : (l : List ℕ) → count 0 l ≡ 0 → tidy (pad l) ≡ true
+behind l z = pad-tidy l (no-zero l z)
+
+pub packed-core : (s : State) → Sound s → packedCore (packCore s) ≡ true
+packed-core s h =
+    rw (le-leb (created s) 31 (h .few), drop-append-seam (s .tasks) (replicate (31 - created s) blank), every-unused (31 - created s), behind (s .ready) (h .ready 0), behind (s .held) (h .held 0), behind (s .delays) (h .delays 0))
 
 -- ── a sound struct is the pack of what it stands for, and that is sound ──
 
@@ -117,36 +122,49 @@ tasks-packed n ts a l h =
     let m : length (drop n ts) ≡ 31 - n = length-drop n ts ∙ ap (λ (x : ℕ). x - n) l in
     sym (take-append-drop n ts) ∙ ap (λ (r : List Task). take n ts ++ r) (every-alike unused blank blank-is (drop n ts) h ∙ ap (λ (x : ℕ). replicate x blank) (m ∙ ap (λ (x : ℕ). 31 - x) (sym k)))
 
+-- the parts of the test of a core
+pub record CoreParts (k : Core) : Type 0 where
+  pub few : k .created ≤ 31
+  pub blank-behind : every unused (drop (k .created) (k .tasks)) ≡ true
+  pub ready : tidy (k .ready) ≡ true
+  pub held : tidy (k .held) ≡ true
+  pub delays : tidy (k .delays) ≡ true
+
+pub core-parts : (k : Core) → packedCore k ≡ true → CoreParts k
+core-parts k e =
+    let p = each (leb (k .created) 31) (every unused (drop (k .created) (k .tasks)) ∷ tidy (k .ready) ∷ tidy (k .held) ∷ tidy (k .delays) ∷ []) e in
+    record { few = leb-true (k .created) 31 (p 0); blank-behind = p 1; ready = p 2; held = p 3; delays = p 4 }
+
+-- a core whose unused places are blank is that of what it stands for
+pub core-packed : (k : Core) → TypedCore k → packedCore k ≡ true → k ≡ packCore (viewCore k)
+core-packed k t e =
+    let p = core-parts k e in
+    λ i. record {
+      clock = k .clock;
+      created = sym (length-take-le (k .created) (k .tasks) (omega (arith, p .few, t .tasks))) i;
+      tasks = tasks-packed (k .created) (k .tasks) (p .few) (t .tasks) (p .blank-behind) i;
+      ready = tidy-pad (k .ready) (t .ready) (p .ready) i;
+      held = tidy-pad (k .held) (t .held) (p .held) i;
+      delays = tidy-pad (k .delays) (t .delays) (p .delays) i;
+    }
+
 -- the parts of the test of a struct that is sound
 pub record Parts (s : Supervisor) : Type 0 where
-  pub few : s .created ≤ 31
-  pub blank-behind : every unused (drop (s .created) (s .tasks)) ≡ true
-  pub ready : tidy (s .ready) ≡ true
+  pub core : packedCore (s .core) ≡ true
   pub callers : tidy (s .callers) ≡ true
-  pub held : tidy (s .held) ≡ true
-  pub delays : tidy (s .delays) ≡ true
   pub state : sound (view s) ≡ true
 
 pub parts : (s : Supervisor) → soundWhole s ≡ true → Parts s
 parts s e =
-    let p = each (leb (s .created) 31) (every unused (drop (s .created) (s .tasks)) ∷ tidy (s .ready) ∷ tidy (s .callers) ∷ tidy (s .held) ∷ tidy (s .delays) ∷ sound (view s) ∷ []) e in
-    record { few = leb-true (s .created) 31 (p 0); blank-behind = p 1; ready = p 2; callers = p 3; held = p 4; delays = p 5; state = p 6 }
+    let a = and-first (packedCore (s .core) && tidy (s .callers)) (sound (view s)) e in
+    record { core = and-first (packedCore (s .core)) (tidy (s .callers)) a; callers = and-second (packedCore (s .core)) (tidy (s .callers)) a; state = and-second (packedCore (s .core) && tidy (s .callers)) (sound (view s)) e }
 
 pub whole-packed : (s : Supervisor) → Typed s → soundWhole s ≡ true → s ≡ pack (view s)
 whole-packed s t e =
-    let p = parts s e in
-    λ i. record {
-      clock = s .clock;
-      created = sym (length-take-le (s .created) (s .tasks) (omega (arith, p .few, t .tasks))) i;
-      tasks = tasks-packed (s .created) (s .tasks) (p .few) (t .tasks) (p .blank-behind) i;
-      ready = tidy-pad (s .ready) (t .ready) (p .ready) i;
-      callers = tidy-pad (s .callers) (t .callers) (p .callers) i;
-      held = tidy-pad (s .held) (t .held) (p .held) i;
-      delays = tidy-pad (s .delays) (t .delays) (p .delays) i;
-    }
+    let p = parts s e in λ i. record { core = core-packed (s .core) (t .core) (p .core) i; callers = tidy-pad (s .callers) (t .callers) (p .callers) i }
 
 pub sound-view : (s : Supervisor) → Typed s → soundWhole s ≡ true → Sound (view s)
-sound-view s t e = sound-props (view s) (t .clock) (parts s e .state)
+sound-view s t e = sound-props (view s) (t .core .clock) (parts s e .state)
 
 -- the step of the rules, with its state in the code's struct
 abbrev pub wholeOf : Given → Whole
@@ -157,10 +175,10 @@ unfolding stepWhole
 step-whole s c room h =
     by-bool (ltb room 124)
     (λ e. rw e)
-    (λ e. rw (e, packed-pack s h, view-pack s h, sound-test s h) (go (takeCall s c)))
+    (λ e. rw (e, packed-core s h, behind (s .callers) (h .callers 0), view-pack s h, sound-test s h) (go (takeCall s c)))
   where
-    go : (o : Outcome) → done (pack s) o ≡ wholeOf (stepped s o)
-    go (refused r) = rw (view-pack s h)
+    go : (o : Outcome) → doneBy pack (pack s) s o ≡ wholeOf (stepped s o)
+    go (refused r) = refl
     go (took t a l) = refl
 
 -- ── runs ──
@@ -194,4 +212,4 @@ reach-whole (a ∷ rest) s h =
     ap (λ (t : Supervisor). reachWhole t rest) (state-whole s a h) ∙ reach-whole rest (entry s a .out .state) (step-sound s a h)
 
 pub sound-pack : (s : State) → Sound s → soundWhole (pack s) ≡ true
-sound-pack s h = rw (packed-pack s h, view-pack s h) (sound-test s h)
+sound-pack s h = rw (packed-core s h, behind (s .callers) (h .callers 0), view-pack s h) (sound-test s h)

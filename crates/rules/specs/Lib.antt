@@ -6,6 +6,8 @@ pub mod State
 pub mod Sound
 -- each call: results, refusals, the next state, the ended waits; the lent room
 pub mod Step
+-- the callers apart from the rest of a state
+pub mod Callers
 -- the struct that the code works on, and the whole step on it: what the contract of `step` cites
 pub mod Whole
 -- COUNT and CALLABLE
@@ -24,3 +26,5 @@ pub mod Orders
 pub mod Advance
 -- the same log, read off what the code's `step` answered and wrote
 pub mod Uses
+-- the second engine, and that it answers as the first does
+pub mod Second

@@ -91,15 +91,15 @@ BlankBehind a = (i : ℕ) → length (line a) ≤ i → getD a i 0 ≡ 0
 
 -- the struct: at most 31 tasks created, all unused places blank, and the state that it stands for is sound
 pub record SoundStruct (s : Supervisor) : Type 0 where
-  pub few : s .created ≤ 31
-  pub tasks : (i : ℕ) → s .created ≤ i → getD (s .tasks) i blank ≡ blank
-  pub ready : BlankBehind (s .ready)
+  pub few : s .core .created ≤ 31
+  pub tasks : (i : ℕ) → s .core .created ≤ i → getD (s .core .tasks) i blank ≡ blank
+  pub ready : BlankBehind (s .core .ready)
   pub callers : BlankBehind (s .callers)
-  pub held : BlankBehind (s .held)
-  pub delays : BlankBehind (s .delays)
+  pub held : BlankBehind (s .core .held)
+  pub delays : BlankBehind (s .core .delays)
   pub state : SoundFacts (view s)
 
 -- the tests pass exactly where the facts hold (a clock reads 0..4294967295: it is a 32-bit word)
 pub record SoundnessSaid : Type 0 where
   pub of-state : (s : State) → s .clock < 4294967296 → (sound s ≡ true) ↔ SoundFacts s
-  pub of-struct : (s : Supervisor) → s .clock < 4294967296 → (soundWhole s ≡ true) ↔ SoundStruct s
+  pub of-struct : (s : Supervisor) → s .core .clock < 4294967296 → (soundWhole s ≡ true) ↔ SoundStruct s

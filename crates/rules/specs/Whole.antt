@@ -17,41 +17,53 @@ use Rattle.calls.specs.declared.Call as C
 use Rattle.rules.specs.declared.Task.{Task}
 use Rattle.rules.specs.declared.Place.{Place}
 use Rattle.rules.specs.declared.Place.the-variants.{Blank, Ready, Delayed, Queued, Held, Accepting, Completed}
+use Rattle.rules.specs.Callers.{withCallers}
+use Rattle.rules.specs.declared.Core.{Core}
 use Rattle.rules.specs.declared.Supervisor.{Supervisor}
 use Rattle.rules.specs.declared.Answer.{Answer}
 use Rattle.rules.specs.declared.Stepped.{Stepped}
 
 -- what the type of the struct says of a value: a clock of 32 bits, arrays of 31; nothing else is ever asked of a struct
+pub record TypedCore (k : Core) : Type 0 where
+  pub clock : k .clock < 4294967296
+  pub tasks : length (k .tasks) ≡ 31
+  pub ready : length (k .ready) ≡ 31
+  pub held : length (k .held) ≡ 31
+  pub delays : length (k .delays) ≡ 31
+
 pub record Typed (s : Supervisor) : Type 0 where
-  pub clock : s .clock < 4294967296
-  pub tasks : length (s .tasks) ≡ 31
-  pub ready : length (s .ready) ≡ 31
+  pub core : TypedCore (s .core)
   pub callers : length (s .callers) ≡ 31
-  pub held : length (s .held) ≡ 31
-  pub delays : length (s .delays) ≡ 31
+
+-- the state that a core stands for: one with no callers
+abbrev pub viewCore : Core → State
+viewCore k = record {
+  clock = k .clock;
+  tasks = take (k .created) (k .tasks);
+  ready = line (k .ready);
+  callers = [];
+  held = line (k .held);
+  delays = line (k .delays);
+}
 
 -- the state that a struct stands for
 abbrev pub view : Supervisor → State
-view s = record {
-  clock = s .clock;
-  tasks = take (s .created) (s .tasks);
-  ready = line (s .ready);
-  callers = line (s .callers);
-  held = line (s .held);
-  delays = line (s .delays);
-}
+view s = withCallers (viewCore (s .core)) (line (s .callers))
 
--- the struct that stands for a state: blank behind the tasks, 0 behind the numbers of each line
-abbrev pub pack : State → Supervisor
-pack s = record {
+-- the core of the struct that stands for a state: blank behind the tasks, 0 behind the numbers of each line
+abbrev pub packCore : State → Core
+packCore s = record {
   clock = s .clock;
   created = created s;
   tasks = s .tasks ++ replicate (31 - created s) blank;
   ready = pad (s .ready);
-  callers = pad (s .callers);
   held = pad (s .held);
   delays = pad (s .delays);
 }
+
+-- the struct that stands for a state
+abbrev pub pack : State → Supervisor
+pack s = record { core = packCore s; callers = pad (s .callers) }
 
 -- ── all unused places are blank ──
 
@@ -70,42 +82,51 @@ abbrev pub unused : Task → Bool
 unused t = eqb (t .priority) 0 && eqb (t .entries) 0 && isBlank (t .place) && not (hasTime (t .timer))
 
 -- at most 31 tasks created, and all unused places blank
-abbrev pub packed : Supervisor → Bool
-packed s =
-    leb (s .created) 31 && every unused (drop (s .created) (s .tasks)) && tidy (s .ready) && tidy (s .callers) && tidy (s .held) && tidy (s .delays)
+abbrev pub packedCore : Core → Bool
+packedCore k = leb (k .created) 31 && every unused (drop (k .created) (k .tasks)) && tidy (k .ready) && tidy (k .held) && tidy (k .delays)
 
 -- the struct is sound: unused places blank, and the state that it stands for is sound
 abbrev pub soundWhole : Supervisor → Bool
-soundWhole s = packed s && sound (view s)
+soundWhole s = packedCore (s .core) && tidy (s .callers) && sound (view s)
 
 -- ── the step of the code ──
 
 -- a refusal (0 if none), the answer, the ended waits, the dispatched task, and the struct afterwards
-pub record Whole : Type 0 where
+pub record StepOf (S : Type 0) : Type 0 where
   pub refusal : ℕ
   pub answer : Item
   pub ended : List Item
   pub next : ℕ
-  pub state : Supervisor
+  pub state : S
 
 -- a refused step: the struct as it was, no ended waits, and 0 in all other numbers but the dispatched task n
-abbrev pub decline : Supervisor → Refusal → ℕ → Whole
+abbrev pub decline : {S : Type 0} → S → Refusal → ℕ → StepOf S
 decline s r n = record { refusal = number r; answer = none; ended = []; next = n; state = s }
 
--- a call as it was taken or refused, with the dispatched task afterwards
-abbrev pub done : Supervisor → Outcome → Whole
-done s (refused r) = decline s r (running (view s))
-done s (took st a l) = record { refusal = 0; answer = a; ended = l; next = running st; state = pack st }
+-- a call as it was taken or refused, with the dispatched task afterwards; s stands for v, and `pack` keeps a state
+abbrev pub doneBy : {S : Type 0} → (State → S) → S → State → Outcome → StepOf S
+doneBy pack s v (refused r) = decline s r (running v)
+doneBy pack s v (took st a l) = record { refusal = 0; answer = a; ended = l; next = running st; state = pack st }
 
--- the whole step, with a room of so many bytes: SHORT_ROOM first, then BAD_STATE, then what the call itself gives
-unfoldable pub stepWhole : Supervisor → C.Call → ℕ → Whole
-stepWhole s c room =
+-- the whole step of an engine, with a room of so many bytes: SHORT_ROOM first, then BAD_STATE by its own rule, then what the call itself gives
+abbrev pub stepBy : {S : Type 0} → (State → S) → Bool → S → State → C.Call → ℕ → StepOf S
+stepBy pack isSound s v c room =
     if ltb room 124 then decline s SHORT-ROOM 0
-    else if not (soundWhole s) then decline s BAD-STATE 0
-    else done s (takeCall (view s) c)
+    else if not isSound then decline s BAD-STATE 0
+    else doneBy pack s v (takeCall v c)
+
+-- of the first engine
+abbrev pub Whole : Type 0
+Whole = StepOf Supervisor
+
+abbrev pub done : Supervisor → Outcome → Whole
+done s o = doneBy pack s (view s) o
+
+unfoldable pub stepWhole : Supervisor → C.Call → ℕ → Whole
+stepWhole s c room = stepBy pack (soundWhole s) s (view s) c room
 
 -- the answer's seven numbers
-abbrev pub answerOf : Whole → Answer
+abbrev pub answerOf : {S : Type 0} → StepOf S → Answer
 answerOf w = record {
   refusal = w .refusal;
   result = w .answer .result;

@@ -40,14 +40,31 @@ pub struct Task {
     pub timer: Timer,
 }
 
-pub struct Supervisor {
+// All of a state but its callers: what both engines have.
+pub struct Core {
     pub clock: u32,
     pub created: u8,
     pub tasks: [Task; 31],
     pub ready: [u8; 31],
-    pub callers: [u8; 31],
     pub held: [u8; 31],
     pub delays: [u8; 31],
+}
+
+// The first engine: all callers in one line.
+pub struct Supervisor {
+    pub core: Core,
+    pub callers: [u8; 31],
+}
+
+// The calls to one task, whatever the entry.
+pub struct Row {
+    pub line: [u8; 31],
+}
+
+// The second engine: a queue of callers for each task.
+pub struct Second {
+    pub core: Core,
+    pub rows: [Row; 31],
 }
 
 // Task, result, entry, partner: an ended wait, and the same four numbers of an answer.
@@ -73,6 +90,12 @@ pub struct Answer {
 // What a step gives: the state afterwards, and the answer.
 pub struct Stepped {
     pub state: Supervisor,
+    pub answer: Answer,
+}
+
+// What a step of the second engine gives.
+pub struct SecondStepped {
+    pub state: Second,
     pub answer: Answer,
 }
 

@@ -99,7 +99,7 @@ fn refused(
         };
     }
     let k = supervisor::running(s.state);
-    let answer = supervisor::refused_answer(n, k.task);
+    let answer = steps::answers::refused_answer(n, k.task);
     let place = put_line(s.step, answer, room, out, at);
     Turned {
         session: s,

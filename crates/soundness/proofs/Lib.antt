@@ -3,4 +3,5 @@ mod TaskLaws
 mod Turns
 mod LineLaws
 mod WholeLaws
+mod RowLaws
 pub mod Unique

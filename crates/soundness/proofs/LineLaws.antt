@@ -12,8 +12,8 @@ use Rattle.lists.specs.Lists.{if_then_else_, bit, count, every, downFrom}
 use Rattle.lists.proofs.ListLaws.{by-bool, by-eq, clash, every-of, down-at}
 use Rattle.lists.proofs.Tests.{and-first, between}
 use Rattle.rules.specs.State.{taskOf}
-use Rattle.rules.specs.Whole.{view}
-use Rattle.rules.specs.declared.Supervisor.{Supervisor}
+use Rattle.rules.specs.Whole.{viewCore}
+use Rattle.rules.specs.declared.Core.{Core}
 use Rattle.soundness.specs.Marks.{Marks, Whole, noMarks, hasMark, nextMark, withoutMark, isNone}
 use Rattle.soundness.specs.Check.{Line, Ready, Callers, Held, Delays, belongs, marked, markedIn, walked, holdsIn, anyOrder}
 use Rattle.soundness.proofs.TaskLaws.{named, named-is}
@@ -22,9 +22,9 @@ use Rattle.soundness.proofs.MarkLaws.{next-whole, next-low, below, with
 -- ── what the rules ask of a line ──
 
 -- where the code keeps the line
-abbrev pub arrayOf : Supervisor → Line → List ℕ
+abbrev pub arrayOf : Core → Line → List ℕ
 arrayOf s Ready = s .ready
-arrayOf s Callers = s .callers
+arrayOf s Callers = []
 arrayOf s Held = s .held
 arrayOf s Delays = s .delays
 
@@ -33,8 +33,8 @@ unfoldable pub lineHas : ℕ → (ℕ → Bool) → List ℕ → Bool
 lineHas n f a = (tidy a && every (named n) (line a)) && every (λ t. eqb (count t (line a)) (bit (f t))) (downFrom n)
 
 -- the line holds the created tasks that stand in it, each once, and nothing else
-abbrev pub standsIn : Supervisor → Line → Bool
-standsIn s l = lineHas (s .created) (λ t. belongs l (taskOf (view s) t)) (arrayOf s l)
+abbrev pub standsIn : Core → Line → Bool
+standsIn s l = lineHas (s .created) (λ t. belongs l (taskOf (viewCore s) t)) (arrayOf s l)
 
 -- a is at most the first key, and each key at most the next
 abbrev pub ascending : (ℕ → ℕ) → ℕ → List ℕ → Bool
@@ -84,7 +84,7 @@ has-wanted f n (suc t) h =
 -- ── who is met ──
 
 -- each in the list is still to be met as the walk comes to it, and at the end none is
-abbrev emptied : Marks → List ℕ → Bool
+abbrev pub emptied : Marks → List ℕ → Bool
 emptied m [] = isNone m
 emptied m (x ∷ xs) = hasMark m x && emptied (withoutMark m x) xs
 
@@ -182,11 +182,25 @@ line-is n f a l =
     passing : (t : ℕ) → 0 < t → t ≤ n → hasMark (wanted f n) t ≡ f t
     passing t p q = has-wanted f n t l ∙ ap (λ (b : Bool). b && f t) (named-is n t p q)
 
+-- where each of a list is met in its turn, and none is left, it has each of 1..n once that passes the test, and nothing else
+pub emptied-wanted : (n : ℕ) (f : ℕ → Bool) (l : List ℕ) → n ≤ 31 → emptied (nextMark (marked f noMarks (downFrom n)) false) l ≡ (every (named n) l && every (λ t. eqb (count t l) (bit (f t))) (downFrom n))
+emptied-wanted n f l h =
+    emptied-is n (wanted f n) l h (next-whole _ false) (λ t e. and-first (named n t) (f t) (sym (has-wanted f n t h) ∙ e))
+    ∙ ap (λ (b : Bool). every (named n) l && b)
+    (every-same _ _ n (λ t p q. ap (λ (b : Bool). eqb (count t l) (bit b)) (has-wanted f n t h ∙ ap (λ (b : Bool). b && f t) (named-is n t p q))))
+
+-- the same of any array and any test
+pub holds-any : (n : ℕ) (f : ℕ → Bool) (a : List ℕ) → n ≤ 31 → holdsIn anyOrder (marked f noMarks (downFrom n)) a ≡ lineHas n f a
+holds-any n f a h =
+    walked-is anyOrder (nextMark (marked f noMarks (downFrom n)) false) 0 a
+    ∙ ap (λ (b : Bool). b && ascending anyOrder 0 (line a)) (line-is n f a h)
+    ∙ ap (λ (b : Bool). lineHas n f a && b) (in-any-order (line a)) ∙ and-true (lineHas n f a)
+
 -- what the walk of line l tells: the line holds its tasks, and their keys are in order
-pub holds-is : (s : Supervisor) (l : Line) (k : ℕ → ℕ) → s .created ≤ 31 → holdsIn k (markedIn s l) (arrayOf s l) ≡ (standsIn s l && ascending k 0 (line (arrayOf s l)))
+pub holds-is : (s : Core) (l : Line) (k : ℕ → ℕ) → s .created ≤ 31 → holdsIn k (markedIn s l) (arrayOf s l) ≡ (standsIn s l && ascending k 0 (line (arrayOf s l)))
 holds-is s l k h =
     walked-is k (nextMark (markedIn s l) false) 0 (arrayOf s l)
-    ∙ ap (λ (b : Bool). b && ascending k 0 (line (arrayOf s l))) (line-is (s .created) (λ t. belongs l (taskOf (view s) t)) (arrayOf s l) h)
+    ∙ ap (λ (b : Bool). b && ascending k 0 (line (arrayOf s l))) (line-is (s .created) (λ t. belongs l (taskOf (viewCore s) t)) (arrayOf s l) h)
 
-pub stands-is : (s : Supervisor) (l : Line) → s .created ≤ 31 → holdsIn anyOrder (markedIn s l) (arrayOf s l) ≡ standsIn s l
+pub stands-is : (s : Core) (l : Line) → s .created ≤ 31 → holdsIn anyOrder (markedIn s l) (arrayOf s l) ≡ standsIn s l
 stands-is s l h = rw (in-any-order (line (arrayOf s l))) at (holds-is s l anyOrder h) ∙ and-true (standsIn s l)

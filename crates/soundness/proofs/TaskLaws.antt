@@ -12,8 +12,8 @@ use Rattle.lists.proofs.ListLaws.{by-bool, clash}
 use Rattle.lists.proofs.Tests.{between}
 use Rattle.rules.specs.State.{blank, taskOf, partnerOf, left}
 use Rattle.rules.specs.Sound.{timeInRange, goodTask}
-use Rattle.rules.specs.Whole.{view, isBlank}
-use Rattle.rules.specs.declared.Supervisor.{Supervisor}
+use Rattle.rules.specs.Whole.{viewCore, isBlank}
+use Rattle.rules.specs.declared.Core.{Core}
 use Rattle.rules.specs.declared.Task.{Task}
 use Rattle.rules.specs.declared.Place.{Place}
 use Rattle.rules.specs.declared.Timer.the-variants.{Due}
@@ -40,10 +40,10 @@ pub named-is : (n t : ℕ) → 0 < t → t ≤ n → named n t ≡ true
 named-is n t a b = rw (lt-ltb 0 t a, le-leb t n b)
 
 -- the task of the number u, where one has it, and where none has
-pub called-one : (s : Supervisor) (u : ℕ) → named (s .created) u ≡ true → getD (s .tasks) (u - 1) blank ≡ taskOf (view s) u
+pub called-one : (s : Core) (u : ℕ) → named (s .created) u ≡ true → getD (s .tasks) (u - 1) blank ≡ taskOf (viewCore s) u
 called-one s u e = let r = between u (s .created) e in task-in (s .tasks) (s .created) u (λ z. omega arith) (r .1)
 
-pub called-none : (s : Supervisor) (u : ℕ) → named (s .created) u ≡ false → blank ≡ taskOf (view s) u
+pub called-none : (s : Core) (u : ℕ) → named (s .created) u ≡ false → blank ≡ taskOf (viewCore s) u
 called-none s u e =
     by-bool (leb u (s .created))
     (λ q. by-bool (ltb 0 u)
@@ -51,8 +51,8 @@ called-none s u e =
     (λ p. let z : u ≡ 0 = omega (arith, ltb-false 0 u p) in rw z))
     (λ q. task-past (s .tasks) (s .created) u (leb-false u (s .created) q))
 
--- what the code finds good is good in the rules' view: x is task t, and g the task that it has called
-pub good-is : (s : Supervisor) (t u : ℕ) (x g : Task) (r : Bool) → x ≡ taskOf (view s) t → u ≡ partnerOf (x .place) → g ≡ taskOf (view s) u → r ≡ goodTask (s .clock) x g → r ≡ goodIn (view s) t
+-- what the code finds good is good in the rules' viewCore: x is task t, and g the task that it has called
+pub good-is : (s : Core) (t u : ℕ) (x g : Task) (r : Bool) → x ≡ taskOf (viewCore s) t → u ≡ partnerOf (x .place) → g ≡ taskOf (viewCore s) u → r ≡ goodTask (s .clock) x g → r ≡ goodIn (viewCore s) t
 good-is s t u x g r ex eu eg er =
-    let ep : taskOf (view s) u ≡ taskOf (view s) (partnerOf (taskOf (view s) t .place)) = ap (taskOf (view s)) (eu ∙ ap (λ (y : Task). partnerOf (y .place)) ex) in
+    let ep : taskOf (viewCore s) u ≡ taskOf (viewCore s) (partnerOf (taskOf (viewCore s) t .place)) = ap (taskOf (viewCore s)) (eu ∙ ap (λ (y : Task). partnerOf (y .place)) ex) in
     er ∙ (λ z. goodTask (s .clock) (ex z) ((eg ∙ ep) z))

@@ -12,15 +12,18 @@ use borrow.Author.Tests.{le-leb, lt-leb, leb-true}
 use Rattle.lists.specs.Line.{line, tidy}
 use Rattle.lists.specs.Lists.{bit, count, every, inOrder, downFrom}
 use Rattle.lists.proofs.ListLaws.{by-bool, clash}
-use Rattle.rules.specs.State.{created, isTask, taskOf}
+use Rattle.rules.specs.State.{State, created, isTask, taskOf}
 use Rattle.rules.specs.Sound.{standsRight, sound}
-use Rattle.rules.specs.Whole.{view, unused, soundWhole}
+use Rattle.rules.specs.Callers.{withCallers}
+use Rattle.rules.specs.Whole.{viewCore, unused, packedCore, soundWhole}
 use Rattle.rules.specs.declared.Supervisor.{Supervisor}
+use Rattle.soundness.specs.declared.Checked.{Checked}
+use Rattle.rules.specs.declared.Core.{Core}
 use Rattle.table.specs.Moved.{leftOf}
 use Rattle.soundness.specs.declared.Told.{Told}
-use Rattle.soundness.specs.Check.{Line, Ready, Callers, Held, Delays, goodIn, belongs, toldOf, holdsIn, anyOrder}
+use Rattle.soundness.specs.Check.{Line, Ready, Callers, Held, Delays, goodIn, belongs, markedIn, toldOf, checkedOf, holdsIn, anyOrder}
 use Rattle.soundness.proofs.TaskLaws.{named}
-use Rattle.soundness.proofs.LineLaws.{arrayOf, lineHas, ascending, holds-is, stands-is}
+use Rattle.soundness.proofs.LineLaws.{lineHas, ascending, holds-any, holds-is, stands-is}
 
 -- ── order: each at most the next is each at most all behind ──
 
@@ -67,18 +70,18 @@ every-both f g (x ∷ xs) =
     let ih = every-both f g xs in
     by-bool (f x) (λ e. by-bool (g x) (λ y. rw (e, y, ih)) (λ y. rw (e, y) (sym (and-false (every f xs))))) (λ e. rw e)
 
--- task t stands in the line as often as it should
-abbrev right : Supervisor → Line → ℕ → Bool
-right s l t = eqb (count t (line (arrayOf s l))) (bit (belongs l (taskOf (view s) t)))
+-- task t stands in a list as often as it should
+abbrev right : State → Line → List ℕ → ℕ → Bool
+right v l a t = eqb (count t a) (bit (belongs l (taskOf v t)))
 
 -- all that the rules ask of a task, of all tasks: first that each is good, then line by line
-stand-is : (s : Supervisor) (d : List ℕ)
-    → every (standsRight (view s)) d ≡ ((((every (goodIn (view s)) d && every (right s Ready) d) && every (right s Callers) d) && every (right s Held) d) && every (right s Delays) d)
-stand-is s d =
-    every-both (λ t. (((goodIn (view s) t && right s Ready t) && right s Callers t) && right s Held t)) (right s Delays) d
-    ∙ ap (λ (b : Bool). b && every (right s Delays) d) (every-both (λ t. ((goodIn (view s) t && right s Ready t) && right s Callers t)) (right s Held) d
-    ∙ ap (λ (b : Bool). b && every (right s Held) d) (every-both (λ t. goodIn (view s) t && right s Ready t) (right s Callers) d
-    ∙ ap (λ (b : Bool). b && every (right s Callers) d) (every-both (goodIn (view s)) (right s Ready) d)))
+stand-is : (v : State) (d : List ℕ)
+    → every (standsRight v) d ≡ ((((every (goodIn v) d && every (right v Ready (v .ready)) d) && every (right v Callers (v .callers)) d) && every (right v Held (v .held)) d) && every (right v Delays (v .delays)) d)
+stand-is v d =
+    every-both (λ t. (((goodIn v t && right v Ready (v .ready) t) && right v Callers (v .callers) t) && right v Held (v .held) t)) (right v Delays (v .delays)) d
+    ∙ ap (λ (b : Bool). b && every (right v Delays (v .delays)) d) (every-both (λ t. ((goodIn v t && right v Ready (v .ready) t) && right v Callers (v .callers) t)) (right v Held (v .held)) d
+    ∙ ap (λ (b : Bool). b && every (right v Held (v .held)) d) (every-both (λ t. goodIn v t && right v Ready (v .ready) t) (right v Callers (v .callers)) d
+    ∙ ap (λ (b : Bool). b && every (right v Callers (v .callers)) d) (every-both (goodIn v) (right v Ready (v .ready)) d)))
 
 -- ── the whole ──
 
@@ -87,33 +90,55 @@ and-swap : (a b c : Bool) → (a && (b && c)) ≡ (b && (a && c))
 and-swap true b c = refl
 and-swap false b c = sym (and-false b)
 
--- the same fourteen tests and the order, in the code's grouping and in the rules'
-regroup : (u t1 t2 t3 t4 g c1 c2 c3 c4 n1 n2 n3 n4 o : Bool)
-    → (((u && g) && ((((t1 && n1) && c1) && ((t2 && n2) && c2)) && ((t3 && n3) && c3))) && (((t4 && n4) && c4) && o))
-    ≡ (((((u && t1) && t2) && t3) && t4) && ((((((g && c1) && c2) && c3) && c4) && (((n1 && n2) && n3) && n4)) && o))
-regroup u t1 t2 t3 t4 g c1 c2 c3 c4 n1 n2 n3 n4 o = simp (and-assoc, and-comm, and-swap)
+-- the same tests and the order, in the code's grouping and in the rules'; t is what else is asked of the callers' own arrays
+regroup : (u t1 t t3 t4 g c1 c2 c3 c4 n1 n2 n3 n4 o : Bool)
+    → ((((u && g) && (((t1 && n1) && c1) && ((t3 && n3) && c3))) && (((t4 && n4) && c4) && o)) && ((t && n2) && c2))
+    ≡ (((((u && t1) && t3) && t4) && t) && ((((((g && c1) && c2) && c3) && c4) && (((n1 && n2) && n3) && n4)) && o))
+regroup u t1 t t3 t4 g c1 c2 c3 c4 n1 n2 n3 n4 o = simp (and-assoc, and-comm, and-swap)
 
-pub unsound-many : (s : Supervisor) → 31 < s .created → false ≡ soundWhole s
-unsound-many s h = rw (lt-leb (s .created) 31 h)
+-- what is asked of the callers of a core: each of the list is a task, and each task stands in it as often as it should
+abbrev pub callersRight : Core → List ℕ → Bool → Bool
+callersRight s l t = (t && every (named (s .created)) l) && every (right (viewCore s) Callers l) (downFrom (s .created))
 
--- what the code finds, of the table and of each line
-pub sound-is : (s : Supervisor) (told : Told) (u l d : Bool) → s .created ≤ 31 → length (s .tasks) ≡ 31 → told ≡ toldOf s → u ≡ every unused (drop (s .created) (s .tasks))
-    → l ≡ ((holdsIn anyOrder (told .ready) (s .ready) && holdsIn anyOrder (told .callers) (s .callers)) && holdsIn anyOrder (told .held) (s .held))
-    → d ≡ holdsIn (leftOf s) (told .delays) (s .delays) → (((u && told .good) && l) && d) ≡ soundWhole s
+-- the check of a core, beside what is asked of the callers, is soundness with these callers
+pub core-is : (s : Core) (l : List ℕ) (t : Bool) → length (s .tasks) ≡ 31 → (checkedOf s .good && callersRight s l t) ≡ ((packedCore s && t) && sound (withCallers (viewCore s) l))
 unfolding sound lineHas
-sound-is s told u l d h k et eu el ed =
-    let n : created (view s) ≡ s .created = length-take-le (s .created) (s .tasks) (omega arith) in
-    let f : ℕ → Bool = named (s .created) in
-    let a = line (s .ready) in let c = line (s .callers) in let d = line (s .held) in let w = line (s .delays) in
-    let all : every (isTask (view s)) (((a ++ c) ++ d) ++ w) ≡ (((every f a && every f c) && every f d) && every f w) =
-    ap (λ (m : ℕ). every (named m) (((a ++ c) ++ d) ++ w)) n
-    ∙ every-append f ((a ++ c) ++ d) w ∙ ap (λ (b : Bool). b && every f w) (every-append f (a ++ c) d ∙ ap (λ (b : Bool). b && every f d) (every-append f a c)) in
-    let t = downFrom (s .created) in
-    let stand = ap (λ (m : ℕ). every (standsRight (view s)) (downFrom m)) n ∙ stand-is s t in
-    let order = sym (order-whole (leftOf s) w) in
-    let p = le-leb (s .created) 31 h in
-    let q : leb (created (view s)) 31 ≡ true = le-leb (created (view s)) 31 (omega arith) in
-    rw (eu, el, ed, et, stands-is s Ready h, stands-is s Callers h, stands-is s Held h, holds-is s Delays (leftOf s) h, p, q, stand, all, order)
-    (regroup (every unused (drop (s .created) (s .tasks))) (tidy (s .ready)) (tidy (s .callers)) (tidy (s .held)) (tidy (s .delays))
-    (every (goodIn (view s)) t) (every (right s Ready) t) (every (right s Callers) t) (every (right s Held) t) (every (right s Delays) t)
-    (every f a) (every f c) (every f d) (every f w) (ascending (leftOf s) 0 w))
+core-is s l t k = by-bool (leb (s .created) 31) fits (λ e. rw e)
+  where
+    fits : leb (s .created) 31 ≡ true → (checkedOf s .good && callersRight s l t) ≡ ((packedCore s && t) && sound (withCallers (viewCore s) l))
+    fits p =
+        let h : s .created ≤ 31 = leb-true (s .created) 31 p in
+        let v = withCallers (viewCore s) l in
+        let n : created v ≡ s .created = length-take-le (s .created) (s .tasks) (omega arith) in
+        let f : ℕ → Bool = named (s .created) in
+        let a = line (s .ready) in let d = line (s .held) in let w = line (s .delays) in
+        let all : every (isTask v) (((a ++ l) ++ d) ++ w) ≡ (((every f a && every f l) && every f d) && every f w) =
+        ap (λ (m : ℕ). every (named m) (((a ++ l) ++ d) ++ w)) n
+        ∙ every-append f ((a ++ l) ++ d) w ∙ ap (λ (b : Bool). b && every f w) (every-append f (a ++ l) d ∙ ap (λ (b : Bool). b && every f d) (every-append f a l)) in
+        let z = downFrom (s .created) in
+        let stand = ap (λ (m : ℕ). every (standsRight v) (downFrom m)) n ∙ stand-is v z in
+        let order = sym (order-whole (leftOf s) w) in
+        let q : leb (created v) 31 ≡ true = le-leb (created v) 31 (omega arith) in
+        rw (p, stands-is s Ready h, stands-is s Held h, holds-is s Delays (leftOf s) h, q, stand, all, order)
+        (regroup (every unused (drop (s .created) (s .tasks))) (tidy (s .ready)) t (tidy (s .held)) (tidy (s .delays))
+        (every (goodIn v) z) (every (right v Ready a) z) (every (right v Callers l) z) (every (right v Held d) z) (every (right v Delays w) z)
+        (every f a) (every f l) (every f d) (every f w) (ascending (leftOf s) 0 w))
+
+-- what the code finds of a core
+pub checked-is : (s : Core) (told : Told) (u l d : Bool) → s .created ≤ 31 → told ≡ toldOf s → u ≡ every unused (drop (s .created) (s .tasks))
+    → l ≡ (holdsIn anyOrder (told .ready) (s .ready) && holdsIn anyOrder (told .held) (s .held)) → d ≡ holdsIn (leftOf s) (told .delays) (s .delays)
+    → _≡_ {A = Checked} (record { good = ((u && told .good) && l) && d; callers = told .callers }) (checkedOf s)
+checked-is s told u l d h et eu el ed = rw (le-leb (s .created) 31 h, eu, el, ed, et)
+
+-- what the code finds, of the core and of the line of callers
+pub sound-is : (s : Supervisor) (c : Checked) (b : Bool) → length (s .core .tasks) ≡ 31 → c ≡ checkedOf (s .core) → b ≡ holdsIn anyOrder (c .callers) (s .callers) → (c .good && b) ≡ soundWhole s
+unfolding lineHas
+sound-is s c b k ec eb =
+    by-bool (leb (s .core .created) 31)
+    (λ p.
+    let h : s .core .created ≤ 31 = leb-true (s .core .created) 31 p in
+    let m : c .callers ≡ markedIn (s .core) Callers = ap (λ (x : Checked). x .callers) ec ∙ rw p in
+    let f : ℕ → Bool = λ t. belongs Callers (taskOf (viewCore (s .core)) t) in
+    let q : b ≡ callersRight (s .core) (line (s .callers)) (tidy (s .callers)) = eb ∙ ap (λ (x : ℕ). holdsIn anyOrder x (s .callers)) m ∙ holds-any (s .core .created) f (s .callers) h in
+    (λ i. ec i .good && q i) ∙ core-is (s .core) (line (s .callers)) (tidy (s .callers)) k)
+    (λ p. ap (λ (x : Checked). x .good && b) ec ∙ rw p)

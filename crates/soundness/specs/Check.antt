@@ -4,12 +4,15 @@ use Prim.Native.Nat.{ℕ, zero, suc}
 use mathlib.Core.Bool.{Bool, false, _&&_}
 use mathlib.Core.List.{List, [], _∷_}
 use lib.Dec.{leb}
+use lib.ListN.{drop}
 use Rattle.lists.specs.Line.{blanks}
-use Rattle.lists.specs.Lists.{every, downFrom}
+use Rattle.lists.specs.Lists.{if_then_else_, every, downFrom}
 use Rattle.rules.specs.Sound.{goodTask}
 use Rattle.rules.specs.State.{State, taskOf, placeOf, partnerOf, isReady, isQueued, isHeld, hasTime}
-use Rattle.rules.specs.Whole.{view}
-use Rattle.rules.specs.declared.Supervisor.{Supervisor}
+use Rattle.rules.specs.Whole.{viewCore, unused}
+use Rattle.table.specs.Moved.{leftOf}
+use Rattle.soundness.specs.declared.Checked.{Checked}
+use Rattle.rules.specs.declared.Core.{Core}
 use Rattle.rules.specs.declared.Task.{Task}
 use Rattle.soundness.specs.declared.Told.{Told}
 use Rattle.soundness.specs.Marks.{Marks, noMarks, hasMark, nextMark, withoutMark, isNone}
@@ -40,12 +43,12 @@ marked f m [] = m
 marked f m (t ∷ ts) = marked f (nextMark m (f t)) ts
 
 -- the created tasks that belong into the line: task 1 is bit 0
-abbrev pub markedIn : Supervisor → Line → Marks
-markedIn s l = marked (λ t. belongs l (taskOf (view s) t)) noMarks (downFrom (s .created))
+abbrev pub markedIn : Core → Line → Marks
+markedIn s l = marked (λ t. belongs l (taskOf (viewCore s) t)) noMarks (downFrom (s .created))
 
 -- what the pass over the table tells
-abbrev pub toldOf : Supervisor → Told
-toldOf s = record { good = every (goodIn (view s)) (downFrom (s .created)); ready = markedIn s Ready; callers = markedIn s Callers; held = markedIn s Held; delays = markedIn s Delays }
+abbrev pub toldOf : Core → Told
+toldOf s = record { good = every (goodIn (viewCore s)) (downFrom (s .created)); ready = markedIn s Ready; callers = markedIn s Callers; held = markedIn s Held; delays = markedIn s Delays }
 
 -- ── the walk over a line ──
 
@@ -63,3 +66,14 @@ holdsIn k m a = walked k (nextMark m false) 0 a
 -- keys that are in order however the tasks stand
 abbrev pub anyOrder : ℕ → ℕ
 anyOrder x = 0
+
+-- ── the core ──
+
+-- what the check of a core tells: whether it is sound but for the callers, and who belongs into their queues
+abbrev pub checkedOf : Core → Checked
+checkedOf s =
+    if leb (s .created) 31 then record {
+      good = ((every unused (drop (s .created) (s .tasks)) && toldOf s .good) && (holdsIn anyOrder (toldOf s .ready) (s .ready) && holdsIn anyOrder (toldOf s .held) (s .held))) && holdsIn (leftOf s) (toldOf s .delays) (s .delays);
+      callers = toldOf s .callers;
+    }
+    else record { good = false; callers = 0 }

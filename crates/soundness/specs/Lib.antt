@@ -1,2 +1,3 @@
 pub mod Marks
 pub mod Check
+pub mod Rows

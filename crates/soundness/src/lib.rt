@@ -7,8 +7,11 @@ ghost use lib.ListN.{drop};
 ghost use mathlib.Core.Bool.{_&&_};
 ghost use mathlib.Core.Path.{_≡_};
 ghost use Rattle.lists.specs.Lists.{every};
+ghost use Rattle.rules.specs.Second.{soundSecond};
 ghost use Rattle.rules.specs.Whole.{unused, soundWhole};
-ghost use Rattle.soundness.specs.Check.{anyOrder, holdsIn, toldOf};
+ghost use Rattle.soundness.specs.Check.{anyOrder, holdsIn, toldOf, checkedOf};
+use rules::Core;
+use rules::Second;
 use rules::Supervisor;
 use table::place::has_time;
 use table::place::is_between;
@@ -19,11 +22,12 @@ use table::place::partner_of;
 use table::tasks::blank_task;
 
 mod marks;
+mod rows;
 mod stand;
 mod task;
 
 // All places behind the created tasks are blank.
-fn all_unused(s: Supervisor) -> bool
+fn all_unused(s: Core) -> bool
     ensures { λ r. ⌜ r ≡ every unused (drop (s .created) (s .tasks)) ⌝ }
 {
     let mut i = s.created as usize;
@@ -48,7 +52,7 @@ struct Told {
 }
 
 // One pass over the created tasks, from the last to the first.
-fn told_of(s: Supervisor) -> Told
+fn told_of(s: Core) -> Told
     requires { ⌜ s .created ≤ 31 ⌝ }
     ensures { λ r. ⌜ r ≡ toldOf s ⌝ }
 {
@@ -85,22 +89,59 @@ fn told_of(s: Supervisor) -> Told
     }
 }
 
-// Whether three of the lines hold those who belong into them.
-fn lines_hold(s: Supervisor, told: Told) -> bool
-    ensures { λ r. ⌜ r ≡ ((holdsIn anyOrder (told .ready) (s .ready) && holdsIn anyOrder (told .callers) (s .callers)) && holdsIn anyOrder (told .held) (s .held)) ⌝ }
+// Whether two of the lines hold those who belong into them.
+fn lines_hold(s: Core, told: Told) -> bool
+    ensures { λ r. ⌜ r ≡ (holdsIn anyOrder (told .ready) (s .ready) && holdsIn anyOrder (told .held) (s .held)) ⌝ }
 {
-    stand::holds(&s.ready, told.ready)
-        & stand::holds(&s.callers, told.callers)
-        & stand::holds(&s.held, told.held)
+    stand::holds(&s.ready, told.ready) & stand::holds(&s.held, told.held)
 }
 
-// Whether the state is sound.
+// Whether a core is sound but for the callers, and who belongs into their queues: task 1 is bit 0.
+pub struct Checked {
+    pub good: bool,
+    pub callers: u32,
+}
+
+// The check of a core: what both engines share.
+fn core_check(s: Core) -> Checked
+    ensures { λ r. ⌜ r ≡ checkedOf s ⌝ }
+{
+    if s.created > 31 {
+        return Checked {
+            good: false,
+            callers: 0,
+        };
+    }
+    let told = told_of(s);
+    let good = all_unused(s) & told.good & lines_hold(s, told) & stand::delays_hold(s, told.delays);
+    Checked {
+        good,
+        callers: told.callers,
+    }
+}
+
+// Whether the state of the first engine is sound, handed in by its two parts: who has them does not copy the whole.
+pub fn parts_sound(core: Core, callers: [u8; 31]) -> bool
+    ensures { λ r. ⌜ r ≡ soundWhole (record { core = core; callers = callers }) ⌝ }
+{
+    let c = core_check(core);
+    c.good & stand::holds(&callers, c.callers)
+}
+
+// Whether the state of the first engine is sound.
 pub fn is_sound(s: Supervisor) -> bool
     ensures { λ r. ⌜ r ≡ soundWhole s ⌝ }
 {
-    if s.created > 31 {
-        return false;
-    }
-    let told = told_of(s);
-    all_unused(s) & told.good & lines_hold(s, told) & stand::delays_hold(s, told.delays)
+    let callers = s.callers;
+    parts_sound(s.core, callers)
+}
+
+// Whether the state of the second engine is sound.
+pub fn is_sound_second(x: Second) -> bool
+    ensures { λ r. ⌜ r ≡ soundSecond x ⌝ }
+{
+    let c = core_check(x.core);
+    let targets = rows::targets_of(x.core);
+    let all = x.rows;
+    c.good & rows::rows_hold(all, targets, c.callers)
 }

@@ -5,12 +5,12 @@ ghost use Rattle.lists.specs.Line.{blanks};
 ghost use Rattle.table.specs.Moved.{leftOf};
 ghost use Rattle.soundness.specs.Check.{anyOrder, holdsIn};
 use crate::marks;
-use rules::Supervisor;
+use rules::Core;
 use table::tasks::index_of;
 use table::tasks::left_of;
 
 // Whether the places from i on are blank.
-fn is_blank_from(a: &[u8; 31], i: usize) -> bool
+pub fn is_blank_from(a: &[u8; 31], i: usize) -> bool
     requires { ⌜ length (now a) ≡ 31 ⌝ }
     ensures { λ r. ⌜ r ≡ blanks (drop i (now (a .entry))) ⌝ }
 {
@@ -44,7 +44,7 @@ pub fn holds(a: &[u8; 31], word: u32) -> bool
 }
 
 // The same of the delay queue, where each has at least as many ticks left as the one before.
-pub fn delays_hold(s: Supervisor, word: u32) -> bool
+pub fn delays_hold(s: Core, word: u32) -> bool
     ensures { λ r. ⌜ r ≡ holdsIn (leftOf s) word (s .delays) ⌝ }
 {
     let mut rest = marks::next(word, false);

@@ -30,7 +30,7 @@ use Rattle.calls.specs.declared.Read as R
 use Rattle.calls.specs.declared.Read.the-variants.{Record, BadRecord, EndOfLog}
 use Rattle.calls.proofs.Exactly.{bad-record-exactly, end-of-log-exactly}
 use Rattle.calls.proofs.Unique.{read-asks, write-asks}
-use Rattle.supervisor.proofs.Unique.{empty-asks, sound-asks, running-asks, step-asks, count-asks, callable-asks, refused-answer-asks}
+use Rattle.supervisor.proofs.Unique.{empty-asks, sound-asks, running-asks, step-asks, count-asks, callable-asks}
 use Rattle.calls.proofs.read_record.Met as read-record
 use Rattle.calls.proofs.write_record.Met as write-record
 use Rattle.supervisor.proofs.empty.Met as empty
@@ -39,7 +39,6 @@ use Rattle.supervisor.proofs.step.Met as step
 use Rattle.supervisor.proofs.count.Met as count
 use Rattle.supervisor.proofs.callable.Met as callable
 use Rattle.supervisor.proofs.sound.Met as sound
-use Rattle.supervisor.proofs.refused_answer.Met as refused-answer
 use Rattle.statements.specs.Statement1.{Statement1, Refused}
 use Rattle.statements.specs.Refusals.{rows, firstRow}
 use Rattle.statements.proofs.Refusals.{by-table}
@@ -146,7 +145,6 @@ statement1 = record {
   step = step.met;
   count = count.met;
   callable = callable.met;
-  refused-answer = refused-answer.met;
   read-record-asks = read-asks;
   write-record-asks = write-asks;
   empty-asks = empty-asks;
@@ -155,7 +153,6 @@ statement1 = record {
   step-asks = step-asks;
   count-asks = count-asks;
   callable-asks = callable-asks;
-  refused-answer-asks = refused-answer-asks;
   linked = linked;
   use-refused = use-refused;
   count-refused = count-refused;

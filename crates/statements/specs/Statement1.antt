@@ -28,7 +28,6 @@ use Rattle.supervisor.proofs.step.Statement as step
 use Rattle.supervisor.proofs.count.Statement as count
 use Rattle.supervisor.proofs.callable.Statement as callable
 use Rattle.supervisor.proofs.sound.Statement as sound
-use Rattle.supervisor.proofs.refused_answer.Statement as refused-answer
 use Rattle.calls.proofs.read_record.Reads as of-read-record
 use Rattle.calls.proofs.write_record.Reads as of-write-record
 use Rattle.supervisor.proofs.empty.Reads as of-empty
@@ -37,7 +36,6 @@ use Rattle.supervisor.proofs.step.Reads as of-step
 use Rattle.supervisor.proofs.count.Reads as of-count
 use Rattle.supervisor.proofs.callable.Reads as of-callable
 use Rattle.supervisor.proofs.sound.Reads as of-sound
-use Rattle.supervisor.proofs.refused_answer.Reads as of-refused-answer
 use Rattle.statements.specs.Refusals.{rows, firstRow}
 use Rattle.statements.specs.Linked.{Linked}
 
@@ -57,7 +55,6 @@ pub record Statement1 : Type 2 where
   pub step : {M : Type 1} → step.statement M
   pub count : {M : Type 1} → count.statement M
   pub callable : {M : Type 1} → callable.statement M
-  pub refused-answer : {M : Type 1} → refused-answer.statement M
   -- "on every input": the contract of each asks nothing of who calls
   pub read-record-asks : AsksNothing of-read-record.Asked
   pub write-record-asks : AsksNothing of-write-record.Asked
@@ -67,7 +64,6 @@ pub record Statement1 : Type 2 where
   pub step-asks : AsksNothing of-step.Asked
   pub count-asks : AsksNothing of-count.Asked
   pub callable-asks : AsksNothing of-callable.Asked
-  pub refused-answer-asks : AsksNothing of-refused-answer.Asked
   -- both of the functions that other programs link: those of `card` and `workspace`, and the small ones of `calls`
   pub linked : Linked
   -- "bad input gets the refusal number": that of the first row of the table that applies, and 0, which is none, where no row does

@@ -1,31 +1,41 @@
 -- The whole step, and the questions.
 -- Assumes nothing.
-use Prim.Native.Nat.{ℕ}
+use Prim.Native.Nat.{ℕ, _<_}
 use mathlib.Core.Path.{_≡_, refl, sym, ap, _∙_}
 use mathlib.Core.Bool.{Bool, true, false, not, _&&_}
-use mathlib.Core.List.{List}
+use mathlib.Core.List.{List, _++_}
 use native.Mathlib.Omega.{arith}
 use lib.Dec.{ltb, leb}
 use lib.ListN.{length}
 use lib.Seq.{length-take-le}
-use Rattle.rules.specs.State.{created, taskOf, running, isCompleted}
+use Rattle.lists.specs.Line.{line}
+use Rattle.lists.specs.Lists.{if_then_else_}
+use Rattle.lists.specs.Marks.{noMarks, marked}
+use Rattle.lists.proofs.LineLaws.{tidy-pad}
+use Rattle.rules.specs.State.{State, created, taskOf, running, isCompleted}
 use Rattle.rules.specs.Step.{Outcome, refused, took, takeCall, roomAfter, SHORT-ROOM, BAD-STATE}
-use Rattle.rules.specs.Whole.{Typed, view, Whole, soundWhole, decline, done, stepWhole, answerOf, steppedOf}
+use Rattle.rules.specs.Callers.{acceptedIn}
+use Rattle.rules.specs.Whole.{Typed, viewCore, view, Whole, soundWhole, decline, done, stepWhole, answerOf, steppedOf}
 use Rattle.rules.specs.declared.Task.{Task}
 use Rattle.rules.specs.declared.Supervisor.{Supervisor}
-use Rattle.calls.specs.declared.Call.the-variants.{Call}
-use Rattle.rules.proofs.StepSound.{Kept, call-sound}
-use Rattle.rules.proofs.WholeLaws.{view-pack, parts, whole-packed, sound-view}
-use Rattle.supervisor.specs.Taken.{Stands, takenOf, endedBy}
-use Rattle.supervisor.specs.declared.answers.Taken.{Taken}
-use Rattle.rules.specs.declared.Answer.{Answer}
+use Rattle.rules.proofs.Apart.{tells}
+use Rattle.rules.proofs.WholeLaws.{parts, core-parts, core-packed, sound-view}
+use Rattle.steps.specs.Taken.{Stands, SeesFor, takenOf, endedBy}
+use Rattle.steps.specs.Change.{one, tasksIn, comesOf, lineBy}
+use Rattle.steps.proofs.ChangeLaws.{Lines, line-is}
+use Rattle.steps.specs.declared.answers.Taken.{Taken}
 use Rattle.rules.specs.declared.Stepped.{Stepped}
 use Rattle.rules.specs.declared.Callable.{Callable}
 use Rattle.rules.specs.Questions.{callableWhole}
 use Rattle.calls.specs.declared.Call as C
 
-pub stands-of : (s : Supervisor) → Typed s → soundWhole s ≡ true → Stands s
-stands-of s t h = record { packs = whole-packed s t h; sound = sound-view s t h }
+-- the core of a sound struct stands, and its line of callers is that of the state
+pub stands-of : (s : Supervisor) → Typed s → soundWhole s ≡ true → Stands (s .core)
+stands-of s t h = record { packs = core-packed (s .core) (t .core) (parts s h .core); callers = line (s .callers); sound = sound-view s t h }
+
+pub sees-of : (s : Supervisor) (c : C.Call) → Typed s → soundWhole s ≡ true → SeesFor (s .core) (s .callers) c
+unfolding stands-of
+sees-of s c t h = record { stands = stands-of s t h; calls = λ e. refl }
 
 module _ (s : Supervisor) (c : C.Call) (n : ℕ) where
   pub step-short : ltb n 124 ≡ true → stepWhole s c n ≡ decline s SHORT-ROOM 0
@@ -43,29 +53,25 @@ module _ (s : Supervisor) (c : C.Call) (n : ℕ) where
 pub by-whole : {w q : Whole} {r : Stepped} (x y : List ℕ) → w ≡ q → r ≡ steppedOf q → x ≡ roomAfter y (q .ended) → (r ≡ steppedOf w) × (x ≡ roomAfter y (w .ended))
 by-whole x y e h k = (h ∙ sym (ap steppedOf e), k ∙ sym (ap (λ (w : Whole). roomAfter y (w .ended)) e))
 
-pub state-is : (s : Supervisor) (o : Outcome) (k : Taken) → k ≡ takenOf s o → k .state ≡ done s o .state
-state-is s (refused r) k e = ap (λ (k : Taken). k .state) e
-state-is s (took st a l) k e = ap (λ (k : Taken). k .state) e
-
--- the dispatched task is worked out on the struct of the next state
-pub answer-is : (s : Supervisor) (o : Outcome) (k : Taken) (n : ℕ) → Kept o → k ≡ takenOf s o → n ≡ running (view (k .state))
-    → _≡_ {A = Answer} (record { refusal = k .refusal; result = k .result; task = k .task; entry = k .entry; partner = k .partner; ended = k .ended; next = n }) (answerOf (done s o))
-answer-is s (refused r) k n h ek en = rw (en, ek)
-answer-is s (took st a l) k n h ek en = rw (en, ek) (ap (λ (m : ℕ). record { refusal = 0; result = a .result; task = a .task; entry = a .entry; partner = a .partner; ended = length l; next = m }) (ap running (view-pack st h)))
-
-pub ended-is : (s : Supervisor) (o : Outcome) → endedBy o ≡ done s o .ended
-ended-is s (refused r) = refl
-ended-is s (took st a l) = refl
-
-pub kept : (s : Supervisor) (c : C.Call) → Stands s → Kept (takeCall (view s) c)
-kept s c h = call-sound (view s) c (h .sound)
+-- the core and the callers afterwards are those of the next state
+pub state-is : (s : Supervisor) (c : C.Call) (k : Taken) (room after m l : List ℕ) (b : Bool) → Typed s → soundWhole s ≡ true → k ≡ takenOf (s .core) (takeCall (view s) c)
+    → after ≡ roomAfter room (endedBy (takeCall (view s) c)) → m ≡ marked one (acceptedIn (k .result) (k .partner) ++ tasksIn (k .ended) after) noMarks
+    → b ≡ comesOf c (k .refusal) (k .result) (k .ended) → l ≡ lineBy m b (k .task) (s .callers)
+    → _≡_ {A = Supervisor} (record { core = k .state; callers = l }) (done s (takeCall (view s) c) .state)
+state-is s c k room after m l b t h ek ea em eb el =
+    let v = sound-view s t h in
+    go (takeCall (view s) c) (line-is (s .core) (view s) c (takeCall (view s) c) k (s .callers) room after m l b v refl (tells (view s) c v) ek ea em eb el) ek
+  where
+    go : (o : Outcome) → Lines l (line (s .callers)) o → k ≡ takenOf (s .core) o → _≡_ {A = Supervisor} (record { core = k .state; callers = l }) (done s o .state)
+    go (refused r) p e = λ i. record { core = e i .state; callers = (p ∙ sym (tidy-pad (s .callers) (t .callers) (parts s h .callers))) i }
+    go (took st a x) p e = λ i. record { core = e i .state; callers = p i }
 
 -- ---- questions
 
-created-sound : (s : Supervisor) → soundWhole s ≡ true → length (s .tasks) ≡ 31 → created (view s) ≡ s .created
-created-sound s h k = length-take-le (s .created) (s .tasks) (omega (arith, parts s h .few, k))
+created-sound : (s : Supervisor) → soundWhole s ≡ true → length (s .core .tasks) ≡ 31 → created (view s) ≡ s .core .created
+created-sound s h k = length-take-le (s .core .created) (s .core .tasks) (omega (arith, core-parts (s .core) (parts s h .core) .few, k))
 
-pub callable-is : (s : Supervisor) (t : ℕ) (b d : Bool) (x : Task) → soundWhole s ≡ true → length (s .tasks) ≡ 31 → b ≡ (ltb 0 t && leb t (s .created)) → x ≡ taskOf (view s) t → d ≡ isCompleted (x .place)
+pub callable-is : (s : Supervisor) (t : ℕ) (b d : Bool) (x : Task) → soundWhole s ≡ true → length (s .core .tasks) ≡ 31 → b ≡ (ltb 0 t && leb t (s .core .created)) → x ≡ taskOf (view s) t → d ≡ isCompleted (x .place)
     → _≡_ {A = Callable} (record { refusal = 0; yes = b && not d }) (callableWhole s t)
 unfolding callableWhole
 callable-is s t b d x h k eb ex ed = rw (h, eb, ed, ex, created-sound s h k)

@@ -1,85 +1,34 @@
-// The supervisor: an empty one, its step, its questions.
-mod advance;
-mod answers;
-mod call;
-mod callers;
-mod create;
-mod delay;
-mod end;
-mod ended;
-mod finish;
-mod select;
-
-ghost use Prim.Native.Nat.{_≤_};
-ghost use lib.Dec.{ltb};
+// The first engine: an empty supervisor, its step, its questions. All callers stand in one line.
 ghost use lib.ListN.{length};
 ghost use mathlib.Core.Path.{_≡_};
 ghost use Rattle.rules.specs.Questions.{countWhole, callableWhole, runningWhole};
-ghost use Rattle.rules.specs.Step.{takeCall, roomAfter};
+ghost use Rattle.rules.specs.Step.{roomAfter};
 ghost use Rattle.rules.specs.State as state;
-ghost use Rattle.rules.specs.Whole.{steppedOf, view, pack, soundWhole, stepWhole, refusedAnswer};
-ghost use Rattle.supervisor.specs.Taken.{Stands, takenOf, endedBy};
-use answers::Taken;
+ghost use Rattle.rules.specs.Whole.{steppedOf, pack, soundWhole, stepWhole};
 use calls::Call;
 use calls::numbers::SHORT_ROOM;
-use rules::Answer;
 use rules::Callable;
+use rules::Core;
 use rules::Count;
 use rules::Running;
 use rules::Stepped;
 use rules::Supervisor;
 use rules::numbers::BAD_STATE;
 use soundness::is_sound;
+use soundness::parts_sound;
+use steps::answers::answer_by;
+use steps::answers::is_short;
+use steps::answers::refused_answer;
+use steps::change::comes;
+use steps::change::gone_marks;
+use steps::change::next_line;
+use steps::take_call;
 use table::place::is_between;
 use table::place::is_completed;
 use table::queues::Test;
 use table::queues::picked;
 use table::tasks::blank_task;
 use table::tasks::task_of;
-
-// The call, in a sound state with room enough.
-fn take_call(s: Supervisor, c: Call, room: &mut [u8]) -> Taken
-    requires { ⌜ Stands s × (124 ≤ length (now room)) ⌝ }
-    ensures { λ r. ⌜ r ≡ takenOf s (takeCall (view s) c) ⌝ }
-    ensures room { λ r. ⌜ now (room .exit) ≡ roomAfter (now (room .entry)) (endedBy (takeCall (view s) c)) ⌝ }
-{
-    match c {
-        Call::Create { priority, entries } => create::create(s, priority, entries),
-        Call::Delay(d) => delay::delay(s, d),
-        Call::Call {
-            target,
-            entry,
-            mode,
-        } => call::call(s, target, entry, mode, room),
-        Call::Select { open, mode } => select::select(s, open, mode),
-        Call::End => end::end(s, room),
-        Call::Finish => finish::finish(s, room),
-        Call::Tick => advance::tick(s, room),
-        Call::Advance(n) => advance::advance(s, n, room),
-    }
-}
-
-// Whether n bytes are too few for the items of a step.
-fn is_short(n: usize) -> bool
-    ensures { λ r. ⌜ r ≡ ltb n 124 ⌝ }
-{
-    n < 124
-}
-
-// The answer of a call or record that is refused, where `next` is the dispatched task.
-pub fn refused_answer(n: u8, next: u8) -> Answer
-    ensures { λ r. ⌜ r ≡ refusedAnswer n next ⌝ }
-{
-    Answer {
-        refusal: n,
-        result: 0,
-        task: 0,
-        entry: 0,
-        partner: 0,
-        ended: 0,
-        next,
-    }
-}
 
 // One call. A refused one leaves the state and the room as they are; the items of ended waits are written one behind the other.
 pub fn step(s: Supervisor, c: Call, room: &mut [u8]) -> Stepped
@@ -90,24 +39,24 @@ pub fn step(s: Supervisor, c: Call, room: &mut [u8]) -> Stepped
         let answer = refused_answer(SHORT_ROOM, 0);
         return Stepped { state: s, answer };
     }
-    if !is_sound(s) {
+    let callers = s.callers;
+    if !parts_sound(s.core, callers) {
         let answer = refused_answer(BAD_STATE, 0);
         return Stepped { state: s, answer };
     }
-    let k = take_call(s, c, room);
+    let k = take_call(s.core, callers, c, room);
+    let gone = gone_marks(room, k.ended, k.result, k.partner);
+    let joins = comes(c, k.refusal, k.result, k.ended);
+    let callers_now = next_line(callers, gone, joins, k.task);
     let after = k.state;
     let next = table::dispatch::running(after);
+    let answer = answer_by(k, next);
     Stepped {
-        state: after,
-        answer: Answer {
-            refusal: k.refusal,
-            result: k.result,
-            task: k.task,
-            entry: k.entry,
-            partner: k.partner,
-            ended: k.ended,
-            next,
+        state: Supervisor {
+            core: after,
+            callers: callers_now,
         },
+        answer,
     }
 }
 
@@ -117,14 +66,17 @@ pub fn empty(clock: u32) -> Supervisor
 {
     let tasks = [blank_task(); 31];
     let line = [0u8; 31];
-    Supervisor {
+    let core = Core {
         clock,
         created: 0,
         tasks,
         ready: line,
-        callers: line,
         held: line,
         delays: line,
+    };
+    Supervisor {
+        core,
+        callers: line,
     }
 }
 
@@ -140,7 +92,7 @@ pub fn running(s: Supervisor) -> Running
     ensures { λ r. ⌜ r ≡ runningWhole s ⌝ }
 {
     if is_sound(s) {
-        let task = table::dispatch::running(s);
+        let task = table::dispatch::running(s.core);
         return Running { refusal: 0, task };
     }
     Running {
@@ -156,7 +108,7 @@ pub fn count(s: Supervisor, t: u8, e: u8) -> Count
     if is_sound(s) {
         let callers = s.callers;
         let q = picked(
-            s,
+            s.core,
             callers,
             Test::QueuedOn {
                 target: t,
@@ -180,11 +132,11 @@ pub fn callable(s: Supervisor, t: u8) -> Callable
     ensures { λ r. ⌜ r ≡ callableWhole s t ⌝ }
 {
     if is_sound(s) {
-        let x = task_of(s, t);
+        let x = task_of(s.core, t);
         let p = x.place;
         return Callable {
             refusal: 0,
-            yes: is_between(t, s.created) & !is_completed(p),
+            yes: is_between(t, s.core.created) & !is_completed(p),
         };
     }
     Callable {

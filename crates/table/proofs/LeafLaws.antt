@@ -1,24 +1,25 @@
 -- Laws for the leaf functions: the table of tasks, and lines.
 -- Assumes nothing.
-use Prim.Native.Nat.{ℕ, zero, suc, _-_, _≤_, _<_}
+use Prim.Native.Nat.{ℕ, zero, suc, _+_, _-_, _≤_, _<_}
 use mathlib.Core.Path.{_≡_, refl, sym, ap, _∙_}
 use mathlib.Core.Bool.{Bool, true, false, _&&_}
 use mathlib.Core.List.{List, _∷_, _++_}
 use native.Mathlib.Numerals.{unary-clauses}
 use native.Mathlib.Omega.{arith}
 use lib.Dec.{eqb, ltb, leb}
-use lib.ListN.{length, getD, set, take, length-take}
-use lib.Seq.{getD-take, set-out, set-getD}
-use borrow.Author.Tests.{ltb-true, ltb-false, leb-true, leb-false}
+use lib.ListN.{length, getD, set, take, length-take, length-set}
+use lib.Seq.{getD-take, set-out, set-getD, getD-set-same, getD-set-other}
+use borrow.Author.Tests.{ltb-true, ltb-false, leb-true, leb-false, lt-ltb, le-leb}
 use Rattle.lists.specs.Line.{line, pad}
 use Rattle.lists.proofs.ListLaws.{by-bool, by-eq, clash}
 use Rattle.lists.proofs.LineLaws.{left-over, line-picked}
 use Rattle.lists.proofs.MarkLaws.{insert-by}
-use Rattle.lists.specs.Lists.{if_then_else_, remove, rejoin}
+use Rattle.lists.specs.Lists.{if_then_else_, bit, remove, rejoin}
 use Rattle.lists.specs.Marks.{noMarks, markOf, marked, withMark, insertBy}
 use Rattle.rules.specs.State.{blank, nth, setNth, taskOf, isReady, isQueued, isHeld, retime, ticksLeft, placed}
-use Rattle.rules.specs.Whole.{view}
-use Rattle.rules.specs.declared.Supervisor.{Supervisor}
+use Rattle.rules.specs.Callers.{queuedIn}
+use Rattle.rules.specs.Whole.{viewCore}
+use Rattle.rules.specs.declared.Core.{Core}
 use Rattle.rules.specs.declared.Place.{Place}
 use Rattle.rules.specs.declared.Timer.{Timer}
 use Rattle.rules.specs.declared.Timer.the-variants.{Off, Due}
@@ -81,10 +82,10 @@ shown-is ts n t l =
     (λ r. rw (p, r) (task-out ts n t (omega (arith, leb-false t 31 r, l)))))
     (λ p. let z : t ≡ 0 = omega (arith, ltb-false 0 t p) in rw (p, z))
 
-pub shown-at : (s : Supervisor) (t at : ℕ) (x : Task) → length (s .tasks) ≡ 31 → at ≡ indexOf t → x ≡ shownOf (s .created) t (getD (s .tasks) at blank) → x ≡ taskOf (view s) t
+pub shown-at : (s : Core) (t at : ℕ) (x : Task) → length (s .tasks) ≡ 31 → at ≡ indexOf t → x ≡ shownOf (s .created) t (getD (s .tasks) at blank) → x ≡ taskOf (viewCore s) t
 shown-at s t at x l e q = q ∙ ap (λ (i : ℕ). shownOf (s .created) t (getD (s .tasks) i blank)) e ∙ shown-is (s .tasks) (s .created) t l
 
-pub left-at : (s : Supervisor) (t at d : ℕ) → length (s .tasks) ≡ 31 → at ≡ indexOf t → d ≡ ticksLeft (s .clock) (shownOf (s .created) t (getD (s .tasks) at blank) .timer) → d ≡ leftOf s t
+pub left-at : (s : Core) (t at d : ℕ) → length (s .tasks) ≡ 31 → at ≡ indexOf t → d ≡ ticksLeft (s .clock) (shownOf (s .created) t (getD (s .tasks) at blank) .timer) → d ≡ leftOf s t
 left-at s t at d l e q = q ∙ ap (λ (x : Task). ticksLeft (s .clock) (x .timer)) (shown-at s t at (shownOf (s .created) t (getD (s .tasks) at blank)) l e refl)
 
 -- where t is no task's number, what stood at the place is put back
@@ -98,12 +99,12 @@ put-back ts t x l =
 
 -- ---- the move, from what its parts answer
 
-pub with-out : (s : Supervisor) (t : ℕ) (x : Task) → length (s .tasks) ≡ 31 → isNumber t ≡ false → s ≡ withTask s t x
+pub with-out : (s : Core) (t : ℕ) (x : Task) → length (s .tasks) ≡ 31 → isNumber t ≡ false → s ≡ withTask s t x
 with-out s t x l e = ap (withTasks s) (set-none (s .tasks) x t l e)
 
 -- the delay queue with t in its place: ordered insertion by the ticks left
-pub retime-due : (s : Supervisor) (t d n : ℕ) (l keys : List ℕ) → length (s .tasks) ≡ 31 → length (s .delays) ≡ 31 → l ≡ pad (remove t (line (s .delays))) → keys ≡ marked (leftOf s) (line l) noMarks → n ≡ ticksLeft (s .clock) (Due d)
-    → pad (insertBy keys n t (line l)) ≡ pad (retime (s .clock) (view s .tasks) (Due d) t (line (s .delays)))
+pub retime-due : (s : Core) (t d n : ℕ) (l keys : List ℕ) → length (s .tasks) ≡ 31 → length (s .delays) ≡ 31 → l ≡ pad (remove t (line (s .delays))) → keys ≡ marked (leftOf s) (line l) noMarks → n ≡ ticksLeft (s .clock) (Due d)
+    → pad (insertBy keys n t (line l)) ≡ pad (retime (s .clock) (viewCore s .tasks) (Due d) t (line (s .delays)))
 retime-due s t d n l keys long k e em q =
     rw (em, q, insert-by (leftOf s) (ticksLeft (s .clock) (Due d)) t (line l) none, left-over (s .delays) t l k e)
   where
@@ -112,7 +113,7 @@ retime-due s t d n l keys long k e em q =
     none x h = ap (λ (y : Task). ticksLeft (s .clock) (y .timer)) (sym (task-out (s .tasks) (s .created) x (omega arith)))
 
 -- the place and the time of the task that moves, as a call of `moved` was given them
-module _ {r : Supervisor} (s : Supervisor) (t : ℕ) (p : Place) (w : Timer) where
+module _ {r : Core} (s : Core) (t : ℕ) (p : Place) (w : Timer) where
   abbrev pub placeGiven : r ≡ movedOf s t p w → Place
   placeGiven e = p
 
@@ -120,19 +121,18 @@ module _ {r : Supervisor} (s : Supervisor) (t : ℕ) (p : Place) (w : Timer) whe
   timerGiven e = w
 
 pub moved-law :
-    (s : Supervisor) (t : ℕ) (p : Place) (w : Timer) (n : Supervisor) (x y : Task) (b1 b2 b3 : Bool) (r c h d : List ℕ) → x ≡ taskOf (view s) t → y ≡ placed x p w → n ≡ withTask s t y
-    → b1 ≡ isReady p → b2 ≡ isQueued p → b3 ≡ isHeld p
-    → r ≡ pad (rejoin b1 t (line (s .ready))) → c ≡ pad (rejoin b2 t (line (s .callers))) → h ≡ pad (rejoin b3 t (line (s .held))) → d ≡ pad (retime (s .clock) (view s .tasks) w t (line (s .delays)))
-    → record { clock = n .clock; created = n .created; tasks = n .tasks; ready = r; callers = c; held = h; delays = d }
+    (s : Core) (t : ℕ) (p : Place) (w : Timer) (n : Core) (x y : Task) (b1 b3 : Bool) (r h d : List ℕ) → x ≡ taskOf (viewCore s) t → y ≡ placed x p w → n ≡ withTask s t y
+    → b1 ≡ isReady p → b3 ≡ isHeld p
+    → r ≡ pad (rejoin b1 t (line (s .ready))) → h ≡ pad (rejoin b3 t (line (s .held))) → d ≡ pad (retime (s .clock) (viewCore s .tasks) w t (line (s .delays)))
+    → record { clock = n .clock; created = n .created; tasks = n .tasks; ready = r; held = h; delays = d }
     ≡ movedOf s t p w
 unfolding movedOf
-moved-law s t p w n x y b1 b2 b3 r c h d ex ey en e1 e2 e3 er ec eh ed =
+moved-law s t p w n x y b1 b3 r h d ex ey en e1 e3 er eh ed =
     let g = en ∙ ap (withTask s t) (ey ∙ ap (λ (k : Task). placed k p w) ex) in λ i. record {
       clock = g i .clock;
       created = g i .created;
       tasks = g i .tasks;
       ready = (er ∙ ap (λ (a : Bool). pad (rejoin a t (line (s .ready)))) e1) i;
-      callers = (ec ∙ ap (λ (a : Bool). pad (rejoin a t (line (s .callers)))) e2) i;
       held = (eh ∙ ap (λ (a : Bool). pad (rejoin a t (line (s .held)))) e3) i;
       delays = ed i;
     }
@@ -140,33 +140,56 @@ moved-law s t p w n x y b1 b2 b3 r c h d ex ey en e1 e2 e3 er ec eh ed =
 -- ---- all of a line ready
 
 -- task t, put back into the table ready and with no time
-pub readied-put : (s : Supervisor) (t at : ℕ) (z : Task) → length (s .tasks) ≡ 31 → at ≡ indexOf t → z ≡ readiedTask (s .created) t (getD (s .tasks) at blank)
-    → set (s .tasks) at z ≡ setNth (s .tasks) t (placed (taskOf (view s) t) Ready Off)
+pub readied-put : (s : Core) (t at : ℕ) (z : Task) → length (s .tasks) ≡ 31 → at ≡ indexOf t → z ≡ readiedTask (s .created) t (getD (s .tasks) at blank)
+    → set (s .tasks) at z ≡ setNth (s .tasks) t (placed (taskOf (viewCore s) t) Ready Off)
 readied-put s t at z l ea ez =
-    let back : ℕ → Task = λ i. if isNumber t then placed (taskOf (view s) t) Ready Off else getD (s .tasks) i blank in
+    let back : ℕ → Task = λ i. if isNumber t then placed (taskOf (viewCore s) t) Ready Off else getD (s .tasks) i blank in
     let f : z ≡ back at =
     ez ∙ ap (λ (k : Task). if isNumber t then placed k Ready Off else getD (s .tasks) at blank) (shown-at s t at (shownOf (s .created) t (getD (s .tasks) at blank)) l ea refl) in
-    ap (set (s .tasks) at) f ∙ ap (λ (i : ℕ). set (s .tasks) i (back i)) ea ∙ put-back (s .tasks) t (placed (taskOf (view s) t) Ready Off) l
+    ap (set (s .tasks) at) f ∙ ap (λ (i : ℕ). set (s .tasks) i (back i)) ea ∙ put-back (s .tasks) t (placed (taskOf (viewCore s) t) Ready Off) l
 
 -- one turn: the next of the list is ready in the table
-pub readied-on : (n : Supervisor) (t : ℕ) (xs ys : List ℕ) (ts : List Task) → xs ≡ t ∷ ys → ts ≡ setNth (n .tasks) t (placed (taskOf (view n) t) Ready Off)
+pub readied-on : (n : Core) (t : ℕ) (xs ys : List ℕ) (ts : List Task) → xs ≡ t ∷ ys → ts ≡ setNth (n .tasks) t (placed (taskOf (viewCore n) t) Ready Off)
     → readiedOf n xs ≡ readiedOf (withTasks n ts) ys
 readied-on n t xs ys ts q e =
     ap (readiedOf n) q ∙ ap (λ (k : List Task). readiedOf (withTasks n k) ys) (sym e)
 
 -- the lines, from what their parts answer
-pub woken-law : (s n : Supervisor) (l m still r c h d : List ℕ) → length (s .ready) ≡ 31 → n ≡ readiedOf s l → m ≡ marked (λ _. 1) l noMarks
+pub woken-law : (s n : Core) (l m still r h d : List ℕ) → length (s .ready) ≡ 31 → n ≡ readiedOf s l → m ≡ marked (λ _. 1) l noMarks
     → still ≡ pad (withMark m 0 (line (s .ready))) → r ≡ pad (line still ++ l)
-    → c ≡ pad (withMark m 0 (line (s .callers))) → h ≡ pad (withMark m 0 (line (s .held))) → d ≡ pad (withMark m 0 (line (s .delays)))
-    → record { clock = n .clock; created = n .created; tasks = n .tasks; ready = r; callers = c; held = h; delays = d }
+    → h ≡ pad (withMark m 0 (line (s .held))) → d ≡ pad (withMark m 0 (line (s .delays)))
+    → record { clock = n .clock; created = n .created; tasks = n .tasks; ready = r; held = h; delays = d }
     ≡ wokenOf s l
 unfolding wokenOf
-woken-law s n l m still r c h d k en em es er ec eh ed = λ i. record {
+woken-law s n l m still r h d k en em es er eh ed = λ i. record {
   clock = en i .clock;
   created = en i .created;
   tasks = en i .tasks;
   ready = (er ∙ ap (λ (x : List ℕ). pad (x ++ l)) (ap line es ∙ line-picked (λ t. eqb (markOf m t) 0) (s .ready) k) ∙ ap (λ (x : List ℕ). pad (withMark x 0 (line (s .ready)) ++ l)) em) i;
-  callers = (ec ∙ ap (λ (x : List ℕ). pad (withMark x 0 (line (s .callers)))) em) i;
   held = (eh ∙ ap (λ (x : List ℕ). pad (withMark x 0 (line (s .held)))) em) i;
   delays = (ed ∙ ap (λ (x : List ℕ). pad (withMark x 0 (line (s .delays)))) em) i;
 }
+
+-- ---- who is queued, by marks
+
+-- the marks of the tasks up to i are told
+abbrev pub MarkedTo : Core → List ℕ → ℕ → Type 0
+MarkedTo s m i = (length m ≡ 32) × ((t : ℕ) → t ≤ i → markOf m t ≡ bit (queuedIn (viewCore s) t))
+
+pub marked-on : (s : Core) (m : List ℕ) (i b : ℕ) → i < 31 → MarkedTo s m i → b ≡ bit (queuedIn (viewCore s) (i + 1)) → MarkedTo s (set m (i + 1) b) (i + 1)
+marked-on s m i b h k e = (
+  length-set m (i + 1) b ∙ k .0,
+  λ t l. by-eq t (i + 1)
+      (λ z. ap (λ (x : ℕ). markOf (set m (i + 1) b) x) z ∙ getD-set-same m (i + 1) b 0 (omega (arith, k .0)) ∙ e ∙ ap (λ (x : ℕ). bit (queuedIn (viewCore s) x)) (sym z))
+      (λ n. getD-set-other m (i + 1) t b 0 n ∙ k .1 t (omega arith)),
+)
+
+pub marked-none : (s : Core) → MarkedTo s noMarks 0
+marked-none s = (refl, go)
+  where
+    go : (t : ℕ) → t ≤ 0 → markOf noMarks t ≡ bit (queuedIn (viewCore s) t)
+    go zero h = refl
+    go (suc t) h = absurd (omega arith)
+
+pub index-next : (i : ℕ) → i < 31 → i ≡ indexOf (i + 1)
+index-next i h = rw (lt-ltb 0 (i + 1) (omega arith), le-leb (i + 1) 31 (omega arith)) (omega arith)

@@ -11,8 +11,8 @@ use borrow.Author.Tests.{ne-eqb, eqb-true, eqb-false, le-leb, lt-leb, lt-ltb, le
 use Rattle.lists.specs.Lists.{if_then_else_, filter}
 use Rattle.lists.proofs.ListLaws.{by-bool}
 use Rattle.rules.specs.State.{State, blank, nth, level, headUpTo, priorityOf, running}
-use Rattle.rules.specs.Whole.{view}
-use Rattle.rules.specs.declared.Supervisor.{Supervisor}
+use Rattle.rules.specs.Whole.{viewCore}
+use Rattle.rules.specs.declared.Core.{Core}
 use Rattle.table.specs.Best.{bestOf, betterOf, lastOf, levelOf}
 use Rattle.table.proofs.LeafLaws.{task-in, task-past, task-out}
 use Rattle.table.specs.declared.dispatch.Best.{Best}
@@ -94,22 +94,22 @@ module _ (b : Best) (t p l : ℕ) (e : l ≡ levelOf p) where
 pub last-low : (n : ℕ) → (lastOf n ≤ n) × (lastOf n ≤ 31)
 last-low n = by-bool (leb n 31) (λ e. rw e (omega arith, leb-true n 31 e)) (λ e. rw e (omega (arith, leb-false n 31 e), omega arith))
 
-module _ (s : Supervisor) (b : Best) (t n : ℕ) (xs ys : List ℕ) (q : xs ≡ t ∷ ys) where
+module _ (s : Core) (b : Best) (t n : ℕ) (xs ys : List ℕ) (q : xs ≡ t ∷ ys) where
   -- a task of the table
   pub best-turn : (c : Best) (p : ℕ) → (t ≡ 0 → ⊥) → n ≡ lastOf (s .created) → t ≤ n → p ≡ getD (s .tasks) (t - 1) blank .priority → c ≡ betterOf b t p
-      → bestOf (priorityOf (view s)) b xs .task ≡ bestOf (priorityOf (view s)) c ys .task
+      → bestOf (priorityOf (viewCore s)) b xs .task ≡ bestOf (priorityOf (viewCore s)) c ys .task
   best-turn c p z en h ep ec =
       let k = last-low (s .created) in
       let x = task-in (s .tasks) (s .created) t z (omega arith) in
-      let e : betterOf b t (priorityOf (view s) t) ≡ c = sym (ec ∙ ap (betterOf b t) (ep ∙ ap (λ (y : Task). y .priority) x)) in
-      rw q (ap (λ (a : Best). bestOf (priorityOf (view s)) a ys .task) e)
+      let e : betterOf b t (priorityOf (viewCore s) t) ≡ c = sym (ec ∙ ap (betterOf b t) (ep ∙ ap (λ (y : Task). y .priority) x)) in
+      rw q (ap (λ (a : Best). bestOf (priorityOf (viewCore s)) a ys .task) e)
 
   -- a number that no task has
-  pub best-skip : length (s .tasks) ≡ 31 → n ≡ lastOf (s .created) → n < t → bestOf (priorityOf (view s)) b xs .task ≡ bestOf (priorityOf (view s)) b ys .task
+  pub best-skip : length (s .tasks) ≡ 31 → n ≡ lastOf (s .created) → n < t → bestOf (priorityOf (viewCore s)) b xs .task ≡ bestOf (priorityOf (viewCore s)) b ys .task
   best-skip l en h =
       let x : blank ≡ nth (take (s .created) (s .tasks)) t =
       by-bool (leb (s .created) 31)
       (λ e. task-past (s .tasks) (s .created) t (omega (arith, rw e at en)))
       (λ e. task-out (s .tasks) (s .created) t (omega (arith, rw e at en, l))) in
-      let e : betterOf b t (priorityOf (view s) t) ≡ b = ap (λ (y : Task). betterOf b t (y .priority)) (sym x) ∙ rw (le-ltb (b .priority) 0 (omega arith)) in
-      rw q (ap (λ (a : Best). bestOf (priorityOf (view s)) a ys .task) e)
+      let e : betterOf b t (priorityOf (viewCore s) t) ≡ b = ap (λ (y : Task). betterOf b t (y .priority)) (sym x) ∙ rw (le-ltb (b .priority) 0 (omega arith)) in
+      rw q (ap (λ (a : Best). bestOf (priorityOf (viewCore s)) a ys .task) e)

@@ -1,51 +1,51 @@
 -- What the small functions of the code answer, where the rules have no word for it.
 -- Assumes nothing.
-use Prim.Native.Nat.{ℕ}
+use Prim.Native.Nat.{ℕ, _<_}
+use mathlib.Core.Path.{_≡_}
 use mathlib.Core.Bool.{Bool, _&&_}
 use mathlib.Core.List.{List, [], _∷_, _++_}
 use lib.Dec.{eqb}
 use Rattle.lists.specs.Line.{line, pad}
-use Rattle.lists.specs.Lists.{if_then_else_, rejoin}
-use Rattle.lists.specs.Marks.{noMarks, marked, withMark}
+use Rattle.lists.specs.Lists.{if_then_else_, bit, rejoin}
+use Rattle.lists.specs.Marks.{noMarks, markOf, marked, withMark}
 use Rattle.rules.specs.State.{State, setNth, taskOf, timerOf, isReady, isQueued, isHeld, ticksLeft, retime, placed, partnerOf, entryOf, meeting}
 use Rattle.rules.specs.declared.Place.the-variants.{Ready, Held}
 use Rattle.rules.specs.declared.Timer.the-variants.{Off}
 use Rattle.rules.specs.Advance.{comesIn}
-use Rattle.rules.specs.Whole.{view}
+use Rattle.rules.specs.Callers.{queuedIn}
+use Rattle.rules.specs.Whole.{viewCore}
 use Rattle.rules.specs.declared.Task.{Task}
 use Rattle.rules.specs.declared.Timer.{Timer}
 use Rattle.rules.specs.declared.Place.{Place}
-use Rattle.rules.specs.declared.Supervisor.{Supervisor}
+use Rattle.rules.specs.declared.Core.{Core}
 use Rattle.table.specs.Numbers.{isNumber, shownOf}
 use Rattle.table.specs.declared.queues.Test.{Test}
 use Rattle.table.specs.declared.queues.Test.the-variants.{QueuedOn, HeldBy, DueWithin}
 
 -- the struct with other tasks
-abbrev pub withTasks : Supervisor → List Task → Supervisor
+abbrev pub withTasks : Core → List Task → Core
 withTasks s tasks = record {
   clock = s .clock;
   created = s .created;
   tasks = tasks;
   ready = s .ready;
-  callers = s .callers;
   held = s .held;
   delays = s .delays;
 }
 
 -- the struct with task t as x
-abbrev pub withTask : Supervisor → ℕ → Task → Supervisor
+abbrev pub withTask : Core → ℕ → Task → Core
 withTask s t x = withTasks s (setNth (s .tasks) t x)
 
 -- task t goes to place p with the time w, in the struct: the lines of `move`, laid out; the table as it is but for t
-unfoldable pub movedOf : Supervisor → ℕ → Place → Timer → Supervisor
+unfoldable pub movedOf : Core → ℕ → Place → Timer → Core
 movedOf s t p w = record {
   clock = s .clock;
   created = s .created;
-  tasks = setNth (s .tasks) t (placed (taskOf (view s) t) p w);
+  tasks = setNth (s .tasks) t (placed (taskOf (viewCore s) t) p w);
   ready = pad (rejoin (isReady p) t (line (s .ready)));
-  callers = pad (rejoin (isQueued p) t (line (s .callers)));
   held = pad (rejoin (isHeld p) t (line (s .held)));
-  delays = pad (retime (s .clock) (view s .tasks) w t (line (s .delays)));
+  delays = pad (retime (s .clock) (viewCore s .tasks) w t (line (s .delays)));
 }
 
 -- what stands at the place of task t of n when it is ready, with no time, where k stood there; k where t is no task's number
@@ -53,32 +53,31 @@ abbrev pub readiedTask : ℕ → ℕ → Task → Task
 readiedTask n t k = if isNumber t then placed (shownOf n t k) Ready Off else k
 
 -- those of the list are ready, with no time, in the table; the lines stay
-abbrev pub readiedOf : Supervisor → List ℕ → Supervisor
+abbrev pub readiedOf : Core → List ℕ → Core
 readiedOf s [] = s
-readiedOf s (t ∷ ts) = readiedOf (withTask s t (placed (taskOf (view s) t) Ready Off)) ts
+readiedOf s (t ∷ ts) = readiedOf (withTask s t (placed (taskOf (viewCore s) t) Ready Off)) ts
 
 -- all of the list become ready at once, in the struct: each line keeps those without a mark, and all stand at the end of `ready`
-unfoldable pub wokenOf : Supervisor → List ℕ → Supervisor
+unfoldable pub wokenOf : Core → List ℕ → Core
 wokenOf s l = record {
   clock = readiedOf s l .clock;
   created = readiedOf s l .created;
   tasks = readiedOf s l .tasks;
   ready = pad (withMark (marked (λ _. 1) l noMarks) 0 (line (s .ready)) ++ l);
-  callers = pad (withMark (marked (λ _. 1) l noMarks) 0 (line (s .callers)));
   held = pad (withMark (marked (λ _. 1) l noMarks) 0 (line (s .held)));
   delays = pad (withMark (marked (λ _. 1) l noMarks) 0 (line (s .delays)));
 }
 
 -- a rendezvous of g with its caller c at entry e begins, and ends, in the struct
-abbrev pub metOf : Supervisor → ℕ → ℕ → ℕ → Supervisor
+abbrev pub metOf : Core → ℕ → ℕ → ℕ → Core
 metOf s g c e = movedOf s c (Held (meeting g e)) Off
 
-abbrev pub partedOf : Supervisor → ℕ → Supervisor
+abbrev pub partedOf : Core → ℕ → Core
 partedOf s c = movedOf s c Ready Off
 
 -- the ticks that task x has left
-abbrev pub leftOf : Supervisor → ℕ → ℕ
-leftOf s x = ticksLeft (s .clock) (timerOf (view s) x)
+abbrev pub leftOf : Core → ℕ → ℕ
+leftOf s x = ticksLeft (s .clock) (timerOf (viewCore s) x)
 
 -- the tests by which queues are picked out of lines
 abbrev pub isPicked : Task → Test → Bool
@@ -88,3 +87,7 @@ isPicked x (DueWithin now n) = comesIn now n (x .timer)
 
 abbrev pub passesOf : State → Test → ℕ → Bool
 passesOf s q c = isPicked (taskOf s c) q
+
+-- each task that is queued has the mark 1, all others 0
+abbrev pub QueuedMarks : Core → List ℕ → Type 0
+QueuedMarks s m = (t : ℕ) → t < 32 → markOf m t ≡ bit (queuedIn (viewCore s) t)

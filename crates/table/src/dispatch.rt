@@ -1,9 +1,9 @@
 // The running task.
 ghost use mathlib.Core.Path.{_≡_};
 ghost use Rattle.rules.specs.State as state;
-ghost use Rattle.rules.specs.Whole.{view};
+ghost use Rattle.rules.specs.Whole.{viewCore};
 ghost use Rattle.table.specs.Best.{betterOf, lastOf};
-use rules::Supervisor;
+use rules::Core;
 
 // A task and its priority.
 pub struct Best {
@@ -34,8 +34,8 @@ fn better(b: Best, t: u8, p: u8) -> Best
 }
 
 // The running task: the head of the highest ready queue that is not empty, 0 where nobody is ready.
-pub fn running(s: Supervisor) -> u8
-    ensures { λ r. ⌜ r ≡ state.running (view s) ⌝ }
+pub fn running(s: Core) -> u8
+    ensures { λ r. ⌜ r ≡ state.running (viewCore s) ⌝ }
 {
     let n = last_of(s.created);
     let mut b = Best {

@@ -3,11 +3,10 @@ ghost use mathlib.Core.Path.{_≡_};
 ghost use Rattle.lists.specs.Line.{line, pad};
 ghost use Rattle.lists.specs.Marks.{noMarks, marked};
 ghost use Rattle.rules.specs.State.{retime};
-ghost use Rattle.rules.specs.Whole.{view};
+ghost use Rattle.rules.specs.Whole.{viewCore};
 ghost use Rattle.table.specs.Moved.{movedOf, readiedOf, wokenOf, metOf, partedOf, leftOf, readiedTask};
 use super::place::is_between;
 use super::place::is_held;
-use super::place::is_queued;
 use super::place::is_ready;
 use super::place::ticks_left;
 use super::tasks::fresh_task;
@@ -17,14 +16,14 @@ use super::tasks::placed_at;
 use super::tasks::shown;
 use super::tasks::task_of;
 use super::tasks::with_task;
+use rules::Core;
 use rules::Meeting;
 use rules::Place;
-use rules::Supervisor;
 use rules::Task;
 use rules::Timer;
 
 // The ticks left of each of the line, by its number.
-fn keys_of(s: Supervisor, a: [u8; 31]) -> [u32; 32]
+fn keys_of(s: Core, a: [u8; 31]) -> [u32; 32]
     ensures { λ r. ⌜ r ≡ marked (leftOf s) (line a) noMarks ⌝ }
 {
     let mut keys = [0u32; 32];
@@ -43,8 +42,8 @@ fn keys_of(s: Supervisor, a: [u8; 31]) -> [u32; 32]
 }
 
 // The delay queue without t, and with t in its place if it has a time now.
-fn retimed(s: Supervisor, t: u8, w: Timer) -> [u8; 31]
-    ensures { λ r. ⌜ r ≡ pad (retime (s .clock) (view s .tasks) w t (line (s .delays))) ⌝ }
+fn retimed(s: Core, t: u8, w: Timer) -> [u8; 31]
+    ensures { λ r. ⌜ r ≡ pad (retime (s .clock) (viewCore s .tasks) w t (line (s .delays))) ⌝ }
 {
     let delays = s.delays;
     let a = lines::without(delays, t);
@@ -58,19 +57,16 @@ fn retimed(s: Supervisor, t: u8, w: Timer) -> [u8; 31]
 }
 
 // Task t goes to place p with the time w.
-pub fn moved(s: Supervisor, t: u8, p: Place, w: Timer) -> Supervisor
+pub fn moved(s: Core, t: u8, p: Place, w: Timer) -> Core
     ensures { λ r. ⌜ r ≡ movedOf s t p w ⌝ }
 {
     let mut n = with_task(s, t, placed_at(task_of(s, t), p, w));
     let ready = s.ready;
-    let callers = s.callers;
     let held = s.held;
     let ready_now = lines::rejoined(ready, t, is_ready(p));
-    let callers_now = lines::rejoined(callers, t, is_queued(p));
     let held_now = lines::rejoined(held, t, is_held(p));
     let delays_now = retimed(s, t, w);
     n.ready = ready_now;
-    n.callers = callers_now;
     n.held = held_now;
     n.delays = delays_now;
     n
@@ -89,7 +85,7 @@ fn readied_task(n: u8, t: u8, k: Task) -> Task
 }
 
 // The tasks of the line are ready, with no time; the lines are as they were.
-fn readied(s: Supervisor, l: [u8; 31]) -> Supervisor
+fn readied(s: Core, l: [u8; 31]) -> Core
     ensures { λ r. ⌜ r ≡ readiedOf s (line l) ⌝ }
 {
     let mut n = s;
@@ -105,29 +101,26 @@ fn readied(s: Supervisor, l: [u8; 31]) -> Supervisor
 }
 
 // All tasks of the line become ready. Where it has each once, that is a move for one after the other, but with one look at each line.
-pub fn woken(s: Supervisor, l: [u8; 31]) -> Supervisor
+pub fn woken(s: Core, l: [u8; 31]) -> Core
     ensures { λ r. ⌜ r ≡ wokenOf s (line l) ⌝ }
 {
     let marks = lines::marks_of(l);
     let ready = s.ready;
-    let callers = s.callers;
     let held = s.held;
     let delays = s.delays;
     let still_ready = lines::picked(ready, marks, 0);
     let ready_now = lines::joined_all(still_ready, l);
-    let callers_now = lines::picked(callers, marks, 0);
     let held_now = lines::picked(held, marks, 0);
     let delays_now = lines::picked(delays, marks, 0);
     let mut n = readied(s, l);
     n.ready = ready_now;
-    n.callers = callers_now;
     n.held = held_now;
     n.delays = delays_now;
     n
 }
 
 // A rendezvous of g with its caller c at entry e begins.
-pub fn met(s: Supervisor, g: u8, c: u8, e: u8) -> Supervisor
+pub fn met(s: Core, g: u8, c: u8, e: u8) -> Core
     ensures { λ r. ⌜ r ≡ metOf s g c e ⌝ }
 {
     let m = Meeting {
@@ -138,7 +131,7 @@ pub fn met(s: Supervisor, g: u8, c: u8, e: u8) -> Supervisor
 }
 
 // The rendezvous of a caller c ends.
-pub fn parted(s: Supervisor, c: u8) -> Supervisor
+pub fn parted(s: Core, c: u8) -> Core
     ensures { λ r. ⌜ r ≡ partedOf s c ⌝ }
 {
     moved(s, c, Place::Ready, Timer::Off)

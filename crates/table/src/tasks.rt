@@ -2,13 +2,13 @@
 ghost use Prim.Native.Nat.{_<_};
 ghost use mathlib.Core.Path.{_≡_};
 ghost use Rattle.rules.specs.State.{blank, taskOf, fresh, placed, ticksLeft};
-ghost use Rattle.rules.specs.Whole.{view};
+ghost use Rattle.rules.specs.Whole.{viewCore};
 ghost use Rattle.table.specs.Moved.{withTask};
 ghost use Rattle.table.specs.Numbers.{indexOf, shownOf};
 use super::place::is_between;
 use super::place::ticks_left;
+use rules::Core;
 use rules::Place;
-use rules::Supervisor;
 use rules::Task;
 use rules::Timer;
 
@@ -78,15 +78,15 @@ pub fn left_of(now: u32, n: u8, x: u8, k: Task) -> u32
 }
 
 // Task t; a blank one where t is the number of none.
-pub fn task_of(s: Supervisor, t: u8) -> Task
-    ensures { λ r. ⌜ r ≡ taskOf (view s) t ⌝ }
+pub fn task_of(s: Core, t: u8) -> Task
+    ensures { λ r. ⌜ r ≡ taskOf (viewCore s) t ⌝ }
 {
     let at = index_of(t);
     shown(s.created, t, s.tasks[at])
 }
 
 // The struct with task t as x.
-pub fn with_task(s: Supervisor, t: u8, x: Task) -> Supervisor
+pub fn with_task(s: Core, t: u8, x: Task) -> Core
     ensures { λ r. ⌜ r ≡ withTask s t x ⌝ }
 {
     let mut n = s;

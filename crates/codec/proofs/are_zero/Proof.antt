@@ -6,16 +6,17 @@ use mathlib.Core.Bool.{_&&_}
 use lib.ListN.{length}
 use denote.Ref.{now}
 use Rattle.lists.specs.Line.{blanks}
+use Rattle.codec.specs.Layout.{readyAt, stateSize}
 use Rattle.codec.specs.Used.{tableFrom}
 use Rattle.codec.proofs.UsedLaws.{zero-next, zero-end}
 use Rattle.codec.proofs.are_zero.Statement.{statement}
 use Rattle.codec.proofs.are_zero.Tie as tie
 
 abbrev Inv-loop : tie.InvT-loop
-Inv-loop b from all₀ i₀ all i = (439 ≤ length b) × ((all && blanks (tableFrom b i)) ≡ blanks (tableFrom b from))
+Inv-loop b from all₀ i₀ all i = (stateSize ≤ length b) × ((all && blanks (tableFrom b i)) ≡ blanks (tableFrom b from))
 
 abbrev μ-loop : tie.MeasureT-loop
-μ-loop b from all₀ i₀ all i = 315 - i
+μ-loop b from all₀ i₀ all i = readyAt - i
 
 loop-holds : tie.Need-loop-holds Inv-loop μ-loop
 loop-holds c = (c .pre, refl)

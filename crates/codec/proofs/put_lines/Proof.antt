@@ -2,7 +2,7 @@ use borrow.Author.Needs.{needs}
 use mathlib.Core.Path.{ap, _∙_}
 use mathlib.Core.List.{List}
 use Prim.Native.Nat.{ℕ}
-use Rattle.codec.specs.Layout.{placedAt}
+use Rattle.codec.specs.Layout.{callersAt, heldAt, delaysAt, placedAt}
 use Rattle.codec.proofs.put_lines.Statement.{statement}
 use Rattle.codec.proofs.put_lines.Tie as tie
 
@@ -13,9 +13,9 @@ returns c =
     let p₂ = p₃ .before .before .before .before .before in
     let p₁ = p₂ .before .before .before .before .before in
     let a = p₁ .before .before .before .before .args in
-    let e₂ = p₂ .put-at2 .ensures ∙ ap (λ (r : List ℕ). placedAt r 346 (a .t3)) (p₁ .put-at .ensures) in
-    let e₃ = p₃ .put-at3 .ensures ∙ ap (λ (r : List ℕ). placedAt r 377 (a .t4)) e₂ in
-    p₄ .put-at4 .ensures ∙ ap (λ (r : List ℕ). placedAt r 408 (a .t5)) e₃
+    let e₂ = p₂ .put-at2 .ensures ∙ ap (λ (r : List ℕ). placedAt r callersAt (a .t3)) (p₁ .put-at .ensures) in
+    let e₃ = p₃ .put-at3 .ensures ∙ ap (λ (r : List ℕ). placedAt r heldAt (a .t4)) e₂ in
+    p₄ .put-at4 .ensures ∙ ap (λ (r : List ℕ). placedAt r delaysAt (a .t5)) e₃
 
 pub put-lines-spec : {M : Type 1} → statement M
 put-lines-spec =

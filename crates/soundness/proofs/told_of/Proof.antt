@@ -11,8 +11,8 @@ use Rattle.lists.specs.Lists.{every, downFrom}
 use Rattle.lists.proofs.Tests.{ways, between}
 use Rattle.lists.proofs.ListLaws.{mapped-long}
 use Rattle.rules.specs.State.{blank, taskOf}
-use Rattle.rules.specs.Whole.{view}
-use Rattle.rules.specs.declared.Supervisor.{Supervisor}
+use Rattle.rules.specs.Whole.{viewCore}
+use Rattle.rules.specs.declared.Core.{Core}
 use Rattle.table.proofs.LeafLaws.{task-in}
 use Rattle.soundness.specs.Check.{Line, Ready, Callers, Held, Delays, belongs, goodIn, marked}
 use Rattle.soundness.specs.Marks.{noMarks, nextMark}
@@ -22,13 +22,13 @@ use Rattle.soundness.proofs.told_of.Statement.{statement}
 use Rattle.soundness.proofs.told_of.Tie as tie
 
 -- the word m goes on with who of the tasks t, t - 1, .., 1 belongs into line l
-abbrev due : Supervisor → Line → ℕ → ℕ → ℕ
-due s l m t = marked (λ u. belongs l (taskOf (view s) u)) m (downFrom t)
+abbrev due : Core → Line → ℕ → ℕ → ℕ
+due s l m t = marked (λ u. belongs l (taskOf (viewCore s) u)) m (downFrom t)
 
 abbrev Inv-loop : tie.InvT-loop
 Inv-loop s good₀ ready₀ callers₀ held₀ delays₀ t₀ good ready callers held delays t =
     (s .created ≤ 31) × (t ≤ s .created) × (length (s .tasks) ≡ 31)
-    × (every (goodIn (view s)) (downFrom (s .created)) ≡ (good && every (goodIn (view s)) (downFrom t)))
+    × (every (goodIn (viewCore s)) (downFrom (s .created)) ≡ (good && every (goodIn (viewCore s)) (downFrom t)))
     × (due s Ready noMarks (s .created) ≡ due s Ready ready t) × (due s Callers noMarks (s .created) ≡ due s Callers callers t)
     × (due s Held noMarks (s .created) ≡ due s Held held t) × (due s Delays noMarks (s .created) ≡ due s Delays delays t)
 
@@ -51,7 +51,7 @@ in-range c =
 -- what stands beside task t is the task that it has called
 called : (c : tie.Joined1 Inv-loop μ-loop) →
     let p = c .before .before .before in
-    c .if1 .g ≡ taskOf (view (p .before .before .before .before .args .t1)) (p .partner-of .result)
+    c .if1 .g ≡ taskOf (viewCore (p .before .before .before .before .args .t1)) (p .partner-of .result)
 called c =
     let p = c .before .before .before in
     let s = p .before .before .before .before .args .t1 in
@@ -63,7 +63,7 @@ called c =
 -- what the test of task t answered, in the rules' words
 answered : (c : tie.After-is-good Inv-loop μ-loop) →
     let l = c .before .before .before .before .before .before .before in
-    c .is-good .result ≡ goodIn (view (l .before .args .t1)) (l .loop .t)
+    c .is-good .result ≡ goodIn (viewCore (l .before .args .t1)) (l .loop .t)
 answered c =
     let p = c .before .before .before .before in
     let l = p .before .before .before in
@@ -72,9 +72,9 @@ answered c =
     (task-in (s .tasks) (s .created) (l .loop .t) (λ z. omega arith) (l .loop .inv .1)) (p .partner-of .ensures) (called (c .before)) (c .is-good .ensures)
 
 -- one line's turn: its word with task t below, if that belongs there
-turn : (s : Supervisor) (l : Line) (t m n : ℕ) (b : Bool) → 0 < t → t ≤ s .created → b ≡ belongs l (getD (s .tasks) (t - 1) blank) → n ≡ nextMark m b → due s l m t ≡ due s l n (t - 1)
+turn : (s : Core) (l : Line) (t m n : ℕ) (b : Bool) → 0 < t → t ≤ s .created → b ≡ belongs l (getD (s .tasks) (t - 1) blank) → n ≡ nextMark m b → due s l m t ≡ due s l n (t - 1)
 turn s l t m n b z k eb en =
-    mark-on (λ u. belongs l (taskOf (view s) u)) m n t b z (eb ∙ ap (belongs l) (task-in (s .tasks) (s .created) t (λ q. omega arith) k)) en
+    mark-on (λ u. belongs l (taskOf (viewCore s) u)) m n t b z (eb ∙ ap (belongs l) (task-in (s .tasks) (s .created) t (λ q. omega arith) k)) en
 
 loop-again : tie.Need-loop-again Inv-loop μ-loop
 loop-again c =
@@ -89,7 +89,7 @@ loop-again c =
     let t = l .loop .t in
     let z : 0 < t = i .loop-test .taken in
     let k : t ≤ s .created = v .1 in
-    let goods = ap (every (goodIn (view s))) (down-on t z) in (
+    let goods = ap (every (goodIn (viewCore s))) (down-on t z) in (
       v .0,
       omega arith,
       v .2,
@@ -108,7 +108,7 @@ returns c =
     let end : downFrom (l .loop .t) ≡ [] = down-end (l .loop .t) (omega arith) in
     let g = sym (rw end at (v .3) ∙ and-true (l .loop .good)) in
     let word : (d : Line) (m : ℕ) → due s d noMarks (s .created) ≡ due s d m (l .loop .t) → m ≡ due s d noMarks (s .created)
-    = λ d m e. sym (e ∙ ap (marked (λ u. belongs d (taskOf (view s) u)) m) end) in
+    = λ d m e. sym (e ∙ ap (marked (λ u. belongs d (taskOf (viewCore s) u)) m) end) in
     λ i. record { good = g i; ready = word Ready _ (v .4) i; callers = word Callers _ (v .5) i; held = word Held _ (v .6) i; delays = word Delays _ (v .7) i }
 
 pub told-of-spec : {M : Type 1} → statement M

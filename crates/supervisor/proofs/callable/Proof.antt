@@ -10,7 +10,7 @@ use Rattle.supervisor.proofs.callable.Tie as tie
 returns : tie.Need-returns
 returns c =
     let a = c .before .before .before .before .before .args in
-    let k : length (a .s .tasks) ≡ 31 = search (needs, mapped-long) in
+    let k : length (a .s .core .tasks) ≡ 31 = search (needs, mapped-long) in
     callable-is (a .s) (a .t) _ _ (c .before .before .task-of .result) (sym (c .before .before .before .before .is-sound .ensures) ∙ c .before .before .before .if1 .taken) k (c .before .is-between .ensures) (c .before .before .task-of .ensures) (c .is-completed .ensures)
 
 returns-2 : tie.Need-returns-2

@@ -5,7 +5,7 @@ use lib.ListN.{length}
 use Rattle.rules.specs.Questions.{countWhole}
 use Rattle.table.specs.declared.queues.Test.the-variants.{QueuedOn}
 use Rattle.lists.proofs.ListLaws.{mapped-long}
-use Rattle.supervisor.proofs.MoveLaws.{picked-line}
+use Rattle.steps.proofs.MoveLaws.{picked-line}
 use Rattle.supervisor.proofs.count.Statement.{statement}
 use Rattle.supervisor.proofs.count.Tie as tie
 
@@ -14,7 +14,7 @@ unfolding countWhole
 returns c =
     let a = c .before .before .before .before .before .args in
     let k : length (a .s .callers) ≡ 31 = search (needs, mapped-long) in
-    let n = c .len .ensures ∙ ap length (picked-line (a .s) (a .s .callers) (QueuedOn (a .t) (a .e)) (c .before .picked .result) k (c .before .picked .ensures)) in
+    let n = c .len .ensures ∙ ap length (picked-line (a .s .core) (a .s .callers) (QueuedOn (a .t) (a .e)) (c .before .picked .result) k (c .before .picked .ensures)) in
     let q = sym (c .before .before .before .before .is-sound .ensures) ∙ c .before .before .before .if1 .taken in
     rw q (ap (λ (k : ℕ). record { refusal = 0; count = k }) n)
 

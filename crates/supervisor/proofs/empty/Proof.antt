@@ -6,18 +6,18 @@ use Rattle.lists.proofs.Parts.{need, Field}
 use Rattle.supervisor.proofs.empty.Statement.{statement}
 use Rattle.supervisor.proofs.empty.Tie as tie
 
-clock-here : Field (need tie.Need-returns) (λ s. s .clock)
+clock-here : Field (need tie.Need-returns) (λ s. s .core .clock)
 clock-here c = refl
 
-created-here : Field (need tie.Need-returns) (λ s. s .created)
+created-here : Field (need tie.Need-returns) (λ s. s .core .created)
 created-here c = refl
 
-tasks-here : Field (need tie.Need-returns) (λ s. s .tasks)
+tasks-here : Field (need tie.Need-returns) (λ s. s .core .tasks)
 tasks-here c = rw (c .blank-task .ensures)
 
 returns : tie.Need-returns
 unfolding pad padTo
-returns c = λ i. record { clock = clock-here c i; created = created-here c i; tasks = tasks-here c i; ready = pad []; callers = pad []; held = pad []; delays = pad [] }
+returns c = λ i. record { core = record { clock = clock-here c i; created = created-here c i; tasks = tasks-here c i; ready = pad []; held = pad []; delays = pad [] }; callers = pad [] }
 
 pub empty-spec : {M : Type 1} → statement M
 empty-spec = tie.close (tie.spec (λ c κs. search needs) returns)

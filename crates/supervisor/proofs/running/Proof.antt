@@ -1,6 +1,9 @@
 use borrow.Author.Needs.{needs}
 use mathlib.Core.Path.{_∙_, sym}
 use Rattle.rules.specs.Questions.{runningWhole}
+use Rattle.lists.specs.Line.{line}
+use Rattle.rules.specs.Whole.{viewCore}
+use Rattle.rules.proofs.Apart.{running-core}
 use Rattle.lists.proofs.Parts.{need, Field}
 use Rattle.supervisor.proofs.running.Statement.{statement}
 use Rattle.supervisor.proofs.running.Tie as tie
@@ -11,7 +14,7 @@ refusal-here c = rw (sym (c .before .before .is-sound .ensures) ∙ c .before .i
 
 task-here : Field (need tie.Need-returns) (λ r. r .task)
 unfolding runningWhole
-task-here c = rw (sym (c .before .before .is-sound .ensures) ∙ c .before .if1 .taken) (c .running .ensures)
+task-here c = rw (sym (c .before .before .is-sound .ensures) ∙ c .before .if1 .taken) (c .running .ensures ∙ sym (running-core (viewCore (c .before .before .before .args .s .core)) (line (c .before .before .before .args .s .callers))))
 
 returns : tie.Need-returns
 returns c = λ i. record { refusal = refusal-here c i; task = task-here c i }

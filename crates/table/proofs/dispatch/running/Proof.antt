@@ -8,7 +8,7 @@ use Rattle.lists.proofs.Tests.{ways}
 use Rattle.lists.proofs.Turns.{rest-blank, rest-entry, rest-end}
 use Rattle.lists.proofs.ListLaws.{mapped-long}
 use Rattle.rules.specs.State.{running, priorityOf}
-use Rattle.rules.specs.Whole.{view}
+use Rattle.rules.specs.Whole.{viewCore}
 use Rattle.table.specs.Best.{bestOf, lastOf}
 use Rattle.table.proofs.Levels.{one-pass-running, last-low, best-turn, best-skip}
 use Rattle.table.proofs.dispatch.running.Statement.{statement}
@@ -17,13 +17,13 @@ use Rattle.table.proofs.dispatch.running.Tie as tie
 -- The best of the rest of the line, from the best so far, is the running task.
 abbrev Inv-loop : tie.InvT-loop
 Inv-loop s n b₀ i₀ b i =
-    (i ≤ 31) × (length (s .tasks) ≡ 31) × (length (s .ready) ≡ 31) × (n ≡ lastOf (s .created)) × (running (view s) ≡ bestOf (priorityOf (view s)) b (line (drop i (s .ready))) .task)
+    (i ≤ 31) × (length (s .tasks) ≡ 31) × (length (s .ready) ≡ 31) × (n ≡ lastOf (s .created)) × (running (viewCore s) ≡ bestOf (priorityOf (viewCore s)) b (line (drop i (s .ready))) .task)
 
 abbrev μ-loop : tie.MeasureT-loop
 μ-loop s n b₀ i₀ b i = 31 - i
 
 loop-holds : tie.Need-loop-holds Inv-loop μ-loop
-loop-holds c = (omega arith, search (needs, mapped-long), search (needs, mapped-long), c .last-of .ensures, one-pass-running (view (c .before .args .t1)))
+loop-holds c = (omega arith, search (needs, mapped-long), search (needs, mapped-long), c .last-of .ensures, one-pass-running (viewCore (c .before .args .t1)))
 
 returns : tie.Need-returns Inv-loop μ-loop
 returns c =

@@ -1,37 +1,30 @@
 use borrow.Author.Needs.{needs}
 use mathlib.Core.Path.{_≡_}
 use Rattle.lists.specs.Line.{line, pad}
-use Rattle.lists.specs.Lists.{rejoin}
 use Rattle.rules.specs.State.{retime}
-use Rattle.rules.specs.Whole.{view}
+use Rattle.rules.specs.Whole.{viewCore}
 use Rattle.table.proofs.LeafLaws.{moved-law}
 use Rattle.table.proofs.moves.moved.Statement.{statement}
 use Rattle.table.proofs.moves.moved.Tie as tie
 
--- the callers without t, and with t at the end if it is queued now
-callers-here : (c : tie.After-rejoined2) → let a = c .before .before .before .before .before .before .before .before .before .before .args in c .rejoined2 .result ≡ pad (rejoin (c .before .is-queued .result) (a .t) (line (a .s .callers)))
-callers-here c = c .rejoined2 .ensures
-
 -- the delay queue without t, and with t in its place if it has a time now
-delays-here : (c : tie.After-retimed) → let a = c .before .before .before .before .before .before .before .before .before .before .before .before .before .args in c .retimed .result ≡ pad (retime (a .s .clock) (view (a .s) .tasks) (a .w) (a .t) (line (a .s .delays)))
+delays-here : (c : tie.After-retimed) → let a = c .before .before .before .before .before .before .before .before .before .before .args in c .retimed .result ≡ pad (retime (a .s .clock) (viewCore (a .s) .tasks) (a .w) (a .t) (line (a .s .delays)))
 delays-here c = c .retimed .ensures
 
 returns : tie.Need-returns
 returns c =
     let h = c .before in
-    let q = h .before .before in
-    let r = q .before .before in
-    let t = r .before .before .before .before .before in
+    let r = h .before .before in
+    let t = r .before .before .before .before in
     let y = t .before in
     let a = y .before .before .args in
-    moved-law (a .s) (a .t) (a .p) (a .w) _ _ _ _ _ _ _ _ _ _
+    moved-law (a .s) (a .t) (a .p) (a .w) _ _ _ _ _ _ _ _
     (y .before .task-of .ensures) (y .placed-at .ensures) (t .with-task .ensures)
-    (r .before .is-ready .ensures) (q .before .is-queued .ensures) (h .before .is-held .ensures)
-    (r .rejoined .ensures) (callers-here q) (h .rejoined3 .ensures) (delays-here c)
+    (r .before .is-ready .ensures) (h .before .is-held .ensures)
+    (r .rejoined .ensures) (h .rejoined2 .ensures) (delays-here c)
 
 pub moved-spec : {M : Type 1} → statement M
 moved-spec =
     tie.close
     (tie.spec (λ c κs. search needs) (λ c κs. search needs) (λ c κs. search needs) (λ c κs. search needs)
-    (λ c κs. search needs) (λ c κs. search needs) (λ c κs. search needs) (λ c κs. search needs) (λ c κs. search needs)
-    (λ c κs. search needs) returns)
+    (λ c κs. search needs) (λ c κs. search needs) (λ c κs. search needs) (λ c κs. search needs) returns)

@@ -10,7 +10,7 @@ use Rattle.lists.proofs.Tests.{ways}
 use Rattle.lists.proofs.Parts.{need, When, Taken, Left}
 use Rattle.lists.proofs.Turns.{Filling, fill-start, fill-keep, fill-skip, fill-stop, fill-over}
 use Rattle.lists.proofs.ListLaws.{mapped-long}
-use Rattle.rules.specs.Whole.{view}
+use Rattle.rules.specs.Whole.{viewCore}
 use Rattle.rules.specs.declared.Task.{Task}
 use Rattle.table.specs.Moved.{isPicked, passesOf}
 use Rattle.table.proofs.LeafLaws.{shown-at}
@@ -19,7 +19,7 @@ use Rattle.table.proofs.queues.picked.Tie as tie
 
 abbrev Inv-loop : tie.InvT-loop
 Inv-loop q s a r₀ j₀ i₀ r j i =
-    Filling (filter (passesOf (view s) q) (line a)) (filter (passesOf (view s) q)) a r j i × (length (s .tasks) ≡ 31)
+    Filling (filter (passesOf (viewCore s) q) (line a)) (filter (passesOf (viewCore s) q)) a r j i × (length (s .tasks) ≡ 31)
 
 abbrev μ-loop : tie.MeasureT-loop
 μ-loop q s a r₀ j₀ i₀ r j i = 31 - i
@@ -32,7 +32,7 @@ returns c = fill-stop (c .before .before .loop .inv .0) (search needs) (search n
 
 -- the test of the task at place i, and what the code says of it
 abbrev test : tie.After-passes Inv-loop μ-loop → Bool
-test c = let a = c .before .before .before .before .before .before .before .args in passesOf (view (a .t1)) (a .q) (getD (a .t2) (c .before .before .before .before .before .before .loop .i) 0)
+test c = let a = c .before .before .before .before .before .before .before .args in passesOf (viewCore (a .t1)) (a .q) (getD (a .t2) (c .before .before .before .before .before .before .loop .i) 0)
 
 passes-here : (c : tie.After-passes Inv-loop μ-loop) → c .passes .result ≡ test c
 passes-here c =

@@ -27,7 +27,6 @@ returns c = let s = c .before .before .args .s in λ i. record {
   created = created-here c i;
   tasks = tasks-here c i;
   ready = s .ready;
-  callers = s .callers;
   held = s .held;
   delays = s .delays;
 }

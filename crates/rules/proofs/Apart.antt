@@ -1,0 +1,577 @@
+-- The callers apart from the rest of a state: a step looks at no calls but those to the running task, and the line of callers afterwards
+-- is told by the places of the tasks alone.
+-- Assumes nothing.
+use Prim.Native.Nat.{ℕ, zero, suc, _+_, _<_, _≤_}
+use mathlib.Core.Path.{_≡_, refl, sym, _∙_, ap, subst}
+use mathlib.Core.Bool.{Bool, true, false, not, _&&_}
+use mathlib.Core.List.{List, [], _∷_, _++_, map, append-nil}
+use native.Mathlib.Omega.{arith}
+use lib.IntN.{ℤ}
+use lib.ListN.{length}
+use lib.Dec.{eqb, ltb, leb}
+use borrow.Author.Tests.{eq-eqb, ne-eqb}
+use Prim.Native.Nat.{_^_}
+use Rattle.lists.specs.Lists.{if_then_else_, bit, filter, remove, count, first, last}
+use Rattle.lists.proofs.Tests.{bit-le}
+use Rattle.lists.proofs.ListLaws.{clash, by-bool, by-test, by-eq, count-append, count-filter-yes, count-filter-no, count-filter-le}
+use Rattle.lists.proofs.MarkLaws.{filter-same, filter-all, filter-filter, out, out-cons}
+use Rattle.rules.specs.State.{State, nth, placeOf, taskOf, created, isTask, isReady, isQueued, isCompleted, accepts, partnerOf, entryOf, opens, waitsOn, queue, heldBy, running, move, wake, wakeAll, meet, setClock, after, waiting, meeting, offer}
+use Rattle.rules.specs.Sound.{sound, inRange}
+use Rattle.rules.specs.Step.{Outcome, refused, took, create, delayFor, enqueue, timedCall, callBusy, call, openFrom, openEntry, selectDelay, selectNone, selectAt, select, endLast, end, queuedFrom, queuedOn, finish, failed, dueAt, endsAt, tick, tickTo, advanced, advanceEnds, readings, ofRunning, takeCall, ticks, item, DONE, expired}
+use Rattle.rules.specs.Callers.{calling, callersOf, withCallers, core, queuedIn, settled, coreOf, asks, Alike, Settled, Told, CallersApart}
+use Rattle.rules.specs.declared.Item.{Item}
+use Rattle.rules.specs.declared.Timer.{Timer}
+use Rattle.rules.specs.declared.Timer.the-variants.{Off, Due}
+use Rattle.rules.specs.declared.Place.{Place}
+use Rattle.rules.specs.declared.Place.the-variants.{Blank, Ready, Delayed, Queued, Held, Accepting, Completed}
+use Rattle.calls.specs.declared.CallMode.{CallMode}
+use Rattle.calls.specs.declared.CallMode.the-variants.{Simple, Timed, Conditional}
+use Rattle.calls.specs.declared.SelectMode.{SelectMode}
+use Rattle.calls.specs.declared.SelectMode.the-variants.{Plain, Else}
+use Rattle.calls.specs.declared.SelectMode.the-variants as S
+use Rattle.calls.specs.declared.Call as C
+use Rattle.calls.specs.declared.Call.the-variants.{Create, Delay, Call, Select, End, Finish, Tick, Advance}
+use Rattle.rules.proofs.Invariant.{Sound}
+use Rattle.rules.specs.Runs.{isWaiting}
+use Rattle.rules.specs.declared.Task.{Task}
+use Rattle.rules.proofs.Members.{runs, nth-beyond}
+use Rattle.rules.proofs.Fate.{Fate, untouched, awake, began, began-held, taken, ran-out, accepted, served, given-up}
+use Rattle.rules.proofs.SoundTest.{sound-props}
+use Rattle.rules.proofs.StepSound.{Kept, call-sound}
+
+-- ── an entry's queue is a part of the calls to its task ──
+
+absorb : (q p e : Bool) → ((q && p) && (q && p && e)) ≡ (q && p && e)
+absorb true true e = refl
+absorb true false e = refl
+absorb false p e = refl
+
+pub queue-of : (s : State) (t e : ℕ) → queue s t e ≡ filter (waitsOn s t e) (callersOf s t)
+queue-of s t e =
+    sym (filter-filter (waitsOn s t e) (calling s t) (s .callers)
+    ∙ filter-same _ _ (s .callers) (λ c k. absorb (isQueued (placeOf s c)) (eqb (partnerOf (placeOf s c)) t) (eqb (entryOf (placeOf s c)) e)))
+
+-- ── what does not look at the callers ──
+
+pub running-core : (s : State) (l : List ℕ) → running (withCallers s l) ≡ running s
+unfolding running
+running-core s l = refl
+
+pub core-move : (s u : State) (t : ℕ) (p : Place) (w : Timer) → core s ≡ core u → core (move s t p w) ≡ core (move u t p w)
+core-move s u t p w e = ap (λ (z : State). core (move z t p w)) e
+
+pub core-wakes : (l : List ℕ) (s u : State) → core s ≡ core u → core (wakeAll s l) ≡ core (wakeAll u l)
+core-wakes [] s u e = e
+core-wakes (t ∷ l) s u e = core-wakes l (wake s t) (wake u t) (core-move s u t Ready Off e)
+
+pub core-tick : (s u : State) (n : ℕ) → core s ≡ core u → core (tickTo s n) ≡ core (tickTo u n)
+core-tick s u n e =
+    ap (λ (x : State). core (setClock x n)) (core-wakes (dueAt s n) s u e)
+    ∙ ap (λ (x : State). core (setClock (wakeAll u (dueAt x n)) n)) e
+
+-- what a function tells of the rest of the state it tells of any line of callers
+pub core-advance : (n : ℕ) (s u : State) → core s ≡ core u → (core (advanced n s) ≡ core (advanced n u)) × (advanceEnds n s ≡ advanceEnds n u) × (readings n s ≡ readings n u)
+core-advance zero s u e = (e, refl, refl)
+core-advance (suc n) s u e =
+    let k : after (s .clock) 1 ≡ after (u .clock) 1 = ap (λ (x : State). after (x .clock) 1) e in
+    let g : endsAt s (after (s .clock) 1) ≡ endsAt u (after (u .clock) 1) = ap (λ (x : State). endsAt x (after (x .clock) 1)) e in
+    let t : core (tickTo s (after (s .clock) 1)) ≡ core (tickTo u (after (u .clock) 1)) = core-tick s u (after (s .clock) 1) e ∙ ap (λ (m : ℕ). core (tickTo u m)) k in
+    let r = core-advance n (tickTo s (after (s .clock) 1)) (tickTo u (after (u .clock) 1)) t in
+    (r .0, (λ i. g i ++ r .1 i), (λ i. bit (ltb 0 (length (g i))) + r .2 i))
+
+-- ── a step looks at no calls but those to the running task ──
+
+module _ (s : State) (l : List ℕ) where
+  abbrev pub u : State
+  u = withCallers s l
+
+  -- the calls to t are the same
+  abbrev pub Sees : ℕ → Type 0
+  Sees t = callersOf s t ≡ callersOf u t
+
+  -- an outcome that does not look at the callers
+  abbrev pub Same : Outcome → Outcome → Type 0
+  Same o q = coreOf o ≡ coreOf q
+
+  -- a test that both ask
+  by-both : (b : Bool) (x y z w : Outcome) → Same x z → Same y w → Same (if b then x else y) (if b then z else w)
+  by-both true x y z w f g = f
+  by-both false x y z w f g = g
+
+  see-queue : (t e : ℕ) → Sees t → queue s t e ≡ queue u t e
+  see-queue t e h = queue-of s t e ∙ ap (filter (waitsOn s t e)) h ∙ sym (queue-of u t e)
+
+  pub same-create : (p n : ℕ) → Same (create s p n) (create u p n)
+  same-create p n =
+      by-both (not (inRange p n)) _ _ _ _ refl (by-both (leb 31 (created s)) _ _ _ _ refl refl)
+
+  pub same-delay : (t d : ℕ) → Same (delayFor s t d) (delayFor u t d)
+  same-delay t zero = refl
+  same-delay t (suc d) = refl
+
+  pub same-timed : (t g e d : ℕ) → Same (timedCall s t g e d) (timedCall u t g e d)
+  same-timed t g e zero = refl
+  same-timed t g e (suc d) = refl
+
+  pub same-busy : (t g e : ℕ) (m : CallMode) → Same (callBusy s t g e m) (callBusy u t g e m)
+  same-busy t g e Simple = refl
+  same-busy t g e (Timed d) = same-timed t g e (ticks d)
+  same-busy t g e Conditional = refl
+
+  pub same-call : (t g e : ℕ) (m : CallMode) → Same (call s t g e m) (call u t g e m)
+  same-call t g e m =
+      by-both (not (isTask s g)) _ _ _ _ refl
+      (by-both (not (ltb 0 e && leb e (taskOf s g .entries))) _ _ _ _ refl
+      (by-both (isCompleted (placeOf s g)) _ _ _ _ refl
+      (by-both (accepts (placeOf s g) e) _ _ _ _ refl (same-busy t g e m))))
+
+  pub same-open : (t o k e : ℕ) → Sees t → openFrom s t o k e ≡ openFrom u t o k e
+  same-open t o zero e h = refl
+  same-open t o (suc k) e h =
+      λ i. elim (opens o e && ltb 0 (length (see-queue t e h i))) as (λ _. ℕ) [ true ↦ e | false ↦ same-open t o k (suc e) h i ]
+
+  pub same-late : (t o d : ℕ) → Same (selectDelay s t o d) (selectDelay u t o d)
+  same-late t o zero = refl
+  same-late t o (suc d) = refl
+
+  pub same-none : (t o : ℕ) (m : SelectMode) → Same (selectNone s t o m) (selectNone u t o m)
+  same-none t o Plain = by-both (eqb o 0) _ _ _ _ refl refl
+  same-none t o (S.Delay d) = same-late t o (ticks d)
+  same-none t o Else = refl
+
+  pub same-at : (t o : ℕ) (m : SelectMode) (e : ℕ) → Sees t → Same (selectAt s t o m e) (selectAt u t o m e)
+  same-at t o m zero h = same-none t o m
+  same-at t o m (suc e) h = ap (λ (q : List ℕ). took (core (meet s t (first q) (suc e))) (item t Rattle.rules.specs.Step.ACCEPTED (suc e) (first q)) []) (see-queue t (suc e) h)
+
+  pub same-select : (t o : ℕ) (m : SelectMode) → Sees t → Same (select s t o m) (select u t o m)
+  unfolding openEntry
+  same-select t o m h =
+      by-both (leb (2 ^ (taskOf s t .entries)) o) _ _ _ _ refl
+      (same-at t o m (openEntry s t o) h ∙ ap (λ (e : ℕ). coreOf (selectAt u t o m e)) (same-open t o 8 1 h))
+
+  pub same-end : (t : ℕ) → Same (end s t) (end u t)
+  same-end t = go (last (heldBy s t))
+    where
+      go : (c : ℕ) → Same (endLast s t c) (endLast u t c)
+      go zero = refl
+      go (suc c) = refl
+
+  pub same-queued : (t k e : ℕ) → Sees t → queuedFrom s t k e ≡ queuedFrom u t k e
+  same-queued t zero e h = refl
+  same-queued t (suc k) e h = λ i. see-queue t e h i ++ same-queued t k (suc e) h i
+
+  pub same-finish : (t : ℕ) → Sees t → Same (finish s t) (finish u t)
+  unfolding queuedOn
+  same-finish t h =
+      by-both (ltb 0 (length (heldBy s t))) _ _ _ _ refl
+      (ap (λ (q : List ℕ). took (core (move (wakeAll s q) t Completed Off)) (item t DONE 0 0) (map (failed s) q)) (same-queued t 8 1 h)
+      ∙ ap (λ (x : State). took x (item t DONE 0 0) (map (failed s) (queuedFrom u t 8 1))) (core-move (wakeAll s (queuedFrom u t 8 1)) (wakeAll u (queuedFrom u t 8 1)) t Completed Off (core-wakes (queuedFrom u t 8 1) s u refl)))
+
+  pub same-tick : Same (tick s) (tick u)
+  same-tick = ap (λ (x : State). took x (item 0 DONE 0 0) (endsAt s (after (s .clock) 1))) (core-tick s u (after (s .clock) 1) refl)
+
+  pub same-advance : (n : ℕ) → Same (takeCall s (Advance n)) (takeCall u (Advance n))
+  same-advance n = let r = core-advance n s u refl in λ i. took (r .0 i) (item 0 DONE (r .2 i) 0) (r .1 i)
+
+  pub same-runner : (f g : ℕ → Outcome) (t : ℕ) → Same (f t) (g t) → Same (ofRunning t f) (ofRunning t g)
+  same-runner f g zero h = refl
+  same-runner f g (suc t) h = h
+
+  pub same-step : (c : C.Call) → (asks c ≡ true → Sees (running s)) → Same (takeCall s c) (takeCall u c)
+  unfolding running
+  same-step (Create p n) h = same-create p n
+  same-step (Delay d) h = same-runner _ _ (running s) (same-delay (running s) (ticks d))
+  same-step (Call g e m) h = same-runner _ _ (running s) (same-call (running s) g e m)
+  same-step (Select o m) h = same-runner _ _ (running s) (same-select (running s) o m (h refl))
+  same-step End h = same-runner _ _ (running s) (same-end (running s))
+  same-step Finish h = same-runner _ _ (running s) (same-finish (running s) (h refl))
+  same-step Tick h = same-tick
+  same-step (Advance n) h = same-advance n
+
+-- ── what becomes of the line of callers ──
+
+-- some have left
+abbrev Less : List ℕ → List ℕ → Type 0
+Less l m = (p : ℕ → Bool) × (m ≡ filter p l)
+
+less-none : (l : List ℕ) → Less l l
+less-none l = ((λ _. true), sym (filter-all (λ _. true) l (λ x. refl)))
+
+less-on : (l m n : List ℕ) → Less l m → Less m n → Less l n
+less-on l m n a b = ((λ x. a .0 x && b .0 x), b .1 ∙ ap (filter (b .0)) (a .1) ∙ filter-filter (b .0) (a .0) l)
+
+less-wakes : (q : List ℕ) (s : State) → Less (s .callers) (wakeAll s q .callers)
+less-wakes [] s = less-none (s .callers)
+less-wakes (t ∷ q) s = less-on (s .callers) (remove t (s .callers)) (wakeAll (wake s t) q .callers) ((λ x. not (eqb x t)), refl) (less-wakes q (wake s t))
+
+less-advance : (n : ℕ) (s : State) → Less (s .callers) (advanced n s .callers)
+less-advance zero s = less-none (s .callers)
+less-advance (suc n) s =
+    let v = tickTo s (after (s .clock) 1) in less-on (s .callers) (v .callers) (advanced n v .callers) (less-wakes (dueAt s (after (s .clock) 1)) s) (less-advance n v)
+
+-- some have left, and t may have come
+data Comes (t : ℕ) (l m : List ℕ) : Type 0 where
+  leave : Less l m → Comes t l m
+  join : (p : ℕ → Bool) → m ≡ filter p l ++ (t ∷ []) → Comes t l m
+
+abbrev ComesOf : ℕ → List ℕ → Outcome → Type 0
+ComesOf t l (refused r) = Unit {0}
+ComesOf t l (took s a x) = Comes t l (s .callers)
+
+-- whoever left is no longer queued, and who stands in the line is
+settle : (s v : State) (t : ℕ) → Sound s → Sound v → queuedIn s t ≡ false → Comes t (s .callers) (v .callers) → v .callers ≡ settled v t (s .callers)
+settle s v t h k r (leave (p, e)) = e ∙ kept ∙ sym (rw z (append-nil (filter (queuedIn v) (s .callers))))
+  where
+    none : count t (s .callers) ≡ 0
+    none = h .callers t ∙ ap bit r
+
+    z : queuedIn v t ≡ false
+    z = by-bool (queuedIn v t) (λ y. absurd (omega (arith, none, count-filter-le p t (s .callers), ap (count t) e, k .callers t, ap bit y))) (λ y. y)
+
+    kept : filter p (s .callers) ≡ filter (queuedIn v) (s .callers)
+    kept = filter-same p (queuedIn v) (s .callers) (λ x j.
+        by-bool (p x)
+        (λ y. by-bool (queuedIn v x) (λ w. y ∙ sym w) (λ w. absurd (omega (arith, j, count-filter-yes p x (s .callers) y, ap (count x) e, k .callers x, ap bit w))))
+        (λ y. by-bool (queuedIn v x) (λ w. absurd (omega (arith, count-filter-no p x (s .callers) y, ap (count x) e, k .callers x, ap bit w))) (λ w. y ∙ sym w)))
+settle s v t h k r (join p e) = e ∙ (λ i. kept i ++ (t ∷ [])) ∙ sym (rw z)
+  where
+    none : count t (s .callers) ≡ 0
+    none = h .callers t ∙ ap bit r
+
+    one : count t (v .callers) ≡ count t (filter p (s .callers)) + 1
+    one = ap (count t) e ∙ count-append t (filter p (s .callers)) (t ∷ []) ∙ rw (eq-eqb t t refl)
+
+    z : queuedIn v t ≡ true
+    z = by-bool (queuedIn v t) (λ y. y) (λ y. absurd (omega (arith, one, k .callers t, ap bit y)))
+
+    other : (x : ℕ) → 0 < count x (s .callers) → count x (v .callers) ≡ count x (filter p (s .callers))
+    other x j = ap (count x) e ∙ count-append x (filter p (s .callers)) (t ∷ []) ∙ rw (ne-eqb t x (λ y. omega (arith, none, rw (sym y) at j))) (omega arith)
+
+    kept : filter p (s .callers) ≡ filter (queuedIn v) (s .callers)
+    kept = filter-same p (queuedIn v) (s .callers) (λ x j.
+        by-bool (p x)
+        (λ y. by-bool (queuedIn v x) (λ w. y ∙ sym w) (λ w. absurd (omega (arith, j, count-filter-yes p x (s .callers) y, other x j, k .callers x, ap bit w))))
+        (λ y. by-bool (queuedIn v x) (λ w. absurd (omega (arith, count-filter-no p x (s .callers) y, other x j, k .callers x, ap bit w))) (λ w. y ∙ sym w)))
+
+gone : (t : ℕ) (l : List ℕ) → Less l (remove t l)
+gone t l = ((λ x. not (eqb x t)), refl)
+
+module _ (s : State) where
+  abbrev idle : Less (s .callers) (s .callers)
+  idle = less-none (s .callers)
+
+  comes-create : (t p n : ℕ) → ComesOf t (s .callers) (create s p n)
+  comes-create t p n = by-test (ComesOf t (s .callers)) (not (inRange p n)) (λ _. tt) (λ _. by-test (ComesOf t (s .callers)) (leb 31 (created s)) (λ _. tt) (λ _. leave idle))
+
+  comes-delay : (t d : ℕ) → ComesOf t (s .callers) (delayFor s t d)
+  comes-delay t zero = leave (gone t (s .callers))
+  comes-delay t (suc d) = leave (gone t (s .callers))
+
+  comes-timed : (t g e d : ℕ) → ComesOf t (s .callers) (timedCall s t g e d)
+  comes-timed t g e zero = leave idle
+  comes-timed t g e (suc d) = join (λ x. not (eqb x t)) refl
+
+  comes-busy : (t g e : ℕ) (m : CallMode) → ComesOf t (s .callers) (callBusy s t g e m)
+  comes-busy t g e Simple = join (λ x. not (eqb x t)) refl
+  comes-busy t g e (Timed d) = comes-timed t g e (ticks d)
+  comes-busy t g e Conditional = leave idle
+
+  comes-call : (t g e : ℕ) (m : CallMode) → ComesOf t (s .callers) (call s t g e m)
+  comes-call t g e m =
+      by-test (ComesOf t (s .callers)) (not (isTask s g)) (λ _. tt) λ _.
+      by-test (ComesOf t (s .callers)) (not (ltb 0 e && leb e (taskOf s g .entries))) (λ _. tt) λ _.
+      by-test (ComesOf t (s .callers)) (isCompleted (placeOf s g)) (λ _. leave idle) λ _.
+      by-test (ComesOf t (s .callers)) (accepts (placeOf s g) e)
+      (λ _. leave (less-on (s .callers) (remove g (s .callers)) (remove t (remove g (s .callers))) (gone g (s .callers)) (gone t (remove g (s .callers)))))
+      (λ _. comes-busy t g e m)
+
+  comes-late : (t o d : ℕ) → ComesOf t (s .callers) (selectDelay s t o d)
+  comes-late t o zero = leave idle
+  comes-late t o (suc d) = leave (gone t (s .callers))
+
+  comes-none : (t o : ℕ) (m : SelectMode) → ComesOf t (s .callers) (selectNone s t o m)
+  comes-none t o Plain = by-test (ComesOf t (s .callers)) (eqb o 0) (λ _. leave idle) (λ _. leave (gone t (s .callers)))
+  comes-none t o (S.Delay d) = comes-late t o (ticks d)
+  comes-none t o Else = leave idle
+
+  comes-at : (t o : ℕ) (m : SelectMode) (e : ℕ) → ComesOf t (s .callers) (selectAt s t o m e)
+  comes-at t o m zero = comes-none t o m
+  comes-at t o m (suc e) = leave (gone (first (queue s t (suc e))) (s .callers))
+
+  comes-select : (t o : ℕ) (m : SelectMode) → ComesOf t (s .callers) (select s t o m)
+  comes-select t o m = by-test (ComesOf t (s .callers)) (leb (2 ^ (taskOf s t .entries)) o) (λ _. tt) (λ _. comes-at t o m (openEntry s t o))
+
+  comes-end : (t c : ℕ) → ComesOf t (s .callers) (endLast s t c)
+  comes-end t zero = tt
+  comes-end t (suc c) = leave (gone (suc c) (s .callers))
+
+  comes-finish : (t : ℕ) → ComesOf t (s .callers) (finish s t)
+  comes-finish t =
+      let q = queuedOn s t in
+      by-test (ComesOf t (s .callers)) (ltb 0 (length (heldBy s t))) (λ _. tt)
+      (λ _. leave (less-on (s .callers) (wakeAll s q .callers) (remove t (wakeAll s q .callers)) (less-wakes q s) (gone t (wakeAll s q .callers))))
+
+  comes-runner : (f : ℕ → Outcome) (t : ℕ) → ComesOf t (s .callers) (f t) → ComesOf t (s .callers) (ofRunning t f)
+  comes-runner f zero h = tt
+  comes-runner f (suc t) h = h
+
+  comes : (c : C.Call) → ComesOf (running s) (s .callers) (takeCall s c)
+  comes (Create p n) = comes-create (running s) p n
+  comes (Delay d) = comes-runner (λ t. delayFor s t (ticks d)) (running s) (comes-delay (running s) (ticks d))
+  comes (Call g e m) = comes-runner (λ t. call s t g e m) (running s) (comes-call (running s) g e m)
+  comes (Select o m) = comes-runner (λ t. select s t o m) (running s) (comes-select (running s) o m)
+  comes End = comes-runner (λ t. end s t) (running s) (comes-end (running s) (last (heldBy s (running s))))
+  comes Finish = comes-runner (λ t. finish s t) (running s) (comes-finish (running s))
+  comes Tick = leave (less-wakes (dueAt s (after (s .clock) 1)) s)
+  comes (Advance n) = leave (less-advance n s)
+
+-- who made the call is not queued, nor is a task that is new, nor is nobody
+runner-out : (s : State) → Sound s → queuedIn s (running s) ≡ false
+runner-out s h = go (running s) refl
+  where
+    go : (t : ℕ) → running s ≡ t → queuedIn s t ≡ false
+    go zero e = refl
+    go (suc t) e = ap isQueued (runs s t h e .place)
+
+-- the callers after a step: where somebody comes it is the task of the answer, which was not queued
+abbrev Came : State → Outcome → Type 0
+Came s (refused r) = Unit {0}
+Came s (took v a l) = Comes (a .task) (s .callers) (v .callers) × (queuedIn s (a .task) ≡ false)
+
+-- the answers of t's calls are about t
+abbrev About : ℕ → Outcome → Type 0
+About t (refused r) = Unit {0}
+About t (took v a l) = a .task ≡ t
+
+module _ (s : State) (t : ℕ) where
+  about-delay : (d : ℕ) → About t (delayFor s t d)
+  about-delay zero = refl
+  about-delay (suc d) = refl
+
+  about-timed : (g e d : ℕ) → About t (timedCall s t g e d)
+  about-timed g e zero = refl
+  about-timed g e (suc d) = refl
+
+  about-busy : (g e : ℕ) (m : CallMode) → About t (callBusy s t g e m)
+  about-busy g e Simple = refl
+  about-busy g e (Timed d) = about-timed g e (ticks d)
+  about-busy g e Conditional = refl
+
+  about-call : (g e : ℕ) (m : CallMode) → About t (call s t g e m)
+  about-call g e m =
+      by-test (About t) (not (isTask s g)) (λ _. tt) λ _.
+      by-test (About t) (not (ltb 0 e && leb e (taskOf s g .entries))) (λ _. tt) λ _.
+      by-test (About t) (isCompleted (placeOf s g)) (λ _. refl) λ _.
+      by-test (About t) (accepts (placeOf s g) e) (λ _. refl) (λ _. about-busy g e m)
+
+  about-late : (o d : ℕ) → About t (selectDelay s t o d)
+  about-late o zero = refl
+  about-late o (suc d) = refl
+
+  about-none : (o : ℕ) (m : SelectMode) → About t (selectNone s t o m)
+  about-none o Plain = by-test (About t) (eqb o 0) (λ _. refl) (λ _. refl)
+  about-none o (S.Delay d) = about-late o (ticks d)
+  about-none o Else = refl
+
+  about-at : (o : ℕ) (m : SelectMode) (e : ℕ) → About t (selectAt s t o m e)
+  about-at o m zero = about-none o m
+  about-at o m (suc e) = refl
+
+  about-select : (o : ℕ) (m : SelectMode) → About t (select s t o m)
+  about-select o m = by-test (About t) (leb (2 ^ (taskOf s t .entries)) o) (λ _. tt) (λ _. about-at o m (openEntry s t o))
+
+  about-end : (c : ℕ) → About t (endLast s t c)
+  about-end zero = tt
+  about-end (suc c) = refl
+
+  about-finish : About t (finish s t)
+  about-finish = by-test (About t) (ltb 0 (length (heldBy s t))) (λ _. tt) (λ _. refl)
+
+  about-runner : (f : ℕ → Outcome) → About t (f t) → About t (ofRunning t f)
+  about-runner f h = go t h
+    where
+      go : (t : ℕ) → About t (f t) → About t (ofRunning t f)
+      go zero h = tt
+      go (suc t) h = h
+
+module _ (s : State) (h : Sound s) where
+  of-runner : (o : Outcome) → ComesOf (running s) (s .callers) o → About (running s) o → Came s o
+  of-runner (refused r) c a = tt
+  of-runner (took v a l) c e = (subst (λ (t : ℕ). Comes t (s .callers) (v .callers)) (sym e) c, ap (queuedIn s) e ∙ runner-out s h)
+
+  came : (c : C.Call) → Came s (takeCall s c)
+  came (Create p n) =
+      by-test (Came s) (not (inRange p n)) (λ _. tt) λ _.
+      by-test (Came s) (leb 31 (created s)) (λ _. tt) λ _.
+      (leave (less-none (s .callers)), ap (λ (x : Task). isQueued (x .place)) (nth-beyond (s .tasks) (suc (created s)) (omega arith)))
+  came (Delay d) = of-runner (takeCall s (Delay d)) (comes s (Delay d)) (about-runner s (running s) (λ t. delayFor s t (ticks d)) (about-delay s (running s) (ticks d)))
+  came (Call g e m) = of-runner (takeCall s (Call g e m)) (comes s (Call g e m)) (about-runner s (running s) (λ t. call s t g e m) (about-call s (running s) g e m))
+  came (Select o m) = of-runner (takeCall s (Select o m)) (comes s (Select o m)) (about-runner s (running s) (λ t. select s t o m) (about-select s (running s) o m))
+  came End = of-runner (takeCall s End) (comes s End) (about-runner s (running s) (λ t. end s t) (about-end s (running s) (last (heldBy s (running s)))))
+  came Finish = of-runner (takeCall s Finish) (comes s Finish) (about-runner s (running s) (λ t. finish s t) (about-finish s (running s)))
+  came Tick = (leave (less-wakes (dueAt s (after (s .clock) 1)) s), refl)
+  came (Advance n) = (leave (less-advance n s), refl)
+
+pub settles : (s : State) (c : C.Call) → Sound s → Settled (s .callers) (takeCall s c)
+settles s c h = go (takeCall s c) (came s h c) (call-sound s c h)
+  where
+    go : (o : Outcome) → Came s o → Kept o → Settled (s .callers) o
+    go (refused r) a k = tt
+    go (took v a l) b k = settle s v (a .task) h k (b .1) (b .0)
+
+-- who is queued before and after waits on the same entry of the same task
+pub same-wait : (s v : State) (c : C.Call) (a : Item) (l : List Item) (u : ℕ) → Fate s c u v a l → queuedIn s u ≡ true → queuedIn v u ≡ true → placeOf v u ≡ placeOf s u
+same-wait s v c a l u f p q = go f
+  where
+    waits : (p : Place) → isQueued p ≡ true → isWaiting p ≡ true
+    waits (Queued w) e = refl
+    waits Blank e = clash e refl
+    waits Ready e = clash e refl
+    waits Delayed e = clash e refl
+    waits (Held m) e = clash e refl
+    waits (Accepting o) e = clash e refl
+    waits Completed e = clash e refl
+
+    go : Fate s c u v a l → placeOf v u ≡ placeOf s u
+    go (untouched k r b) = k .place
+    go (awake x y r b) = clash (waits (placeOf s u) p) x
+    go (began x y z w r b) = clash (waits (placeOf s u) p) x
+    go (began-held x m z r b) = clash (waits (placeOf s u) p) x
+    go (taken t w m x y r b) = clash q (ap isQueued y)
+    go (ran-out d x y z r b) = clash q (ap isQueued z)
+    go (accepted t o x y r b) = clash p (ap isQueued x)
+    go (served e m x y z w r b) = clash p (ap isQueued x)
+    go (given-up e w x y z r b) = clash q (ap isQueued z)
+
+-- ── what becomes of the line of callers, read off the call and what it answers ──
+
+-- nobody is gone, and t is none of the line
+all-in : (l : List ℕ) → filter (out []) l ≡ l
+all-in l = filter-all (out []) l (λ x. refl)
+
+absent : (t : ℕ) (l : List ℕ) → count t l ≡ 0 → remove t l ≡ l
+absent t l z = filter-same (λ x. not (eqb x t)) (out []) l (λ x k. ap not (ne-eqb x t (λ e. omega (arith, k, z, ap (λ (y : ℕ). count y l) e)))) ∙ all-in l
+
+out-append : (a b l : List ℕ) → filter (out (a ++ b)) l ≡ filter (out b) (filter (out a) l)
+out-append [] b l = ap (filter (out b)) (sym (all-in l))
+out-append (t ∷ a) b l = sym (out-cons t (a ++ b) l) ∙ out-append a b (remove t l) ∙ ap (filter (out b)) (out-cons t a l)
+
+wakes-out : (q : List ℕ) (s : State) → wakeAll s q .callers ≡ filter (out q) (s .callers)
+wakes-out [] s = sym (all-in (s .callers))
+wakes-out (t ∷ q) s = wakes-out q (wake s t) ∙ out-cons t q (s .callers)
+
+module _ (f : ℕ → Item) (own : (x : ℕ) → f x .task ≡ x) where
+  tasks-of : (q : List ℕ) → map (λ (i : Item). i .task) (map f q) ≡ q
+  tasks-of [] = refl
+  tasks-of (x ∷ q) = λ i. own x i ∷ tasks-of q i
+
+tasks-append : (x y : List Item) → map (λ (i : Item). i .task) (x ++ y) ≡ map (λ (i : Item). i .task) x ++ map (λ (i : Item). i .task) y
+tasks-append [] y = refl
+tasks-append (i ∷ x) y = ap (λ (l : List ℕ). i .task ∷ l) (tasks-append x y)
+
+ends-out : (s : State) (n : ℕ) → wakeAll s (dueAt s n) .callers ≡ filter (out (map (λ (i : Item). i .task) (endsAt s n))) (s .callers)
+ends-out s n = wakes-out (dueAt s n) s ∙ ap (λ (q : List ℕ). filter (out q) (s .callers)) (sym (tasks-of (expired s) (λ x. refl) (dueAt s n)))
+
+advance-out : (n : ℕ) (s : State) → advanced n s .callers ≡ filter (out (map (λ (i : Item). i .task) (advanceEnds n s))) (s .callers)
+advance-out zero s = sym (all-in (s .callers))
+advance-out (suc n) s =
+    let now = after (s .clock) 1 in
+    let g = map (λ (i : Item). i .task) (endsAt s now) in
+    let r = map (λ (i : Item). i .task) (advanceEnds n (tickTo s now)) in
+    advance-out n (tickTo s now) ∙ ap (filter (out r)) (ends-out s now) ∙ sym (out-append g r (s .callers))
+    ∙ ap (λ (q : List ℕ). filter (out q) (s .callers)) (sym (tasks-append (endsAt s now) (advanceEnds n (tickTo s now))))
+
+module _ (s : State) (t : ℕ) (z : count t (s .callers) ≡ 0) where
+  abbrev l : List ℕ
+  l = s .callers
+
+  -- nobody leaves or comes
+  stay : l ≡ filter (out []) l ++ []
+  stay = sym (append-nil (filter (out []) l) ∙ all-in l)
+
+  stay-but : remove t l ≡ filter (out []) l ++ []
+  stay-but = absent t l z ∙ stay
+
+  -- t comes
+  come : remove t l ++ (t ∷ []) ≡ filter (out []) l ++ (t ∷ [])
+  come = ap (λ (k : List ℕ). k ++ (t ∷ [])) (absent t l z ∙ sym (all-in l))
+
+  -- c leaves
+  leaves-one : (c : ℕ) → remove c l ≡ filter (out (c ∷ [])) l ++ []
+  leaves-one c = sym (append-nil (filter (out (c ∷ [])) l) ∙ sym (out-cons c [] l) ∙ all-in (remove c l))
+
+  told-delay : (d : ℕ) (x : ℤ) → Told (Delay x) l (delayFor s t d)
+  told-delay zero x = stay-but
+  told-delay (suc d) x = stay-but
+
+  module _ (g e : ℕ) (m : CallMode) where
+    told-timed : (d : ℕ) → Told (Call g e m) l (timedCall s t g e d)
+    told-timed zero = stay
+    told-timed (suc d) = come
+
+    told-busy : (k : CallMode) → Told (Call g e m) l (callBusy s t g e k)
+    told-busy Simple = come
+    told-busy (Timed d) = told-timed (ticks d)
+    told-busy Conditional = stay
+
+    told-call : Told (Call g e m) l (call s t g e m)
+    told-call =
+        by-test (Told (Call g e m) l) (not (isTask s g)) (λ _. tt) λ _.
+        by-test (Told (Call g e m) l) (not (ltb 0 e && leb e (taskOf s g .entries))) (λ _. tt) λ _.
+        by-test (Told (Call g e m) l) (isCompleted (placeOf s g)) (λ _. stay) λ _.
+        by-test (Told (Call g e m) l) (accepts (placeOf s g) e)
+        (λ _. absent t (remove g l) (omega (arith, z, count-filter-le (λ x. not (eqb x g)) t l)) ∙ leaves-one g)
+        (λ _. told-busy m)
+
+  module _ (o : ℕ) (m : SelectMode) where
+    told-late : (d : ℕ) → Told (Select o m) l (selectDelay s t o d)
+    told-late zero = stay
+    told-late (suc d) = stay-but
+
+    told-none : (k : SelectMode) → Told (Select o m) l (selectNone s t o k)
+    told-none Plain = by-test (Told (Select o m) l) (eqb o 0) (λ _. stay) (λ _. stay-but)
+    told-none (S.Delay d) = told-late (ticks d)
+    told-none Else = stay
+
+    told-at : (e : ℕ) → Told (Select o m) l (selectAt s t o m e)
+    told-at zero = told-none m
+    told-at (suc e) = leaves-one (first (queue s t (suc e)))
+
+    told-select : Told (Select o m) l (select s t o m)
+    told-select = by-test (Told (Select o m) l) (leb (2 ^ (taskOf s t .entries)) o) (λ _. tt) (λ _. told-at (openEntry s t o))
+
+  told-end : (c : ℕ) → Told End l (endLast s t c)
+  told-end zero = tt
+  told-end (suc c) = leaves-one (suc c)
+
+  told-finish : Told Finish l (finish s t)
+  told-finish =
+      let q = queuedOn s t in
+      by-test (Told Finish l) (ltb 0 (length (heldBy s t))) (λ _. tt)
+      (λ _. absent t (wakeAll s q .callers) (omega (arith, z, ap (count t) (wakes-out q s), count-filter-le (out q) t l)) ∙ wakes-out q s
+      ∙ ap (λ (g : List ℕ). filter (out g) l) (sym (tasks-of (failed s) (λ x. refl) q)) ∙ sym (append-nil (filter (out (map (λ (i : Item). i .task) (map (failed s) q))) l)))
+
+told-runner : (c : C.Call) (l : List ℕ) (f : ℕ → Outcome) (t : ℕ) → Told c l (f t) → Told c l (ofRunning t f)
+told-runner c l f zero h = tt
+told-runner c l f (suc t) h = h
+
+pub tells : (s : State) (c : C.Call) → Sound s → Told c (s .callers) (takeCall s c)
+tells s c h = go c
+  where
+    none : count (running s) (s .callers) ≡ 0
+    none = h .callers (running s) ∙ ap bit (runner-out s h)
+
+    go : (c : C.Call) → Told c (s .callers) (takeCall s c)
+    go (Create p n) =
+        by-test (Told (Create p n) (s .callers)) (not (inRange p n)) (λ _. tt) λ _.
+        by-test (Told (Create p n) (s .callers)) (leb 31 (created s)) (λ _. tt) λ _. stay s (running s) none
+    go (Delay d) = told-runner (Delay d) (s .callers) (λ t. delayFor s t (ticks d)) (running s) (told-delay s (running s) none (ticks d) d)
+    go (Call g e m) = told-runner (Call g e m) (s .callers) (λ t. call s t g e m) (running s) (told-call s (running s) none g e m)
+    go (Select o m) = told-runner (Select o m) (s .callers) (λ t. select s t o m) (running s) (told-select s (running s) none o m)
+    go End = told-runner End (s .callers) (λ t. end s t) (running s) (told-end s (running s) none (last (heldBy s (running s))))
+    go Finish = told-runner Finish (s .callers) (λ t. finish s t) (running s) (told-finish s (running s) none)
+    go Tick = ends-out s (after (s .clock) 1) ∙ sym (append-nil (filter (out (map (λ (i : Item). i .task) (endsAt s (after (s .clock) 1)))) (s .callers)))
+    go (Advance n) = advance-out n s ∙ sym (append-nil (filter (out (map (λ (i : Item). i .task) (advanceEnds n s))) (s .callers)))
+
+pub callers-apart : CallersApart
+callers-apart = record { looks = same-step; settles = λ s c k e. settles s c (sound-props s k e); tells = λ s c k e. tells s c (sound-props s k e) }

@@ -1,0 +1,40 @@
+use native.Mathlib.Omega.{arith}
+use borrow.Author.Needs.{needs}
+use Prim.Native.Nat.{_+_, _-_, _≤_}
+use mathlib.Core.Path.{_≡_, refl, sym, ap, _∙_}
+use mathlib.Core.List.{_++_}
+use lib.ListN.{length, take, drop, getD, length-set}
+use Rattle.lists.proofs.ListLaws.{mapped-long}
+use Rattle.rules.specs.declared.Row.{Row}
+use Rattle.second.specs.Rows.{noRow, rowsBy}
+use Rattle.second.proofs.RowLaws.{rows-on, rows-end}
+use Rattle.second.proofs.rows.settled_rows.Statement.{statement}
+use Rattle.second.proofs.rows.settled_rows.Tie as tie
+
+-- The rows so far, and from here on those that are still to be made, are all rows.
+abbrev Inv-loop : tie.InvT-loop
+Inv-loop marks g t n₀ i₀ n i = (i ≤ 31) × (length n ≡ 31) × (rowsBy marks g t 1 n₀ ≡ take i n ++ rowsBy marks g t (i + 1) (drop i n))
+
+abbrev μ-loop : tie.MeasureT-loop
+μ-loop marks g t n₀ i₀ n i = 31 - i
+
+loop-holds : tie.Need-loop-holds Inv-loop μ-loop
+loop-holds c = (omega arith, search (needs, mapped-long), refl)
+
+loop-again : tie.Need-loop-again Inv-loop μ-loop
+loop-again c =
+    let l = c .before .before .before .before .loop in
+    let a = c .before .before .before .before .before .args in
+    (omega arith, length-set {A = Row} (l .n) (l .i) _ ∙ l .inv .1, l .inv .2 ∙ rows-on (a .marks) (a .g) (a .t) (l .n) (l .i) (c .next-row .result) (omega (arith, l .inv .1)) (c .next-row .ensures))
+
+returns : tie.Need-returns Inv-loop μ-loop
+returns c =
+    let l = c .before .loop in
+    let a = c .before .before .args in
+    sym (l .inv .2 ∙ rows-end (a .marks) (a .g) (a .t) (l .n) (l .i) (omega (arith, l .inv .1)))
+
+pub settled-rows-spec : {M : Type 1} → statement M
+settled-rows-spec =
+    tie.close
+    (tie.spec Inv-loop μ-loop loop-holds (λ c. search needs) (λ c. omega (arith, c .before .loop .inv .1)) (λ c. omega arith) (λ c. omega arith) (λ c κs. search needs)
+    (λ c. search needs) (λ c. omega (arith, c .before .before .before .before .loop .inv .1)) (λ c. omega arith) (λ c. omega arith) loop-again returns)

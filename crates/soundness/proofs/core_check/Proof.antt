@@ -1,0 +1,23 @@
+use native.Mathlib.Omega.{arith}
+use borrow.Author.Needs.{needs}
+use borrow.Author.Tests.{le-leb, lt-leb}
+use mathlib.Core.Bool.{_&&_}
+use mathlib.Core.Path.{_≡_, sym, ap, _∙_}
+use Rattle.soundness.specs.Check.{checkedOf}
+use Rattle.soundness.proofs.WholeLaws.{checked-is}
+use Rattle.soundness.proofs.core_check.Statement.{statement}
+use Rattle.soundness.proofs.core_check.Tie as tie
+
+returns : tie.Need-returns
+returns c = rw (lt-leb (c .before .before .args .s .created) 31 (c .if1 .taken))
+
+returns-2 : tie.Need-returns-2
+returns-2 c =
+    let l = c .before in
+    let u = l .before .before in
+    let t = u .before in
+    let s = t .before .before .before .args .s in
+    checked-is s (t .told-of .result) _ _ _ (omega arith) (t .told-of .ensures) (u .all-unused .ensures) (l .lines-hold .ensures) (c .delays-hold .ensures)
+
+pub core-check-spec : {M : Type 1} → statement M
+core-check-spec = tie.close (tie.spec returns (λ c κs. search needs) (λ c κs. search needs) (λ c κs. search needs) (λ c κs. search needs) returns-2)

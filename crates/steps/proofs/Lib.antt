@@ -1,0 +1,14 @@
+pub mod MoveLaws
+pub mod WakeLaws
+pub mod AnswerLaws
+pub mod RoomLaws
+pub mod CreateLaws
+pub mod DelayLaws
+pub mod CallLaws
+pub mod LowestLaws
+pub mod SelectLaws
+pub mod EndLaws
+pub mod FinishLaws
+pub mod AdvanceLaws
+pub mod EngineLaws
+pub mod ChangeLaws
