@@ -1,5 +1,5 @@
 -- The callers apart from the rest of a state: a step looks at no calls but those to the running task, and the line of callers afterwards
--- is told by the places of the tasks alone.
+-- is told by the call and what it answers.
 -- Assumes nothing.
 use Prim.Native.Nat.{ℕ, zero, suc, _+_, _<_, _≤_}
 use mathlib.Core.Path.{_≡_, refl, sym, _∙_, ap, subst}
@@ -18,7 +18,7 @@ use Rattle.lists.proofs.MarkLaws.{filter-same, filter-all, filter-filter, out, 
 use Rattle.rules.specs.State.{State, nth, placeOf, taskOf, created, isTask, isReady, isQueued, isCompleted, accepts, partnerOf, entryOf, opens, waitsOn, queue, heldBy, running, move, wake, wakeAll, meet, setClock, after, waiting, meeting, offer}
 use Rattle.rules.specs.Sound.{sound, inRange}
 use Rattle.rules.specs.Step.{Outcome, refused, took, create, delayFor, enqueue, timedCall, callBusy, call, openFrom, openEntry, selectDelay, selectNone, selectAt, select, endLast, end, queuedFrom, queuedOn, finish, failed, dueAt, endsAt, tick, tickTo, advanced, advanceEnds, readings, ofRunning, takeCall, ticks, item, DONE, expired}
-use Rattle.rules.specs.Callers.{calling, callersOf, withCallers, core, queuedIn, settled, coreOf, asks, Alike, Settled, Told, CallersApart}
+use Rattle.rules.specs.Callers.{calling, callersOf, withCallers, core, queuedIn, coreOf, asks, Told, CallersApart}
 use Rattle.rules.specs.declared.Item.{Item}
 use Rattle.rules.specs.declared.Timer.{Timer}
 use Rattle.rules.specs.declared.Timer.the-variants.{Off, Due}
@@ -188,236 +188,15 @@ module _ (s : State) (l : List ℕ) where
   same-step Tick h = same-tick
   same-step (Advance n) h = same-advance n
 
--- ── what becomes of the line of callers ──
+-- ── what becomes of the line of callers, read off the call and what it answers ──
 
--- some have left
-abbrev Less : List ℕ → List ℕ → Type 0
-Less l m = (p : ℕ → Bool) × (m ≡ filter p l)
-
-less-none : (l : List ℕ) → Less l l
-less-none l = ((λ _. true), sym (filter-all (λ _. true) l (λ x. refl)))
-
-less-on : (l m n : List ℕ) → Less l m → Less m n → Less l n
-less-on l m n a b = ((λ x. a .0 x && b .0 x), b .1 ∙ ap (filter (b .0)) (a .1) ∙ filter-filter (b .0) (a .0) l)
-
-less-wakes : (q : List ℕ) (s : State) → Less (s .callers) (wakeAll s q .callers)
-less-wakes [] s = less-none (s .callers)
-less-wakes (t ∷ q) s = less-on (s .callers) (remove t (s .callers)) (wakeAll (wake s t) q .callers) ((λ x. not (eqb x t)), refl) (less-wakes q (wake s t))
-
-less-advance : (n : ℕ) (s : State) → Less (s .callers) (advanced n s .callers)
-less-advance zero s = less-none (s .callers)
-less-advance (suc n) s =
-    let v = tickTo s (after (s .clock) 1) in less-on (s .callers) (v .callers) (advanced n v .callers) (less-wakes (dueAt s (after (s .clock) 1)) s) (less-advance n v)
-
--- some have left, and t may have come
-data Comes (t : ℕ) (l m : List ℕ) : Type 0 where
-  leave : Less l m → Comes t l m
-  join : (p : ℕ → Bool) → m ≡ filter p l ++ (t ∷ []) → Comes t l m
-
-abbrev ComesOf : ℕ → List ℕ → Outcome → Type 0
-ComesOf t l (refused r) = Unit {0}
-ComesOf t l (took s a x) = Comes t l (s .callers)
-
--- whoever left is no longer queued, and who stands in the line is
-settle : (s v : State) (t : ℕ) → Sound s → Sound v → queuedIn s t ≡ false → Comes t (s .callers) (v .callers) → v .callers ≡ settled v t (s .callers)
-settle s v t h k r (leave (p, e)) = e ∙ kept ∙ sym (rw z (append-nil (filter (queuedIn v) (s .callers))))
-  where
-    none : count t (s .callers) ≡ 0
-    none = h .callers t ∙ ap bit r
-
-    z : queuedIn v t ≡ false
-    z = by-bool (queuedIn v t) (λ y. absurd (omega (arith, none, count-filter-le p t (s .callers), ap (count t) e, k .callers t, ap bit y))) (λ y. y)
-
-    kept : filter p (s .callers) ≡ filter (queuedIn v) (s .callers)
-    kept = filter-same p (queuedIn v) (s .callers) (λ x j.
-        by-bool (p x)
-        (λ y. by-bool (queuedIn v x) (λ w. y ∙ sym w) (λ w. absurd (omega (arith, j, count-filter-yes p x (s .callers) y, ap (count x) e, k .callers x, ap bit w))))
-        (λ y. by-bool (queuedIn v x) (λ w. absurd (omega (arith, count-filter-no p x (s .callers) y, ap (count x) e, k .callers x, ap bit w))) (λ w. y ∙ sym w)))
-settle s v t h k r (join p e) = e ∙ (λ i. kept i ++ (t ∷ [])) ∙ sym (rw z)
-  where
-    none : count t (s .callers) ≡ 0
-    none = h .callers t ∙ ap bit r
-
-    one : count t (v .callers) ≡ count t (filter p (s .callers)) + 1
-    one = ap (count t) e ∙ count-append t (filter p (s .callers)) (t ∷ []) ∙ rw (eq-eqb t t refl)
-
-    z : queuedIn v t ≡ true
-    z = by-bool (queuedIn v t) (λ y. y) (λ y. absurd (omega (arith, one, k .callers t, ap bit y)))
-
-    other : (x : ℕ) → 0 < count x (s .callers) → count x (v .callers) ≡ count x (filter p (s .callers))
-    other x j = ap (count x) e ∙ count-append x (filter p (s .callers)) (t ∷ []) ∙ rw (ne-eqb t x (λ y. omega (arith, none, rw (sym y) at j))) (omega arith)
-
-    kept : filter p (s .callers) ≡ filter (queuedIn v) (s .callers)
-    kept = filter-same p (queuedIn v) (s .callers) (λ x j.
-        by-bool (p x)
-        (λ y. by-bool (queuedIn v x) (λ w. y ∙ sym w) (λ w. absurd (omega (arith, j, count-filter-yes p x (s .callers) y, other x j, k .callers x, ap bit w))))
-        (λ y. by-bool (queuedIn v x) (λ w. absurd (omega (arith, count-filter-no p x (s .callers) y, other x j, k .callers x, ap bit w))) (λ w. y ∙ sym w)))
-
-gone : (t : ℕ) (l : List ℕ) → Less l (remove t l)
-gone t l = ((λ x. not (eqb x t)), refl)
-
-module _ (s : State) where
-  abbrev idle : Less (s .callers) (s .callers)
-  idle = less-none (s .callers)
-
-  comes-create : (t p n : ℕ) → ComesOf t (s .callers) (create s p n)
-  comes-create t p n = by-test (ComesOf t (s .callers)) (not (inRange p n)) (λ _. tt) (λ _. by-test (ComesOf t (s .callers)) (leb 31 (created s)) (λ _. tt) (λ _. leave idle))
-
-  comes-delay : (t d : ℕ) → ComesOf t (s .callers) (delayFor s t d)
-  comes-delay t zero = leave (gone t (s .callers))
-  comes-delay t (suc d) = leave (gone t (s .callers))
-
-  comes-timed : (t g e d : ℕ) → ComesOf t (s .callers) (timedCall s t g e d)
-  comes-timed t g e zero = leave idle
-  comes-timed t g e (suc d) = join (λ x. not (eqb x t)) refl
-
-  comes-busy : (t g e : ℕ) (m : CallMode) → ComesOf t (s .callers) (callBusy s t g e m)
-  comes-busy t g e Simple = join (λ x. not (eqb x t)) refl
-  comes-busy t g e (Timed d) = comes-timed t g e (ticks d)
-  comes-busy t g e Conditional = leave idle
-
-  comes-call : (t g e : ℕ) (m : CallMode) → ComesOf t (s .callers) (call s t g e m)
-  comes-call t g e m =
-      by-test (ComesOf t (s .callers)) (not (isTask s g)) (λ _. tt) λ _.
-      by-test (ComesOf t (s .callers)) (not (ltb 0 e && leb e (taskOf s g .entries))) (λ _. tt) λ _.
-      by-test (ComesOf t (s .callers)) (isCompleted (placeOf s g)) (λ _. leave idle) λ _.
-      by-test (ComesOf t (s .callers)) (accepts (placeOf s g) e)
-      (λ _. leave (less-on (s .callers) (remove g (s .callers)) (remove t (remove g (s .callers))) (gone g (s .callers)) (gone t (remove g (s .callers)))))
-      (λ _. comes-busy t g e m)
-
-  comes-late : (t o d : ℕ) → ComesOf t (s .callers) (selectDelay s t o d)
-  comes-late t o zero = leave idle
-  comes-late t o (suc d) = leave (gone t (s .callers))
-
-  comes-none : (t o : ℕ) (m : SelectMode) → ComesOf t (s .callers) (selectNone s t o m)
-  comes-none t o Plain = by-test (ComesOf t (s .callers)) (eqb o 0) (λ _. leave idle) (λ _. leave (gone t (s .callers)))
-  comes-none t o (S.Delay d) = comes-late t o (ticks d)
-  comes-none t o Else = leave idle
-
-  comes-at : (t o : ℕ) (m : SelectMode) (e : ℕ) → ComesOf t (s .callers) (selectAt s t o m e)
-  comes-at t o m zero = comes-none t o m
-  comes-at t o m (suc e) = leave (gone (first (queue s t (suc e))) (s .callers))
-
-  comes-select : (t o : ℕ) (m : SelectMode) → ComesOf t (s .callers) (select s t o m)
-  comes-select t o m = by-test (ComesOf t (s .callers)) (leb (2 ^ (taskOf s t .entries)) o) (λ _. tt) (λ _. comes-at t o m (openEntry s t o))
-
-  comes-end : (t c : ℕ) → ComesOf t (s .callers) (endLast s t c)
-  comes-end t zero = tt
-  comes-end t (suc c) = leave (gone (suc c) (s .callers))
-
-  comes-finish : (t : ℕ) → ComesOf t (s .callers) (finish s t)
-  comes-finish t =
-      let q = queuedOn s t in
-      by-test (ComesOf t (s .callers)) (ltb 0 (length (heldBy s t))) (λ _. tt)
-      (λ _. leave (less-on (s .callers) (wakeAll s q .callers) (remove t (wakeAll s q .callers)) (less-wakes q s) (gone t (wakeAll s q .callers))))
-
-  comes-runner : (f : ℕ → Outcome) (t : ℕ) → ComesOf t (s .callers) (f t) → ComesOf t (s .callers) (ofRunning t f)
-  comes-runner f zero h = tt
-  comes-runner f (suc t) h = h
-
-  comes : (c : C.Call) → ComesOf (running s) (s .callers) (takeCall s c)
-  comes (Create p n) = comes-create (running s) p n
-  comes (Delay d) = comes-runner (λ t. delayFor s t (ticks d)) (running s) (comes-delay (running s) (ticks d))
-  comes (Call g e m) = comes-runner (λ t. call s t g e m) (running s) (comes-call (running s) g e m)
-  comes (Select o m) = comes-runner (λ t. select s t o m) (running s) (comes-select (running s) o m)
-  comes End = comes-runner (λ t. end s t) (running s) (comes-end (running s) (last (heldBy s (running s))))
-  comes Finish = comes-runner (λ t. finish s t) (running s) (comes-finish (running s))
-  comes Tick = leave (less-wakes (dueAt s (after (s .clock) 1)) s)
-  comes (Advance n) = leave (less-advance n s)
-
--- who made the call is not queued, nor is a task that is new, nor is nobody
+-- who made the call is not queued
 runner-out : (s : State) → Sound s → queuedIn s (running s) ≡ false
 runner-out s h = go (running s) refl
   where
     go : (t : ℕ) → running s ≡ t → queuedIn s t ≡ false
     go zero e = refl
     go (suc t) e = ap isQueued (runs s t h e .place)
-
--- the callers after a step: where somebody comes it is the task of the answer, which was not queued
-abbrev Came : State → Outcome → Type 0
-Came s (refused r) = Unit {0}
-Came s (took v a l) = Comes (a .task) (s .callers) (v .callers) × (queuedIn s (a .task) ≡ false)
-
--- the answers of t's calls are about t
-abbrev About : ℕ → Outcome → Type 0
-About t (refused r) = Unit {0}
-About t (took v a l) = a .task ≡ t
-
-module _ (s : State) (t : ℕ) where
-  about-delay : (d : ℕ) → About t (delayFor s t d)
-  about-delay zero = refl
-  about-delay (suc d) = refl
-
-  about-timed : (g e d : ℕ) → About t (timedCall s t g e d)
-  about-timed g e zero = refl
-  about-timed g e (suc d) = refl
-
-  about-busy : (g e : ℕ) (m : CallMode) → About t (callBusy s t g e m)
-  about-busy g e Simple = refl
-  about-busy g e (Timed d) = about-timed g e (ticks d)
-  about-busy g e Conditional = refl
-
-  about-call : (g e : ℕ) (m : CallMode) → About t (call s t g e m)
-  about-call g e m =
-      by-test (About t) (not (isTask s g)) (λ _. tt) λ _.
-      by-test (About t) (not (ltb 0 e && leb e (taskOf s g .entries))) (λ _. tt) λ _.
-      by-test (About t) (isCompleted (placeOf s g)) (λ _. refl) λ _.
-      by-test (About t) (accepts (placeOf s g) e) (λ _. refl) (λ _. about-busy g e m)
-
-  about-late : (o d : ℕ) → About t (selectDelay s t o d)
-  about-late o zero = refl
-  about-late o (suc d) = refl
-
-  about-none : (o : ℕ) (m : SelectMode) → About t (selectNone s t o m)
-  about-none o Plain = by-test (About t) (eqb o 0) (λ _. refl) (λ _. refl)
-  about-none o (S.Delay d) = about-late o (ticks d)
-  about-none o Else = refl
-
-  about-at : (o : ℕ) (m : SelectMode) (e : ℕ) → About t (selectAt s t o m e)
-  about-at o m zero = about-none o m
-  about-at o m (suc e) = refl
-
-  about-select : (o : ℕ) (m : SelectMode) → About t (select s t o m)
-  about-select o m = by-test (About t) (leb (2 ^ (taskOf s t .entries)) o) (λ _. tt) (λ _. about-at o m (openEntry s t o))
-
-  about-end : (c : ℕ) → About t (endLast s t c)
-  about-end zero = tt
-  about-end (suc c) = refl
-
-  about-finish : About t (finish s t)
-  about-finish = by-test (About t) (ltb 0 (length (heldBy s t))) (λ _. tt) (λ _. refl)
-
-  about-runner : (f : ℕ → Outcome) → About t (f t) → About t (ofRunning t f)
-  about-runner f h = go t h
-    where
-      go : (t : ℕ) → About t (f t) → About t (ofRunning t f)
-      go zero h = tt
-      go (suc t) h = h
-
-module _ (s : State) (h : Sound s) where
-  of-runner : (o : Outcome) → ComesOf (running s) (s .callers) o → About (running s) o → Came s o
-  of-runner (refused r) c a = tt
-  of-runner (took v a l) c e = (subst (λ (t : ℕ). Comes t (s .callers) (v .callers)) (sym e) c, ap (queuedIn s) e ∙ runner-out s h)
-
-  came : (c : C.Call) → Came s (takeCall s c)
-  came (Create p n) =
-      by-test (Came s) (not (inRange p n)) (λ _. tt) λ _.
-      by-test (Came s) (leb 31 (created s)) (λ _. tt) λ _.
-      (leave (less-none (s .callers)), ap (λ (x : Task). isQueued (x .place)) (nth-beyond (s .tasks) (suc (created s)) (omega arith)))
-  came (Delay d) = of-runner (takeCall s (Delay d)) (comes s (Delay d)) (about-runner s (running s) (λ t. delayFor s t (ticks d)) (about-delay s (running s) (ticks d)))
-  came (Call g e m) = of-runner (takeCall s (Call g e m)) (comes s (Call g e m)) (about-runner s (running s) (λ t. call s t g e m) (about-call s (running s) g e m))
-  came (Select o m) = of-runner (takeCall s (Select o m)) (comes s (Select o m)) (about-runner s (running s) (λ t. select s t o m) (about-select s (running s) o m))
-  came End = of-runner (takeCall s End) (comes s End) (about-runner s (running s) (λ t. end s t) (about-end s (running s) (last (heldBy s (running s)))))
-  came Finish = of-runner (takeCall s Finish) (comes s Finish) (about-runner s (running s) (λ t. finish s t) (about-finish s (running s)))
-  came Tick = (leave (less-wakes (dueAt s (after (s .clock) 1)) s), refl)
-  came (Advance n) = (leave (less-advance n s), refl)
-
-pub settles : (s : State) (c : C.Call) → Sound s → Settled (s .callers) (takeCall s c)
-settles s c h = go (takeCall s c) (came s h c) (call-sound s c h)
-  where
-    go : (o : Outcome) → Came s o → Kept o → Settled (s .callers) o
-    go (refused r) a k = tt
-    go (took v a l) b k = settle s v (a .task) h k (b .1) (b .0)
 
 -- who is queued before and after waits on the same entry of the same task
 pub same-wait : (s v : State) (c : C.Call) (a : Item) (l : List Item) (u : ℕ) → Fate s c u v a l → queuedIn s u ≡ true → queuedIn v u ≡ true → placeOf v u ≡ placeOf s u
@@ -442,8 +221,6 @@ same-wait s v c a l u f p q = go f
     go (accepted t o x y r b) = clash p (ap isQueued x)
     go (served e m x y z w r b) = clash p (ap isQueued x)
     go (given-up e w x y z r b) = clash q (ap isQueued z)
-
--- ── what becomes of the line of callers, read off the call and what it answers ──
 
 -- nobody is gone, and t is none of the line
 all-in : (l : List ℕ) → filter (out []) l ≡ l
@@ -574,4 +351,4 @@ tells s c h = go c
     go (Advance n) = advance-out n s ∙ sym (append-nil (filter (out (map (λ (i : Item). i .task) (advanceEnds n s))) (s .callers)))
 
 pub callers-apart : CallersApart
-callers-apart = record { looks = same-step; settles = λ s c k e. settles s c (sound-props s k e); tells = λ s c k e. tells s c (sound-props s k e) }
+callers-apart = record { looks = same-step; tells = λ s c k e. tells s c (sound-props s k e) }

@@ -29,4 +29,6 @@ pub mod OrdersWhole
 pub mod AsTicks
 pub mod Advances
 pub mod Apart
+pub mod Leaving
 pub mod SecondLaws
+pub mod Twins

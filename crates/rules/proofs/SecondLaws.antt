@@ -1,4 +1,4 @@
--- The second engine answers as the first does: alike states stay alike, and the rows of a struct are the queues of its state.
+-- Alike states stay alike, and the rows of a struct of the second engine are the queues of its state.
 -- Assumes nothing.
 use Prim.Native.Nat.{ℕ, zero, suc, _+_, _<_, _≤_}
 use mathlib.Core.Path.{_≡_, refl, sym, _∙_, ap, subst}
@@ -13,13 +13,13 @@ use Rattle.lists.specs.Lists.{if_then_else_, bit, filter, count, every}
 use Rattle.lists.proofs.LineLaws.{line-pad, line-picked, length-pad, pad-tidy}
 use Rattle.lists.proofs.Tests.{and-first, and-second, and-both}
 use Rattle.lists.proofs.ListLaws.{clash, by-bool, by-eq, by-member, every-at, every-of, count-append, count-filter-yes, count-filter-no, count-filter-le}
-use Rattle.lists.proofs.MarkLaws.{filter-same, filter-all, filter-filter, filter-append}
+use Rattle.lists.proofs.MarkLaws.{filter-append, out}
 use Rattle.rules.specs.State.{State, nth, blank, empty, taskOf, placeOf, isQueued, partnerOf, running}
 use Rattle.rules.specs.Sound.{sound}
 use Rattle.rules.specs.Step.{Outcome, refused, took, Refusal, BAD-FIELD, SHORT-ROOM, number, none, takeCall}
-use Rattle.rules.specs.Callers.{calling, callersOf, withCallers, core, queuedIn, settled, coreOf, Alike, Settled}
+use Rattle.rules.specs.Callers.{calling, callersOf, withCallers, core, queuedIn, coreOf, Alike, goneBy, comesBy, Told}
 use Rattle.rules.specs.Whole.{viewCore, packCore, pack, packedCore, StepOf, Whole, decline, doneBy, stepWhole}
-use Rattle.rules.specs.Second.{gathered, rowsFrom, viewSecond, packSecond, rowsRight, soundSecond, stepSecond, Answered, answered, answersBy, SecondAnswers}
+use Rattle.rules.specs.Second.{gathered, rowsFrom, viewSecond, packSecond, rowsRight, soundSecond, stepSecond}
 use Rattle.rules.specs.Runs.{Ask}
 use Rattle.rules.specs.declared.Item.{Item}
 use Rattle.rules.specs.declared.Task.{Task}
@@ -38,36 +38,13 @@ use Rattle.rules.proofs.StateRuns.{stepped}
 use Rattle.rules.proofs.OverRuns.{empty-sound}
 use Rattle.rules.proofs.EveryStruct.{step-taken}
 use Rattle.rules.proofs.WholeLaws.{view-core, packed-core, callers-fit, no-zero, behind}
-use Rattle.rules.proofs.Apart.{running-core, same-step, settles, same-wait}
-
--- ── the queue of a task after a step ──
-
--- who comes, if anybody does
-abbrev pub comer : State → ℕ → List ℕ
-comer v t = if queuedIn v t then t ∷ [] else []
-
--- those who are still queued, and who comes if it has called that task
-pub queue-after : (s v : State) (t g : ℕ) → Sound s → v .callers ≡ settled v t (s .callers) → ((u : ℕ) → queuedIn s u ≡ true → queuedIn v u ≡ true → placeOf v u ≡ placeOf s u)
-    → callersOf v g ≡ filter (queuedIn v) (callersOf s g) ++ filter (calling v g) (comer v t)
-queue-after s v t g h e k =
-    ap (filter (calling v g)) e
-    ∙ filter-append (calling v g) (filter (queuedIn v) (s .callers)) (comer v t)
-    ∙ ap (λ (l : List ℕ). l ++ filter (calling v g) (comer v t)) here
-  where
-    same : (x : ℕ) → 0 < count x (s .callers) → (queuedIn v x && calling v g x) ≡ (calling s g x && queuedIn v x)
-    same x j =
-        let q : queuedIn s x ≡ true = bit-true (queuedIn s x) (omega (arith, j, h .callers x)) in
-        by-bool (queuedIn v x)
-        (λ y. ap (λ (b : Bool). b && calling v g x) y ∙ ap (λ (p : Place). isQueued p && eqb (partnerOf p) g) (k x q y) ∙ sym (and-true (calling s g x)) ∙ ap (λ (b : Bool). calling s g x && b) (sym y))
-        (λ y. ap (λ (b : Bool). b && calling v g x) y ∙ sym (and-false (calling s g x)) ∙ ap (λ (b : Bool). calling s g x && b) (sym y))
-
-    here : filter (calling v g) (filter (queuedIn v) (s .callers)) ≡ filter (queuedIn v) (callersOf s g)
-    here = filter-filter (calling v g) (queuedIn v) (s .callers) ∙ filter-same _ _ (s .callers) same ∙ sym (filter-filter (queuedIn v) (calling s g) (s .callers))
+use Rattle.rules.proofs.Apart.{running-core, same-step, same-wait, tells}
+use Rattle.rules.proofs.Leaving.{queue-told}
 
 -- ── alike states give alike outcomes ──
 
 -- two outcomes, the same but for the order of calls to different tasks
-abbrev Parallel : Outcome → Outcome → Type 0
+abbrev pub Parallel : Outcome → Outcome → Type 0
 Parallel (refused r) (refused q) = r ≡ q
 Parallel (refused r) (took w b m) = ⊥
 Parallel (took v a l) (refused q) = ⊥
@@ -93,31 +70,36 @@ ended : Outcome → List Item
 ended (refused r) = []
 ended (took v a l) = l
 
+-- who comes, if anybody does
+abbrev pub comer : C.Call → Item → List Item → List ℕ
+comer c a l = if comesBy c (a .result) (length l) then a .task ∷ [] else []
+
 swap : (s u : State) → Alike s u → withCallers s (u .callers) ≡ u
 swap s u a = λ i. withCallers (a .core i) (u .callers)
 
 pub alike-steps : (s u : State) (c : C.Call) → Sound s → Sound u → Alike s u → Parallel (takeCall s c) (takeCall u c)
 unfolding kind why next told ended
-alike-steps s u c h k a = go (takeCall s c) (takeCall u c) same (settles s c h) (settles u c k) (λ x. fate s c x h) (λ x. fate u c x k)
+alike-steps s u c h k a = go (takeCall s c) (takeCall u c) same (tells s c h) (tells u c k) (call-sound s c h) (call-sound u c k) (λ x. fate s c x h) (λ x. fate u c x k)
   where
     same : coreOf (takeCall s c) ≡ coreOf (takeCall u c)
     same = same-step s (u .callers) c (λ _. a .queues (running s) ∙ ap (λ (z : State). callersOf z (running s)) (sym (swap s u a))) ∙ ap (λ (z : State). coreOf (takeCall z c)) (swap s u a)
 
-    go : (o q : Outcome) → coreOf o ≡ coreOf q → Settled (s .callers) o → Settled (u .callers) q → ((x : ℕ) → FateOf s c x o) → ((x : ℕ) → FateOf u c x q) → Parallel o q
-    go (refused r) (refused q) e d f x y = ap why e
-    go (refused r) (took w b m) e d f x y = absurd (omega (arith, ap kind e))
-    go (took v b l) (refused q) e d f x y = absurd (omega (arith, ap kind e))
-    go (took v b l) (took w d m) e p q x y =
+    go : (o q : Outcome) → coreOf o ≡ coreOf q → Told c (s .callers) o → Told c (u .callers) q → Kept o → Kept q → ((x : ℕ) → FateOf s c x o) → ((x : ℕ) → FateOf u c x q) → Parallel o q
+    go (refused r) (refused q) e d f i j x y = ap why e
+    go (refused r) (took w b m) e d f i j x y = absurd (omega (arith, ap kind e))
+    go (took v b l) (refused q) e d f i j x y = absurd (omega (arith, ap kind e))
+    go (took v b l) (took w d m) e p q i j x y =
         let n : core v ≡ core w = ap next e in
-        let t : b ≡ d = ap told e in (
+        let t : b ≡ d = ap told e in
+        let z : l ≡ m = ap ended e in (
           record {
             core = n;
-            queues = λ g. queue-after s v (b .task) g h p (λ z i j. same-wait s v c b l z (x z) i j)
-                ∙ (λ i. filter (queuedIn (n i)) (a .queues g i) ++ filter (calling (n i) g) (comer (n i) (t i .task)))
-                ∙ sym (queue-after u w (d .task) g k q (λ z i j. same-wait u w c d m z (y z) i j));
+            queues = λ g. queue-told s v (goneBy b l) (comer c b l) g h i p (λ r f k. same-wait s v c b l r (x r) f k)
+                ∙ (λ i. filter (out (goneBy (t i) (z i))) (a .queues g i) ++ filter (calling (n i) g) (comer c (t i) (z i)))
+                ∙ sym (queue-told u w (goneBy d m) (comer c d m) g k j q (λ r f k. same-wait u w c d m r (y r) f k));
           },
           t,
-          ap ended e,
+          z,
         )
 
 -- ── the rows of a struct are the queues of its state ──
@@ -287,59 +269,3 @@ module _ (u : State) (h : Sound u) where
   pub second-takes : (c : C.Call) (room : ℕ) → ltb room 124 ≡ false → stepSecond (packSecond u) c room ≡ doneBy packSecond (packSecond u) regrouped (takeCall regrouped c)
   unfolding stepSecond
   second-takes c room b = rw (b, sound-second) (ap (λ (z : State). doneBy packSecond (packSecond u) z (takeCall z c)) view-second)
-
--- ── over runs ──
-
-alike-on : (s u w : State) → Alike s u → Alike u w → Alike s w
-alike-on s u w a b = record { core = a .core ∙ b .core; queues = λ g. a .queues g ∙ b .queues g }
-
-abbrev FirstStep : List Ask → Whole → List Answered
-FirstStep rest w = answered w ∷ answersBy stepWhole (w .state) rest
-
-abbrev SecondStep : List Ask → StepOf Second → List Answered
-SecondStep rest w = answered w ∷ answersBy stepSecond (w .state) rest
-
-first-short : (s : State) (c : C.Call) (room : ℕ) → ltb room 124 ≡ true → stepWhole (pack s) c room ≡ decline (pack s) SHORT-ROOM 0
-unfolding stepWhole
-first-short s c room b = rw b
-
-first-takes : (s : State) (c : C.Call) (room : ℕ) → Sound s → ltb room 124 ≡ false → stepWhole (pack s) c room ≡ doneBy pack (pack s) s (takeCall s c)
-first-takes s c room h b = step-taken s c room h b ∙ go (takeCall s c)
-  where
-    go : (o : Outcome) → Rattle.rules.proofs.WholeLaws.wholeOf (stepped s o) ≡ doneBy pack (pack s) s o
-    go (refused r) = refl
-    go (took v a l) = refl
-
-same-running : (s u : State) → Alike s u → running s ≡ running u
-same-running s u a = sym (running-core s []) ∙ ap running (a .core) ∙ running-core u []
-
-pub answers-alike : (run : List Ask) (s u : State) → Sound s → Sound u → Alike s u → answersBy stepSecond (packSecond u) run ≡ answersBy stepWhole (pack s) run
-answers-alike [] s u h k a = refl
-answers-alike (q ∷ rest) s u h k a =
-    let w = regrouped u k in
-    let aw = alike-on s u w a (regrouped-alike u k) in
-    let kw = regrouped-sound u k in
-    by-bool (ltb (q .room) 124)
-    (λ b. ap (SecondStep rest) (second-short u k (q .call) (q .room) b)
-    ∙ ap (_∷_ (answered (decline (pack s) SHORT-ROOM 0))) (answers-alike rest s u h k a)
-    ∙ sym (ap (FirstStep rest) (first-short s (q .call) (q .room) b)))
-    (λ b. ap (SecondStep rest) (second-takes u k (q .call) (q .room) b)
-    ∙ go (answers-alike rest) (takeCall s (q .call)) (takeCall w (q .call)) (alike-steps s w (q .call) h kw aw) (call-sound s (q .call) h) (call-sound w (q .call) kw)
-    ∙ sym (ap (FirstStep rest) (first-takes s (q .call) (q .room) h b)))
-  where
-    go : ((s u : State) → Sound s → Sound u → Alike s u → answersBy stepSecond (packSecond u) rest ≡ answersBy stepWhole (pack s) rest)
-        → (o p : Outcome) → Parallel o p → Kept o → Kept p → SecondStep rest (doneBy packSecond (packSecond u) (regrouped u k) p) ≡ FirstStep rest (doneBy pack (pack s) s o)
-    go ih (refused r) (refused f) e i j =
-        λ z. record { refusal = number (sym e z); answer = none; ended = []; next = same-running (regrouped u k) s back z } ∷ ih s u h k a z
-      where
-        back : Alike (regrouped u k) s
-        back = let f = alike-on s u (regrouped u k) a (regrouped-alike u k) in record { core = sym (f .core); queues = λ g. sym (f .queues g) }
-    go ih (refused r) (took v b l) e i j = absurd e
-    go ih (took v b l) (refused f) e i j = absurd e
-    go ih (took v b l) (took x d m) e i j =
-        λ z. record { refusal = 0; answer = sym (e .1) z; ended = sym (e .2) z; next = sym (same-running v x (e .0)) z } ∷ ih v x i j (e .0) z
-
-pub second-answers : SecondAnswers
-second-answers = record {
-  alike = λ n h run. let k = empty-sound n h in answers-alike run (empty n) (empty n) k k (record { core = refl; queues = λ g. refl });
-}

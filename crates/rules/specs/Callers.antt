@@ -35,10 +35,6 @@ core s = withCallers s []
 abbrev pub queuedIn : State → ℕ → Bool
 queuedIn s u = isQueued (placeOf s u)
 
--- the line of callers l after a step of task t that gave s: those who are still queued, and t behind them if it is now
-abbrev pub settled : State → ℕ → List ℕ → List ℕ
-settled s t l = filter (queuedIn s) l ++ (if queuedIn s t then t ∷ [] else [])
-
 -- an outcome but for the callers
 abbrev pub coreOf : Outcome → Outcome
 coreOf (refused r) = refused r
@@ -60,12 +56,7 @@ pub record Alike (s u : State) : Type 0 where
   pub core : core s ≡ core u
   pub queues : (g : ℕ) → callersOf s g ≡ callersOf u g
 
--- what the outcome says of the callers, where l is their line: who may have come is the task of the answer
-abbrev pub Settled : List ℕ → Outcome → Type 0
-Settled l (refused r) = Unit {0}
-Settled l (took s a x) = s .callers ≡ settled s (a .task) l
-
--- ── the same, read off the call and what it answers ──
+-- ── what becomes of the callers, read off the call and what it answers ──
 
 -- who is in no queue any more: the partner of one that was accepted, and those whose waits have ended
 abbrev pub acceptedIn : ℕ → ℕ → List ℕ
@@ -73,6 +64,10 @@ acceptedIn result partner = if eqb result ACCEPTED then partner ∷ [] else []
 
 abbrev pub goneBy : Item → List Item → List ℕ
 goneBy a l = acceptedIn (a .result) (a .partner) ++ map (λ (i : Item). i .task) l
+
+-- whose queues they have left: that of the task that accepted one, and those of the tasks that the ended waits were for
+abbrev pub leftBy : Item → List Item → List ℕ
+leftBy a l = acceptedIn (a .result) (a .task) ++ map (λ (i : Item). i .partner) l
 
 -- a CALL that waits, and has woken nobody, waits in a queue
 abbrev pub isCall : C.Call → Bool
@@ -92,12 +87,12 @@ comesBy c result ended = isCall c && (eqb result WAITS && eqb ended 0)
 abbrev pub toldBy : C.Call → Item → List Item → List ℕ → List ℕ
 toldBy c a x l = filter (out (goneBy a x)) l ++ (if comesBy c (a .result) (length x) then a .task ∷ [] else [])
 
+-- what the outcome says of the callers, where l is their line
 abbrev pub Told : C.Call → List ℕ → Outcome → Type 0
 Told c l (refused r) = Unit {0}
 Told c l (took s a x) = s .callers ≡ toldBy c a x l
 
--- a step looks at no calls but those to the running task, and of all others it changes nothing but that some leave
+-- a step looks at no calls but those to the running task; what becomes of the callers is told by the call and what it answers
 pub record CallersApart : Type 0 where
   pub looks : (s : State) (l : List ℕ) (c : C.Call) → (asks c ≡ true → callersOf s (running s) ≡ callersOf (withCallers s l) (running s)) → coreOf (takeCall s c) ≡ coreOf (takeCall (withCallers s l) c)
-  pub settles : (s : State) (c : C.Call) → s .clock < 4294967296 → sound s ≡ true → Settled (s .callers) (takeCall s c)
   pub tells : (s : State) (c : C.Call) → s .clock < 4294967296 → sound s ≡ true → Told c (s .callers) (takeCall s c)

@@ -1,24 +1,37 @@
 -- The questions, asked of the struct: a refusal (0 if none) and the answer.
 -- Assumes nothing.
 use Prim.Native.Nat.{ℕ}
-use mathlib.Core.Bool.{false, not, _&&_}
+use mathlib.Core.Bool.{Bool, false, not, _&&_}
 use lib.ListN.{length}
 use Rattle.lists.specs.Lists.{if_then_else_}
-use Rattle.rules.specs.State.{queue, isTask, placeOf, isCompleted, running}
+use Rattle.rules.specs.State.{State, queue, isTask, placeOf, isCompleted, running}
 use Rattle.rules.specs.Whole.{view, soundWhole}
 use Rattle.rules.specs.declared.Supervisor.{Supervisor}
 use Rattle.rules.specs.declared.Count.{Count}
 use Rattle.rules.specs.declared.Callable.{Callable}
 use Rattle.rules.specs.declared.Running.{Running}
 
+-- ── of the state v that a struct stands for, where the struct is sound if so said: for either engine ──
+
 -- COUNT: the length of the queue of entry e of task t
-unfoldable pub countWhole : Supervisor → ℕ → ℕ → Count
-countWhole s t e = if soundWhole s then record { refusal = 0; count = length (queue (view s) t e) } else record { refusal = 2; count = 0 }
+abbrev pub countBy : Bool → State → ℕ → ℕ → Count
+countBy isSound v t e = if isSound then record { refusal = 0; count = length (queue v t e) } else record { refusal = 2; count = 0 }
 
 -- CALLABLE: t was created and has not completed
-unfoldable pub callableWhole : Supervisor → ℕ → Callable
-callableWhole s t = if soundWhole s then record { refusal = 0; yes = isTask (view s) t && not (isCompleted (placeOf (view s) t)) } else record { refusal = 2; yes = false }
+abbrev pub callableBy : Bool → State → ℕ → Callable
+callableBy isSound v t = if isSound then record { refusal = 0; yes = isTask v t && not (isCompleted (placeOf v t)) } else record { refusal = 2; yes = false }
 
 -- who runs: the head of the highest ready queue that is not empty, 0 where nobody is ready
+abbrev pub runningBy : Bool → State → Running
+runningBy isSound v = if isSound then record { refusal = 0; task = running v } else record { refusal = 2; task = 0 }
+
+-- ── of the first engine ──
+
+unfoldable pub countWhole : Supervisor → ℕ → ℕ → Count
+countWhole s t e = countBy (soundWhole s) (view s) t e
+
+unfoldable pub callableWhole : Supervisor → ℕ → Callable
+callableWhole s t = callableBy (soundWhole s) (view s) t
+
 unfoldable pub runningWhole : Supervisor → Running
-runningWhole s = if soundWhole s then record { refusal = 0; task = running (view s) } else record { refusal = 2; task = 0 }
+runningWhole s = runningBy (soundWhole s) (view s)

@@ -1,2 +1,3 @@
 pub mod RowLaws
+pub mod NextLaws
 pub mod TopLaws

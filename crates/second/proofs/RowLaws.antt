@@ -1,62 +1,97 @@
--- The rows after a step are those of the next state.
+-- Rows: their lengths, the loop over them, and what is seen of them.
 -- Assumes nothing.
-use Prim.Native.Nat.{ℕ, zero, suc, _+_, _-_, _≤_, _<_}
+use Prim.Native.Nat.{ℕ, zero, suc, _+_, _≤_, _<_}
 use mathlib.Core.Path.{_≡_, refl, sym, ap, _∙_}
-use mathlib.Core.Bool.{Bool, true, false, _&&_}
-use mathlib.Core.List.{List, [], _∷_, _++_, append-nil}
+use mathlib.Core.Bool.{Bool, true, false, not, _&&_, _||_}
+use mathlib.Core.List.{List, [], _∷_, _++_, map, append-nil}
 use native.Mathlib.Omega.{arith}
 use native.Mathlib.Numerals.{add-one, unary-clauses}
-use lib.Dec.{eqb, ltb, leb}
+use lib.Dec.{eqb, leb}
 use lib.ListN.{length, take, drop, getD, set, drop-of-length-le}
-use lib.Seq.{drop-cons, take-suc-set, take-all, append-snoc}
-use borrow.Author.Tests.{eq-eqb, ne-eqb, lt-ltb, ltb-true, ltb-false, leb-false}
-use Rattle.lists.specs.Line.{line, pad, padTo}
-use Rattle.lists.specs.Lists.{if_then_else_, bit, filter, count}
-use Rattle.lists.specs.Marks.{markOf, withMark}
-use Rattle.lists.proofs.LineLaws.{line-picked}
-use Rattle.lists.proofs.ListLaws.{by-bool, by-eq}
-use Rattle.lists.proofs.MarkLaws.{filter-same, filter-filter}
-use Rattle.rules.specs.State.{State, placeOf, isQueued, partnerOf}
-use Rattle.rules.specs.Callers.{calling, callersOf, queuedIn, settled}
-use Rattle.rules.specs.Second.{gathered, rowsFrom, rowsRight}
+use lib.Seq.{drop-cons, take-suc-set, take-all, append-snoc, set-getD}
+use base.Fml.{Fml}
+use denote.Array.{each}
+use denote.Shadow.{shadow}
+use mir.Val.{Val}
+use borrow.Author.Tests.{lt-ltb, leb-false, ne-eqb}
+use Rattle.lists.specs.Line.{line, pad, padTo, tidy}
+use Rattle.lists.specs.Lists.{if_then_else_, filter, every}
+use Rattle.lists.specs.Marks.{noMarks, markOf}
+use Rattle.lists.proofs.ListLaws.{by-bool}
+use Rattle.lists.proofs.MarkLaws.{filter-same, filter-filter, none-marked}
+use Rattle.lists.proofs.Tests.{and-first, and-second}
+use Rattle.rules.specs.State.{State}
+use Rattle.rules.specs.Callers.{calling}
+use Rattle.rules.specs.Second.{gathered, rowsRight}
 use Rattle.rules.specs.declared.Row.{Row}
-use Rattle.rules.specs.declared.Task.{Task}
-use Rattle.rules.proofs.Invariant.{Sound}
-use Rattle.rules.proofs.Members.{in-filter, nth-beyond}
-use Rattle.rules.proofs.SecondLaws.{rowAt, row-is, row-below, comer, queue-after}
-use Rattle.second.specs.Rows.{noRow, rowOf, joinedBy, rowBy, rowsBy}
+use Rattle.rules.proofs.SecondLaws.{rowAt, row-is, row-below}
+use Rattle.steps.specs.Change.{lineBy}
+use Rattle.second.specs.Rows.{noRow, rowOf, nextRow, nextRows}
 
--- ── the loops ──
+-- ── what the type says of each row ──
 
-pub row-joins : (m : List ℕ) (b : Bool) (t : ℕ) (l kept : List ℕ) {r : List ℕ} → length l ≡ 31 → kept ≡ pad (withMark m 1 (line l)) → r ≡ pad (line kept ++ (t ∷ [])) → b ≡ true → r ≡ rowBy m b t l
-row-joins m b t l kept h ek er y = er ∙ ap (λ (k : List ℕ). pad (k ++ (t ∷ []))) (ap line ek ∙ line-picked (λ x. eqb (markOf m x) 1) l h) ∙ sym (rw y)
+pub rows-long : {X : Type 0} (to : Row → X) (f : X → List Val → Fml) → ((r : Row) (u : Val) → shadow (f (to r) (u ∷ [])) → length (r .line) ≡ 31)
+    → (rows : List Row) (us : List Val) → shadow (each X f (map to rows) us) → (j : ℕ) → j < length rows → length (getD rows j noRow .line) ≡ 31
+rows-long to f g [] us p j h = absurd (omega arith)
+rows-long to f g (r ∷ rs) [] p j h = absurd p
+rows-long to f g (r ∷ rs) (u ∷ us) p zero h = g r u (p .0)
+rows-long to f g (r ∷ rs) (u ∷ us) p (suc j) h = rows-long to f g rs us (p .1) j (omega arith)
+
+-- ── the loop ──
 
 drop-set : (l : List Row) (i : ℕ) (x : Row) → drop (suc i) (set l i x) ≡ drop (suc i) l
 drop-set [] i x = refl
 drop-set (y ∷ l) zero x = refl
 drop-set (y ∷ l) (suc i) x = drop-set l i x
 
-pub rows-on : (m : List ℕ) (a t : ℕ) (n : List Row) (i : ℕ) (k : List ℕ) → i < length n → k ≡ rowBy m (eqb (i + 1) a) t (getD n i noRow .line)
-    → take i n ++ rowsBy m a t (i + 1) (drop i n) ≡ take (i + 1) (set n i (record { line = k })) ++ rowsBy m a t (i + 1 + 1) (drop (i + 1) (set n i (record { line = k })))
-rows-on m a t n i k h e =
-    let r : Row = record { line = k } in
-    ap (λ (l : List Row). take i n ++ rowsBy m a t (i + 1) l) (drop-cons n i noRow h)
-    ∙ ap (λ (x : Row). take i n ++ (x ∷ rowsBy m a t (suc (i + 1)) (drop (suc i) n))) (λ j. record { line = sym e j })
-    ∙ sym (append-snoc (take i n) r (rowsBy m a t (suc (i + 1)) (drop (suc i) n)))
-    ∙ (λ j. sym (take-suc-set n i r h) j ++ rowsBy m a t (sym (add-one (i + 1)) j) (sym (drop-set n i r) j))
-    ∙ ap (λ (x : ℕ). take x (set n i r) ++ rowsBy m a t (i + 1 + 1) (drop x (set n i r))) (sym (add-one i))
+module _ (left gone : List ℕ) (a t : ℕ) (n : List Row) (i : ℕ) where
+  -- the row at i, as it is afterwards
+  abbrev here : List ℕ
+  here = nextRow (not (eqb (markOf left (i + 1)) 0)) (eqb (i + 1) a) gone t (getD n i noRow .line)
 
-pub rows-end : (m : List ℕ) (a t : ℕ) (n : List Row) (i : ℕ) → length n ≤ i → take i n ++ rowsBy m a t (i + 1) (drop i n) ≡ n
-rows-end m a t n i h = (λ j. take-all i n h j ++ rowsBy m a t (i + 1) (drop-of-length-le n h j)) ∙ append-nil n
+  rows-on : (r : Row) → i < length n → r .line ≡ here
+      → take i n ++ nextRows left gone a t (i + 1) (drop i n) ≡ take (i + 1) (set n i r) ++ nextRows left gone a t (i + 1 + 1) (drop (i + 1) (set n i r))
+  rows-on r h e =
+      ap (λ (l : List Row). take i n ++ nextRows left gone a t (i + 1) l) (drop-cons n i noRow h)
+      ∙ ap (λ (x : Row). take i n ++ (x ∷ nextRows left gone a t (suc (i + 1)) (drop (suc i) n))) (λ j. record { line = sym e j })
+      ∙ sym (append-snoc (take i n) r (nextRows left gone a t (suc (i + 1)) (drop (suc i) n)))
+      ∙ (λ j. sym (take-suc-set n i r h) j ++ nextRows left gone a t (sym (add-one (i + 1)) j) (sym (drop-set n i r) j))
+      ∙ ap (λ (x : ℕ). take x (set n i r) ++ nextRows left gone a t (i + 1 + 1) (drop x (set n i r))) (sym (add-one i))
 
--- ── what is seen: the row of the running task ──
+  -- the row is touched, or it is not
+  abbrev touched : Bool
+  touched = eqb (i + 1) a || not (eqb (markOf left (i + 1)) 0)
+
+  abbrev Turn : List Row → Type 0
+  Turn m = take i n ++ nextRows left gone a t (i + 1) (drop i n) ≡ take (i + 1) m ++ nextRows left gone a t (i + 1 + 1) (drop (i + 1) m)
+
+  pub rows-touched : (k : List ℕ) → i < length n → touched ≡ true → k ≡ lineBy gone (eqb (i + 1) a) t (getD n i noRow .line) → Turn (set n i (record { line = k }))
+  rows-touched k h b e = rows-on (record { line = k }) h (e ∙ sym (rw b))
+
+  pub rows-skipped : i < length n → touched ≡ false → Turn n
+  rows-skipped h b =
+      rows-on (getD n i noRow) h (sym (rw b))
+      ∙ ap (λ (m : List Row). take (i + 1) m ++ nextRows left gone a t (i + 1 + 1) (drop (i + 1) m)) (set-getD n i noRow)
+
+pub rows-end : (left gone : List ℕ) (a t : ℕ) (n : List Row) (i : ℕ) → length n ≤ i → take i n ++ nextRows left gone a t (i + 1) (drop i n) ≡ n
+rows-end left gone a t n i h = (λ j. take-all i n h j ++ nextRows left gone a t (i + 1) (drop-of-length-le n h j)) ∙ append-nil n
+
+-- nobody has left or come
+pub rows-stay : (gone : List ℕ) (t g : ℕ) (rows : List Row) → 0 < g → nextRows noMarks gone 0 t g rows ≡ rows
+rows-stay gone t g [] h = refl
+rows-stay gone t g (r ∷ rs) h = λ i. record { line = row i } ∷ rows-stay gone t (suc g) rs (omega arith) i
+  where
+    row : nextRow (not (eqb (markOf noMarks g) 0)) (eqb g 0) gone t (r .line) ≡ r .line
+    row = rw (none-marked g, ne-eqb g 0 (λ z. omega arith))
+
+-- ── what is seen: the row of a task ──
 
 row-past : (rows : List Row) (j : ℕ) → length rows ≤ j → rowAt rows j ≡ []
 row-past [] j h = refl
 row-past (r ∷ rs) zero h = absurd (omega arith)
 row-past (r ∷ rs) (suc j) h = row-past rs j (omega arith)
 
-row-get : (rows : List Row) (j : ℕ) → line (getD rows j noRow .line) ≡ rowAt rows j
+pub row-get : (rows : List Row) (j : ℕ) → line (getD rows j noRow .line) ≡ rowAt rows j
 row-get [] j = refl
 row-get (r ∷ rs) zero = refl
 row-get (r ∷ rs) (suc j) = row-get rs j
@@ -85,69 +120,8 @@ sees-row v rows (suc j) e h =
     let q : filter (calling v (suc j)) (gathered rows) ≡ rowAt rows j = ap (λ (g : ℕ). filter (calling v g) (gathered rows)) (omega arith) ∙ row-is v rows 1 j e in
     sym (twice (calling v (suc j)) (gathered rows)) ∙ ap (filter (calling v (suc j))) (q ∙ sym (row-of-is rows j h))
 
--- ── the rows after a step ──
-
-bit-one : (b : Bool) → eqb (bit b) 1 ≡ b
-bit-one true = refl
-bit-one false = refl
-
-module _ (v st : State) (t : ℕ) (m : List ℕ) (h : Sound v) (k : Sound st) (e : st .callers ≡ settled st t (v .callers)) (w : (u : ℕ) → queuedIn v u ≡ true → queuedIn st u ≡ true → placeOf st u ≡ placeOf v u) (q : (u : ℕ) → u < 32 → markOf m u ≡ bit (queuedIn st u)) where
-  -- a task in the line of callers has a mark
-  small : (x : ℕ) → 0 < count x (v .callers) → x < 32
-  small x j =
-      by-bool (ltb x 32) (λ b. ltb-true x 32 b)
-      (λ b. absurd (omega (arith, j, h .callers x, ap (λ (y : Task). bit (isQueued (y .place))) (nth-beyond (v .tasks) x (omega (arith, h .few, ltb-false x 32 b))))))
-
-  kept-is : (g : ℕ) (l : List ℕ) → line l ≡ callersOf v g → withMark m 1 (line l) ≡ filter (queuedIn st) (callersOf v g)
-  kept-is g l z =
-      ap (withMark m 1) z
-      ∙ filter-same _ _ (callersOf v g) (λ x j. ap (λ (n : ℕ). eqb n 1) (q x (small x (in-filter (calling v g) x (v .callers) j .1))) ∙ bit-one (queuedIn st x))
-
-  abbrev keptOf : ℕ → List ℕ
-  keptOf g = filter (queuedIn st) (callersOf v g)
-
-  -- who comes, as the queue of task g sees it
-  come : (g : ℕ) (b c : Bool) → queuedIn st t ≡ b → calling st g t ≡ c → filter (calling st g) (comer st t) ≡ (if b then (if c then t ∷ [] else []) else [])
-  come g b c x y = ap (λ (z : Bool). filter (calling st g) (if z then t ∷ [] else [])) x ∙ go b
-    where
-      go : (b : Bool) → filter (calling st g) (if b then t ∷ [] else []) ≡ (if b then (if c then t ∷ [] else []) else [])
-      go true = ap (λ (z : Bool). if z then t ∷ [] else []) y
-      go false = refl
-
-  row-next : (g : ℕ) (l : List ℕ) → 0 < g → line l ≡ callersOf v g → rowBy m (eqb g (joinedBy (placeOf st t))) t l ≡ pad (callersOf st g)
-  row-next g l p z = by-bool (queuedIn st t) here (λ b. ap (λ (x : Bool). rowBy m x t l) (off b) ∙ ap pad (y ∙ sym (append-nil (keptOf g))) ∙ ap (λ (x : List ℕ). pad (keptOf g ++ x)) (sym (come g false (calling st g t) b refl)) ∙ ap pad (sym n))
-    where
-      n : callersOf st g ≡ filter (queuedIn st) (callersOf v g) ++ filter (calling st g) (comer st t)
-      n = queue-after v st t g h e w
-
-      y : withMark m 1 (line l) ≡ filter (queuedIn st) (callersOf v g)
-      y = kept-is g l z
-
-      off : queuedIn st t ≡ false → eqb g (joinedBy (placeOf st t)) ≡ false
-      off b = ap (λ (x : Bool). eqb g (if x then partnerOf (placeOf st t) else 0)) b ∙ ne-eqb g 0 (λ o. omega arith)
-
-      on : queuedIn st t ≡ true → eqb g (joinedBy (placeOf st t)) ≡ eqb g (partnerOf (placeOf st t))
-      on b = ap (λ (x : Bool). eqb g (if x then partnerOf (placeOf st t) else 0)) b
-
-      calls : queuedIn st t ≡ true → calling st g t ≡ eqb (partnerOf (placeOf st t)) g
-      calls b = ap (λ (x : Bool). x && eqb (partnerOf (placeOf st t)) g) b
-
-      here : queuedIn st t ≡ true → rowBy m (eqb g (joinedBy (placeOf st t))) t l ≡ pad (callersOf st g)
-      here b =
-          by-eq g (partnerOf (placeOf st t))
-          (λ i. ap (λ (x : Bool). rowBy m x t l) (on b ∙ eq-eqb g (partnerOf (placeOf st t)) i)
-          ∙ ap (λ (x : List ℕ). pad (x ++ (t ∷ []))) y
-          ∙ ap (λ (x : List ℕ). pad (keptOf g ++ x)) (sym (come g true true b (calls b ∙ eq-eqb (partnerOf (placeOf st t)) g (sym i))))
-          ∙ ap pad (sym n))
-          (λ i. ap (λ (x : Bool). rowBy m x t l) (on b ∙ ne-eqb g (partnerOf (placeOf st t)) i)
-          ∙ ap pad (y ∙ sym (append-nil (keptOf g)))
-          ∙ ap (λ (x : List ℕ). pad (keptOf g ++ x)) (sym (come g true false b (calls b ∙ ne-eqb (partnerOf (placeOf st t)) g (λ o. i (sym o)))))
-          ∙ ap pad (sym n))
-
-  pub rows-next : (rs : List Row) (n g : ℕ) → 0 < g → length rs ≡ n → ((j : ℕ) → j < n → rowAt rs j ≡ callersOf v (g + j)) → rowsBy m (joinedBy (placeOf st t)) t g rs ≡ rowsFrom st n g
-  rows-next [] zero g p l f = refl
-  rows-next [] (suc n) g p l f = absurd (omega arith)
-  rows-next (r ∷ rs) zero g p l f = absurd (omega arith)
-  rows-next (r ∷ rs) (suc n) g p l f =
-      λ i. record { line = row-next g (r .line) p (f 0 (omega arith) ∙ ap (callersOf v) (omega arith)) i }
-      ∷ rows-next rs n (suc g) (omega arith) (omega arith) (λ j o. f (suc j) (omega arith) ∙ ap (callersOf v) (omega arith)) i
+-- each row is blank behind its callers
+pub row-tidy : (v : State) (rows : List Row) (g j : ℕ) → rowsRight v g rows ≡ true → j < length rows → tidy (getD rows j noRow .line) ≡ true
+row-tidy v [] g j e h = absurd (omega arith)
+row-tidy v (r ∷ rs) g zero e h = and-first (tidy (r .line)) (every (calling v g) (line (r .line))) (and-first (tidy (r .line) && every (calling v g) (line (r .line))) (rowsRight v (suc g) rs) e)
+row-tidy v (r ∷ rs) g (suc j) e h = row-tidy v rs (suc g) j (and-second (tidy (r .line) && every (calling v g) (line (r .line))) (rowsRight v (suc g) rs) e) (omega arith)

@@ -1,21 +1,23 @@
 -- What the functions on rows answer.
 -- Assumes nothing.
-use Prim.Native.Nat.{ℕ, zero, suc, _-_}
+use Prim.Native.Nat.{ℕ, suc, _-_, _<_}
 use mathlib.Core.Path.{_≡_}
-use mathlib.Core.Bool.{Bool, true}
-use mathlib.Core.List.{List, [], _∷_, _++_}
+use mathlib.Core.Bool.{Bool, true, not, _||_}
+use mathlib.Core.List.{List, [], _∷_}
 use lib.Dec.{eqb}
 use lib.ListN.{length, getD}
-use Rattle.lists.specs.Line.{line, pad}
+use Rattle.calls.specs.declared.Call as C
+use Rattle.lists.specs.Line.{pad}
 use Rattle.lists.specs.Lists.{if_then_else_}
-use Rattle.lists.specs.Marks.{withMark}
+use Rattle.lists.specs.Marks.{markOf}
+use Rattle.rules.specs.Callers.{asks}
 use Rattle.rules.specs.Second.{soundSecond}
-use Rattle.rules.specs.Whole.{TypedCore, StepOf, answerOf}
-use Rattle.rules.specs.declared.Place.{Place}
-use Rattle.rules.specs.State.{isQueued, partnerOf}
+use Rattle.rules.specs.State.{running}
+use Rattle.rules.specs.Whole.{TypedCore, viewCore}
+use Rattle.rules.specs.declared.Core.{Core}
 use Rattle.rules.specs.declared.Row.{Row}
 use Rattle.rules.specs.declared.Second.{Second}
-use Rattle.rules.specs.declared.SecondStepped.{SecondStepped}
+use Rattle.steps.specs.Change.{lineBy}
 use Rattle.table.specs.Numbers.{isNumber}
 
 -- what stands behind the rows (the logic's default element)
@@ -26,24 +28,21 @@ noRow = record { line = [] }
 abbrev pub rowOf : List Row → ℕ → List ℕ
 rowOf rows g = if isNumber g then getD rows (g - 1) noRow .line else pad []
 
--- the task whose queue one in this place stands in; 0 where it stands in none
-abbrev pub joinedBy : Place → ℕ
-joinedBy p = if isQueued p then partnerOf p else 0
+-- the row of the running task, if the call looks at it
+abbrev pub rowLooked : Core → List Row → C.Call → List ℕ
+rowLooked k rows c = if asks c then rowOf rows (running (viewCore k)) else pad []
 
--- a row after a step, and all rows from that of task g on
-abbrev pub rowBy : List ℕ → Bool → ℕ → List ℕ → List ℕ
-rowBy m b t l = if b then pad (withMark m 1 (line l) ++ (t ∷ [])) else pad (withMark m 1 (line l))
+-- a row after a step: as it was, if nobody has left it and t does not come
+abbrev pub nextRow : Bool → Bool → List ℕ → ℕ → List ℕ → List ℕ
+nextRow left comes gone t l = if comes || left then lineBy gone comes t l else l
 
-abbrev pub rowsBy : List ℕ → ℕ → ℕ → ℕ → List Row → List Row
-rowsBy m a t g [] = []
-rowsBy m a t g (r ∷ rs) = record { line = rowBy m (eqb g a) t (r .line) } ∷ rowsBy m a t (suc g) rs
+-- all rows from that of task g on, where t comes into that of task a
+abbrev pub nextRows : List ℕ → List ℕ → ℕ → ℕ → ℕ → List Row → List Row
+nextRows left gone a t g [] = []
+nextRows left gone a t g (r ∷ rs) = record { line = nextRow (not (eqb (markOf left g) 0)) (eqb g a) gone t (r .line) } ∷ nextRows left gone a t (suc g) rs
 
--- a struct of the type that is sound
-pub record SoundSecond (x : Second) : Type 0 where
+-- a struct of the type: rows of 31, and 31 of them
+pub record TypedSecond (x : Second) : Type 0 where
   pub core : TypedCore (x .core)
   pub rows : length (x .rows) ≡ 31
-  pub sound : soundSecond x ≡ true
-
--- what the code's step gives
-abbrev pub secondOf : StepOf Second → SecondStepped
-secondOf w = record { state = w .state; answer = answerOf w }
+  pub lines : (j : ℕ) → j < 31 → length (getD (x .rows) j noRow .line) ≡ 31

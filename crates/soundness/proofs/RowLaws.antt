@@ -13,7 +13,8 @@ use borrow.Author.Tests.{ne-eqb, ltb-true, ltb-false, leb-true}
 use Rattle.lists.specs.Line.{line, tidy, blanks}
 use Rattle.lists.specs.Lists.{if_then_else_, bit, count, every, downFrom}
 use Rattle.lists.specs.Marks.{noMarks, markOf}
-use Rattle.lists.proofs.ListLaws.{by-bool, by-eq}
+use Rattle.lists.proofs.Tests.{and-first}
+use Rattle.lists.proofs.ListLaws.{clash, by-bool, by-eq}
 use Rattle.rules.specs.State.{placeOf, taskOf, isQueued, partnerOf}
 use Rattle.rules.specs.Callers.{calling}
 use Rattle.rules.specs.Second.{gathered, rowsRight, soundSecond}
@@ -107,6 +108,12 @@ module _ (T : List ℕ) (g m : ℕ) (l : List ℕ) (i : ℕ) where
 
   pub met-end : length l ≤ i → metIn T g m (drop i l) ≡ record { ok = true; rest = m }
   met-end h = rw (drop-of-length-le l h)
+
+-- a row that is blank throughout
+pub blank-row : (T : List ℕ) (g m : ℕ) (l : List ℕ) → blanks l ≡ true → metIn T g m l ≡ record { ok = true; rest = m }
+blank-row T g m [] e = refl
+blank-row T g m (zero ∷ xs) e = λ i. record { ok = e i; rest = m }
+blank-row T g m (suc n ∷ xs) e = clash (and-first (eqb (suc n) 0) (blanks xs) e) (ne-eqb (suc n) 0 (λ z. omega arith))
 
 abbrev pub noRow : Row
 noRow = record { line = [] }

@@ -11,6 +11,7 @@ ghost use Rattle.rules.specs.Second.{soundSecond};
 ghost use Rattle.rules.specs.Whole.{unused, soundWhole};
 ghost use Rattle.soundness.specs.Check.{anyOrder, holdsIn, toldOf, checkedOf};
 use rules::Core;
+use rules::Row;
 use rules::Second;
 use rules::Supervisor;
 use table::place::has_time;
@@ -136,12 +137,19 @@ pub fn is_sound(s: Supervisor) -> bool
     parts_sound(s.core, callers)
 }
 
+// Whether the state of the second engine is sound, handed in by its two parts.
+pub fn rows_sound(core: Core, rows: [Row; 31]) -> bool
+    ensures { λ r. ⌜ r ≡ soundSecond (record { core = core; rows = rows }) ⌝ }
+{
+    let c = core_check(core);
+    let targets = rows::targets_of(core);
+    c.good & rows::rows_hold(rows, targets, c.callers)
+}
+
 // Whether the state of the second engine is sound.
 pub fn is_sound_second(x: Second) -> bool
     ensures { λ r. ⌜ r ≡ soundSecond x ⌝ }
 {
-    let c = core_check(x.core);
-    let targets = rows::targets_of(x.core);
-    let all = x.rows;
-    c.good & rows::rows_hold(all, targets, c.callers)
+    let rows = x.rows;
+    rows_sound(x.core, rows)
 }

@@ -69,6 +69,19 @@ fn met_in(l: [u8; 31], word: u32, targets: [u8; 32], g: u8) -> Met
     Met { ok: true, rest }
 }
 
+// The same, where a row that is blank throughout, as most rows are, is seen at once.
+fn met_row(l: [u8; 31], word: u32, targets: [u8; 32], g: u8) -> Met
+    ensures { λ r. ⌜ r ≡ metIn targets g word l ⌝ }
+{
+    if is_blank_from(&l, 0) {
+        return Met {
+            ok: true,
+            rest: word,
+        };
+    }
+    met_in(l, word, targets, g)
+}
+
 // Whether the rows hold those of the word, where task 1 is bit 0, each once and in the row of the task that it has called.
 pub fn rows_hold(rows: [Row; 31], targets: [u8; 32], word: u32) -> bool
     ensures { λ r. ⌜ r ≡ metAll targets 1 true (nextMark word false) rows ⌝ }
@@ -80,7 +93,7 @@ pub fn rows_hold(rows: [Row; 31], targets: [u8; 32], word: u32) -> bool
         let r = rows[i];
         let l = r.line;
         let g = (i + 1) as u8;
-        let m = met_in(l, rest, targets, g);
+        let m = met_row(l, rest, targets, g);
         ok = ok & m.ok;
         rest = m.rest;
         i += 1;

@@ -21,7 +21,7 @@ use Rattle.rules.specs.declared.Supervisor.{Supervisor}
 use Rattle.rules.proofs.Apart.{tells}
 use Rattle.rules.proofs.WholeLaws.{parts, core-parts, core-packed, sound-view}
 use Rattle.steps.specs.Taken.{Stands, SeesFor, takenOf, endedBy}
-use Rattle.steps.specs.Change.{one, tasksIn, comesOf, lineBy}
+use Rattle.steps.specs.Change.{one, taskAt, bytesIn, comesOf, lineBy}
 use Rattle.steps.proofs.ChangeLaws.{Lines, line-is}
 use Rattle.steps.specs.declared.answers.Taken.{Taken}
 use Rattle.rules.specs.declared.Stepped.{Stepped}
@@ -55,7 +55,7 @@ by-whole x y e h k = (h ∙ sym (ap steppedOf e), k ∙ sym (ap (λ (w : Whole).
 
 -- the core and the callers afterwards are those of the next state
 pub state-is : (s : Supervisor) (c : C.Call) (k : Taken) (room after m l : List ℕ) (b : Bool) → Typed s → soundWhole s ≡ true → k ≡ takenOf (s .core) (takeCall (view s) c)
-    → after ≡ roomAfter room (endedBy (takeCall (view s) c)) → m ≡ marked one (acceptedIn (k .result) (k .partner) ++ tasksIn (k .ended) after) noMarks
+    → after ≡ roomAfter room (endedBy (takeCall (view s) c)) → m ≡ marked one (acceptedIn (k .result) (k .partner) ++ bytesIn taskAt (k .ended) after) noMarks
     → b ≡ comesOf c (k .refusal) (k .result) (k .ended) → l ≡ lineBy m b (k .task) (s .callers)
     → _≡_ {A = Supervisor} (record { core = k .state; callers = l }) (done s (takeCall (view s) c) .state)
 state-is s c k room after m l b t h ek ea em eb el =

@@ -170,26 +170,7 @@ woken-law s n l m still r h d k en em es er eh ed = λ i. record {
   delays = (ed ∙ ap (λ (x : List ℕ). pad (withMark x 0 (line (s .delays)))) em) i;
 }
 
--- ---- who is queued, by marks
-
--- the marks of the tasks up to i are told
-abbrev pub MarkedTo : Core → List ℕ → ℕ → Type 0
-MarkedTo s m i = (length m ≡ 32) × ((t : ℕ) → t ≤ i → markOf m t ≡ bit (queuedIn (viewCore s) t))
-
-pub marked-on : (s : Core) (m : List ℕ) (i b : ℕ) → i < 31 → MarkedTo s m i → b ≡ bit (queuedIn (viewCore s) (i + 1)) → MarkedTo s (set m (i + 1) b) (i + 1)
-marked-on s m i b h k e = (
-  length-set m (i + 1) b ∙ k .0,
-  λ t l. by-eq t (i + 1)
-      (λ z. ap (λ (x : ℕ). markOf (set m (i + 1) b) x) z ∙ getD-set-same m (i + 1) b 0 (omega (arith, k .0)) ∙ e ∙ ap (λ (x : ℕ). bit (queuedIn (viewCore s) x)) (sym z))
-      (λ n. getD-set-other m (i + 1) t b 0 n ∙ k .1 t (omega arith)),
-)
-
-pub marked-none : (s : Core) → MarkedTo s noMarks 0
-marked-none s = (refl, go)
-  where
-    go : (t : ℕ) → t ≤ 0 → markOf noMarks t ≡ bit (queuedIn (viewCore s) t)
-    go zero h = refl
-    go (suc t) h = absurd (omega arith)
+-- ---- an index
 
 pub index-next : (i : ℕ) → i < 31 → i ≡ indexOf (i + 1)
 index-next i h = rw (lt-ltb 0 (i + 1) (omega arith), le-leb (i + 1) 31 (omega arith)) (omega arith)

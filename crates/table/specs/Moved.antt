@@ -1,18 +1,16 @@
 -- What the small functions of the code answer, where the rules have no word for it.
 -- Assumes nothing.
-use Prim.Native.Nat.{ℕ, _<_}
-use mathlib.Core.Path.{_≡_}
+use Prim.Native.Nat.{ℕ}
 use mathlib.Core.Bool.{Bool, _&&_}
 use mathlib.Core.List.{List, [], _∷_, _++_}
 use lib.Dec.{eqb}
 use Rattle.lists.specs.Line.{line, pad}
-use Rattle.lists.specs.Lists.{if_then_else_, bit, rejoin}
-use Rattle.lists.specs.Marks.{noMarks, markOf, marked, withMark}
+use Rattle.lists.specs.Lists.{if_then_else_, rejoin}
+use Rattle.lists.specs.Marks.{noMarks, marked, withMark}
 use Rattle.rules.specs.State.{State, setNth, taskOf, timerOf, isReady, isQueued, isHeld, ticksLeft, retime, placed, partnerOf, entryOf, meeting}
 use Rattle.rules.specs.declared.Place.the-variants.{Ready, Held}
 use Rattle.rules.specs.declared.Timer.the-variants.{Off}
 use Rattle.rules.specs.Advance.{comesIn}
-use Rattle.rules.specs.Callers.{queuedIn}
 use Rattle.rules.specs.Whole.{viewCore}
 use Rattle.rules.specs.declared.Task.{Task}
 use Rattle.rules.specs.declared.Timer.{Timer}
@@ -87,7 +85,3 @@ isPicked x (DueWithin now n) = comesIn now n (x .timer)
 
 abbrev pub passesOf : State → Test → ℕ → Bool
 passesOf s q c = isPicked (taskOf s c) q
-
--- each task that is queued has the mark 1, all others 0
-abbrev pub QueuedMarks : Core → List ℕ → Type 0
-QueuedMarks s m = (t : ℕ) → t < 32 → markOf m t ≡ bit (queuedIn (viewCore s) t)

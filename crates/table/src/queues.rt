@@ -7,8 +7,7 @@ ghost use Rattle.lists.specs.Lists.{filter};
 ghost use Rattle.rules.specs.Advance.{comesIn};
 ghost use Rattle.rules.specs.State.{isQueued, isHeld, partnerOf, entryOf};
 ghost use Rattle.rules.specs.Whole.{viewCore};
-ghost use Rattle.table.specs.Moved.{isPicked, passesOf, QueuedMarks};
-use super::place::is_queued;
+ghost use Rattle.table.specs.Moved.{isPicked, passesOf};
 use super::place::ticks_left;
 use super::tasks::index_of;
 use super::tasks::shown;
@@ -83,19 +82,4 @@ pub fn picked(s: Core, a: [u8; 31], q: Test) -> [u8; 31]
         }
     }
     r
-}
-
-// Marks with a 1 for each task that is queued.
-pub fn queued_marks(s: Core) -> [u8; 32]
-    ensures { λ r. ⌜ QueuedMarks s r ⌝ }
-{
-    let mut marks = [0u8; 32];
-    for i in 0..31 {
-        let k = s.tasks[i];
-        let t = (i + 1) as u8;
-        let x = shown(s.created, t, k);
-        let p = x.place;
-        marks[i + 1] = is_queued(p) as u8;
-    }
-    marks
 }

@@ -25,7 +25,7 @@ loop-again c =
     let k = c .before in
     let l = k .before .before .before .before .loop in
     let a = k .before .before .before .before .before .before .args in
-    (omega arith, l .inv .1, l .inv .2 ∙ all-on (a .targets) (l .ok) (l .rest) (a .t1) (l .i) (k .met-in .result) (omega (arith, l .inv .1)) (k .met-in .ensures))
+    (omega arith, l .inv .1, l .inv .2 ∙ all-on (a .targets) (l .ok) (l .rest) (a .t1) (l .i) (k .met-row .result) (omega (arith, l .inv .1)) (k .met-row .ensures))
 
 returns : tie.Need-returns Inv-loop μ-loop
 returns c =
