@@ -8,3 +8,4 @@ pub mod Workspaces
 pub mod FullQueue
 pub mod Library
 pub mod Debouncer
+pub mod SecondEngine

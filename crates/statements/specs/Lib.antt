@@ -16,3 +16,5 @@ pub mod Workspaces
 pub mod FullQueue
 -- the contact debouncer
 pub mod Debouncer
+-- the second engine: one queue per acceptor
+pub mod SecondEngine
