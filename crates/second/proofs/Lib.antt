@@ -1,3 +1,4 @@
 pub mod RowLaws
 pub mod NextLaws
 pub mod TopLaws
+pub mod Unique

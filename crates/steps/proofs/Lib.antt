@@ -12,3 +12,4 @@ pub mod FinishLaws
 pub mod AdvanceLaws
 pub mod EngineLaws
 pub mod ChangeLaws
+pub mod Unique
