@@ -18,17 +18,17 @@ pub struct Taken {
 }
 
 // The call is refused: the state stays, and all other numbers are 0.
-pub fn refused_by(s: Core, n: u8) -> Taken
-    ensures { λ r. ⌜ r ≡ record { state = s; refusal = n; task = 0; result = 0; entry = 0; partner = 0; ended = 0 } ⌝ }
+pub fn refused_by(s: Core, why: u8) -> Taken
+    ensures { λ r. ⌜ r ≡ record { state = s; refusal = why; task = 0; result = 0; entry = 0; partner = 0; ended = 0 } ⌝ }
 {
     Taken {
         state: s,
-        refusal: n,
+        refusal: why,
         task: 0,
         result: 0,
         entry: 0,
         partner: 0,
-        ended: 0,
+        ended: 0, // no wait has ended
     }
 }
 
@@ -64,7 +64,7 @@ pub fn refused_answer(n: u8, next: u8) -> Answer
         task: 0,
         entry: 0,
         partner: 0,
-        ended: 0,
+        ended: 0, // nothing stands in the room
         next,
     }
 }

@@ -146,7 +146,7 @@ pub fn joined_queue(c: Call, refusal: u8, result: u8, ended: u8) -> u8
     if comes(c, refusal, result, ended) {
         target_of(c)
     } else {
-        0
+        0 // it comes into none
     }
 }
 
