@@ -1,6 +1,6 @@
 """operations.py: statement 1 has every public operation.
 
-A public operation is a public function of `calls`, `supervisor`, `workspace` or `card`. Of each, a file of crates/statements/specs names the
+A public operation is a public function of `calls`, `supervisor`, `second`, `workspace` or `card`. Of each, a file of crates/statements/specs names the
 toolchain's statement (`use Rattle.CRATE.proofs.PATH.Statement as NAME`) and has it as a field (`NAME : {M : Type 1} → NAME.statement M`),
 and that its contract asks nothing (`NAME-asks : ..`; of the functions over lent tables, which have no such reading, `lent-asks` says it).
 Where the crate's root passes a function on (`pub use`), its name alone is a path too.
@@ -11,7 +11,7 @@ from pathlib import Path
 
 from unique_names import public_functions
 
-CRATES = ("calls", "supervisor", "workspace", "card")
+CRATES = ("calls", "supervisor", "second", "workspace", "card")
 
 
 def stated(texts, crate, function):

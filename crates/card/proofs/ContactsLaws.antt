@@ -12,8 +12,8 @@ use Rattle.lists.specs.Lists.{if_then_else_, bit}
 use Rattle.lists.proofs.ListLaws.{by-bool}
 use Rattle.lists.proofs.Tests.{if-true, if-false}
 use Rattle.calls.specs.Record.{byte}
-use Rattle.codec.specs.Layout.{encode, stateIn, putAt, stored}
-use Rattle.codec.proofs.CodecLaws.{put-put, put-none, tasks-long}
+use Rattle.codec.specs.Layout.{stateSize, encode, stateIn, putAt, stored}
+use Rattle.codec.proofs.CodecLaws.{put-put, put-none}
 use Rattle.codec.proofs.Kept as codec
 use Rattle.rules.specs.declared.Supervisor.{Supervisor}
 use Rattle.debounce.specs.declared.Card.{Card}
@@ -21,7 +21,7 @@ use Rattle.debounce.specs.declared.Contact.{Contact}
 use Rattle.debounce.specs.Card.{noContact, whole}
 use Rattle.debounce.specs.Settings.{two}
 use Rattle.debounce.proofs.CheckLaws.{out-of-range}
-use Rattle.card.specs.Contacts.{stateSize, contactSize, cardSize, contactBytes, contactsBytes, cardBytes, storedCard, contactFrom, contactPlace, contactAt, contactsFrom, cardIn, cardAfter}
+use Rattle.card.specs.Contacts.{contactSize, cardSize, contactBytes, contactsBytes, cardBytes, storedCard, contactFrom, contactPlace, contactAt, contactsFrom, cardIn, cardAfter}
 
 -- ── a card is put into bytes ──
 
@@ -39,10 +39,6 @@ put-next-contact i h room cs x r e =
 pub put-no-contact : (i : ℕ) → 8 ≤ i → (room : List ℕ) (cs : List Contact) → length cs ≡ 8 → putAt room (contactPlace i) (contactsBytes (drop i cs)) ≡ room
 put-no-contact i h room cs l = rw (drop-of-length-le cs {i = i} (omega arith)) (put-none room (contactPlace i))
 
-encode-long : (s : Supervisor) → codec.Sized s → length (encode s) ≡ stateSize
-unfolding encode
-encode-long s z = simp length-append (omega (arith, tasks-long (s .tasks), z .tasks, z .ready, z .callers, z .held, z .delays))
-
 pub card-short : (b : List ℕ) (c : Card) → length b < cardSize → b ≡ storedCard c b
 unfolding storedCard
 card-short b c h = sym (if-true _ _ _ (lt-ltb (length b) cardSize h))
@@ -54,7 +50,7 @@ card-long b c headed r h z l e p =
     let s = encode (c .supervisor) in
     let x = contactsBytes (c .contacts) in
     let d = drop stateSize b in
-    let long = encode-long (c .supervisor) z in
+    let long = codec.encode-long (c .supervisor) z in
     let many : length x ≡ 40 = omega (arith, contacts-long (c .contacts), l) in
     let first : headed ≡ s ++ d = e ∙ if-false _ _ _ (le-ltb (length b) stateSize (omega arith)) in
     let behind : drop (stateSize + length x) (s ++ d) ≡ drop cardSize b =
@@ -104,7 +100,7 @@ card-kept c rest z l =
     let b = cardBytes c ++ rest in
     let split : b ≡ s ++ (x ++ rest) = append-assoc s x rest in
     let state : stateIn b ≡ c .supervisor = ap stateIn split ∙ codec.kept (c .supervisor) z (x ++ rest) in
-    let behind : drop (contactPlace 0) b ≡ x ++ rest = ap (drop stateSize) split ∙ drop-at s (x ++ rest) stateSize (encode-long (c .supervisor) z) in
+    let behind : drop (contactPlace 0) b ≡ x ++ rest = ap (drop stateSize) split ∙ drop-at s (x ++ rest) stateSize (codec.encode-long (c .supervisor) z) in
     let contacts : contactsFrom 8 0 b ≡ c .contacts = ap (λ (n : ℕ). contactsFrom n 0 b) (sym l) ∙ contacts-back (c .contacts) 0 b rest behind in
     λ i. record { supervisor = state i; contacts = contacts i }
 

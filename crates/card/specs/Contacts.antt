@@ -5,16 +5,13 @@ use lib.Dec.{eqb, ltb, leb}
 use lib.ListN.{length, drop}
 use Rattle.lists.specs.Lists.{if_then_else_, bit}
 use Rattle.calls.specs.Record.{byte}
-use Rattle.codec.specs.Layout.{encode, stateIn}
+use Rattle.codec.specs.Layout.{stateSize, encode, stateIn}
 use Rattle.debounce.specs.declared.Card.{Card}
 use Rattle.debounce.specs.declared.Contact.{Contact}
 use Rattle.debounce.specs.Card.{noContact}
 use Rattle.debounce.specs.Settings.{two}
 
--- the bytes of a supervisor, of a contact, and of a card
-abbrev pub stateSize : ℕ
-stateSize = 439
-
+-- the bytes of a contact, and of a card
 abbrev pub contactSize : ℕ
 contactSize = 5
 

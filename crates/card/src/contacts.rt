@@ -2,23 +2,22 @@
 ghost use Prim.Native.Nat.{_<_, _≤_};
 ghost use mathlib.Core.Path.{_≡_};
 ghost use lib.ListN.{length};
-ghost use Rattle.codec.specs.Layout.{putAt};
+ghost use Rattle.codec.specs.Layout.{stateSize, putAt};
 ghost use Rattle.debounce.specs.Card.{noContact, tickOf};
 ghost use Rattle.debounce.specs.Settings.{freshOf};
 ghost use Rattle.card.specs.Answers.{ifRoom, oneAfter};
-ghost use Rattle.card.specs.Contacts.{stateSize, cardSize, contactBytes, contactsBytes, storedCard, contactFrom, contactAt, contactsFrom, cardIn, cardAfter};
+ghost use Rattle.card.specs.Contacts.{cardSize, contactBytes, contactsBytes, storedCard, contactFrom, contactAt, contactsFrom, cardIn, cardAfter};
 use super::flag;
 use super::put_one;
 use calls::numbers::SHORT_ROOM;
+use codec::STATE_SIZE;
 use codec::put_at;
 use codec::state_in;
 use codec::store;
 use debounce::Card;
 use debounce::Contact;
 
-// The bytes of a supervisor, of a contact, and of a card.
-const STATE_SIZE: usize = 439;
-
+// The bytes of a contact, and of a card.
 const CONTACT_SIZE: usize = 5;
 
 const CARD_SIZE: usize = STATE_SIZE + 8 * CONTACT_SIZE;

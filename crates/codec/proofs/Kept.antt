@@ -120,6 +120,11 @@ pub record Sized (s : Supervisor) : Type 0 where
   pub held : length (s .core .held) ≡ 31
   pub delays : length (s .core .delays) ≡ 31
 
+-- a state takes as many bytes as its size says
+pub encode-long : (s : Supervisor) → Sized s → length (encode s) ≡ stateSize
+unfolding encode
+encode-long s z = simp length-append (omega (arith, tasks-long (s .core .tasks), z .tasks, z .ready, z .callers, z .held, z .delays))
+
 module _ (s : Supervisor) (z : Sized s) (rest : List ℕ) where
   abbrev head : List ℕ
   head = bytesOf (s .core .clock) ++ (s .core .created ∷ [])

@@ -63,7 +63,7 @@ module _ (now : ℕ) where
 -- ── a card ──
 
 -- task suc i of a state is at index i of the struct's table
-at-index : (v : State) (i : ℕ) → i < length (v .tasks) → getD (pack v .tasks) i blank ≡ taskOf v (suc i)
+at-index : (v : State) (i : ℕ) → i < length (v .tasks) → getD (pack v .core .tasks) i blank ≡ taskOf v (suc i)
 at-index v i h = List·getD-append (v .tasks) (replicate (31 - length (v .tasks)) blank) blank i h
 
 -- contact suc i of a list
@@ -71,7 +71,7 @@ nth-at : (cs : List Contact) (i : ℕ) → nthOf cs (suc i) ≡ getD cs i noCont
 nth-at cs i = ap (λ (j : ℕ). getD cs j noContact) (omega arith)
 
 -- what holds of task and contact 1 to 8 holds at index 0 to 7
-idle-at : (v : State) (cs : List Contact) → Idle v cs → (i : ℕ) → i < 8 → InRange (getD cs i noContact .n) (getD cs i noContact .p) × Waits (v .clock) (getD cs i noContact .p) (getD (pack v .tasks) i blank)
+idle-at : (v : State) (cs : List Contact) → Idle v cs → (i : ℕ) → i < 8 → InRange (getD cs i noContact .n) (getD cs i noContact .p) × Waits (v .clock) (getD cs i noContact .p) (getD (pack v .core .tasks) i blank)
 idle-at v cs d i h =
     let e = nth-at cs i in (
       subst (λ (c : Contact). InRange (c .n) (c .p)) e (d .settings (suc i) (omega arith) (omega arith)),
@@ -83,8 +83,8 @@ pub idle-whole : (v : State) (cs : List Contact) → Idle v cs → whole (cardOf
 unfolding whole
 idle-whole v cs d =
     and-both (and-both (sound-pack v (d .sound)) (eq-eqb (length (v .tasks)) 8 (d .tasks)))
-    (all-of (v .clock) (pack v .tasks) cs (omega (arith, d .contacts, d .tasks, length-append (v .tasks) (replicate (31 - length (v .tasks)) blank), length-replicate (31 - length (v .tasks)) blank))
-    (λ i h. let k = idle-at v cs d i (omega (arith, h, d .contacts)) in waits-test (v .clock) (getD (pack v .tasks) i blank) (getD cs i noContact) (k .0) (k .1)))
+    (all-of (v .clock) (pack v .core .tasks) cs (omega (arith, d .contacts, d .tasks, length-append (v .tasks) (replicate (31 - length (v .tasks)) blank), length-replicate (31 - length (v .tasks)) blank))
+    (λ i h. let k = idle-at v cs d i (omega (arith, h, d .contacts)) in waits-test (v .clock) (getD (pack v .core .tasks) i blank) (getD cs i noContact) (k .0) (k .1)))
 
 -- the table of the struct up to the created tasks
 take-at : {A : Type 0} (xs : List A) (n i : ℕ) (d : A) → i < n → n ≤ length xs → getD (take n xs) i d ≡ getD xs i d
@@ -92,12 +92,12 @@ take-at xs n i d h l =
     sym (List·getD-append (take n xs) (drop n xs) d i (omega (arith, h, length-take-le n xs l))) ∙ ap (λ (k : List _). getD k i d) (take-append-drop n xs)
 
 -- the three tests of a card
-whole-parts : (c : Card) → whole c ≡ true → (soundWhole (c .supervisor) ≡ true) × (c .supervisor .created ≡ 8) × (allWait (c .supervisor .clock) (c .supervisor .tasks) (c .contacts) ≡ true)
+whole-parts : (c : Card) → whole c ≡ true → (soundWhole (c .supervisor) ≡ true) × (c .supervisor .core .created ≡ 8) × (allWait (c .supervisor .core .clock) (c .supervisor .core .tasks) (c .contacts) ≡ true)
 unfolding whole
 whole-parts c e =
     let s = c .supervisor in
-    let p = each (soundWhole s) (eqb (s .created) 8 ∷ allWait (s .clock) (s .tasks) (c .contacts) ∷ []) e in
-    (p 0, eqb-true (s .created) 8 (p 1), p 2)
+    let p = each (soundWhole s) (eqb (s .core .created) 8 ∷ allWait (s .core .clock) (s .core .tasks) (c .contacts) ∷ []) e in
+    (p 0, eqb-true (s .core .created) 8 (p 1), p 2)
 
 pub whole-idle : (c : Card) → CardTyped c → whole c ≡ true → (c ≡ cardOf (view (c .supervisor)) (c .contacts)) × Idle (view (c .supervisor)) (c .contacts)
 whole-idle c t e =
@@ -105,8 +105,8 @@ whole-idle c t e =
     let parts = whole-parts c e in
     let sound = parts .0 in
     let many = parts .1 in
-    let all = all-at (s .clock) (s .tasks) (c .contacts) (parts .2) in
-    let long : length (view s .tasks) ≡ 8 = length-take-le (s .created) (s .tasks) (omega (arith, many, t .supervisor .tasks)) ∙ many in (
+    let all = all-at (s .core .clock) (s .core .tasks) (c .contacts) (parts .2) in
+    let long : length (view s .tasks) ≡ 8 = length-take-le (s .core .created) (s .core .tasks) (omega (arith, many, t .supervisor .core .tasks)) ∙ many in (
       λ i. record { supervisor = whole-packed s (t .supervisor) sound i; contacts = c .contacts },
       record {
         sound = sound-view s (t .supervisor) sound;
@@ -117,15 +117,15 @@ whole-idle c t e =
       },
     )
   where
-    at : (k : ℕ) → 0 < k → k ≤ 8 → waitsFor (c .supervisor .clock) (getD (c .supervisor .tasks) (k - 1) blank) (nthOf (c .contacts) k) ≡ true → c .supervisor .created ≡ 8
-        → InRange (nthOf (c .contacts) k .n) (nthOf (c .contacts) k .p) × Waits (c .supervisor .clock) (nthOf (c .contacts) k .p) (taskOf (view (c .supervisor)) k)
+    at : (k : ℕ) → 0 < k → k ≤ 8 → waitsFor (c .supervisor .core .clock) (getD (c .supervisor .core .tasks) (k - 1) blank) (nthOf (c .contacts) k) ≡ true → c .supervisor .core .created ≡ 8
+        → InRange (nthOf (c .contacts) k .n) (nthOf (c .contacts) k .p) × Waits (c .supervisor .core .clock) (nthOf (c .contacts) k .p) (taskOf (view (c .supervisor)) k)
     at zero a b q m = absurd (omega arith)
     at (suc k) a b q m =
         let s = c .supervisor in
-        let w = waits-of (s .clock) (getD (s .tasks) (suc k - 1) blank) (nthOf (c .contacts) (suc k)) q in
-        let same : getD (s .tasks) (suc k - 1) blank ≡ taskOf (view s) (suc k) =
-        ap (λ (j : ℕ). getD (s .tasks) j blank) (omega arith) ∙ sym (take-at (s .tasks) (s .created) k blank (omega (arith, b, m)) (omega (arith, m, t .supervisor .tasks))) in
-        (w .0, subst (λ (x : Task). Waits (s .clock) (nthOf (c .contacts) (suc k) .p) x) same (w .1))
+        let w = waits-of (s .core .clock) (getD (s .core .tasks) (suc k - 1) blank) (nthOf (c .contacts) (suc k)) q in
+        let same : getD (s .core .tasks) (suc k - 1) blank ≡ taskOf (view s) (suc k) =
+        ap (λ (j : ℕ). getD (s .core .tasks) j blank) (omega arith) ∙ sym (take-at (s .core .tasks) (s .core .created) k blank (omega (arith, b, m)) (omega (arith, m, t .supervisor .core .tasks))) in
+        (w .0, subst (λ (x : Task). Waits (s .core .clock) (nthOf (c .contacts) (suc k) .p) x) same (w .1))
 
 -- the test passes exactly where the facts hold
 module _ (c : Card) (t : CardTyped c) where
@@ -144,7 +144,7 @@ module _ (c : Card) (t : CardTyped c) where
   pub passes : Undamaged c → whole c ≡ true
   passes f =
       let s = c .supervisor in
-      let long : length (view s .tasks) ≡ 8 = length-take-le (s .created) (s .tasks) (omega (arith, f .tasks, t .supervisor .tasks)) ∙ f .tasks in
+      let long : length (view s .tasks) ≡ 8 = length-take-le (s .core .created) (s .core .tasks) (omega (arith, f .tasks, t .supervisor .core .tasks)) ∙ f .tasks in
       let d : Idle (view s) (c .contacts) = record {
         sound = sound-view s (t .supervisor) (f .sound);
         tasks = long;
@@ -163,7 +163,7 @@ idle-undamaged v cs d = undamaged (cardOf v cs) (record { supervisor = typed-pac
 pub out-of-range : (c : Card) (i : ℕ) → i < length (c .contacts) → getD (c .contacts) i noContact ≡ noContact → whole c ≡ false
 out-of-range c i h e =
     let s = c .supervisor in
-    let x = getD (s .tasks) i blank in
+    let x = getD (s .core .tasks) i blank in
     by-bool (whole c)
-    (λ w. clash (all-at (s .clock) (s .tasks) (c .contacts) (whole-parts c w .2) i h) (ap (waitsFor (s .clock) x) e))
+    (λ w. clash (all-at (s .core .clock) (s .core .tasks) (c .contacts) (whole-parts c w .2) i h) (ap (waitsFor (s .core .clock) x) e))
     (λ w. w)

@@ -39,4 +39,4 @@ tick-said c bits t e =
 -- where the settings were refused there is no card to tick
 pub none-damaged : whole noCard ≡ false
 unfolding whole
-none-damaged = ap (λ (x : Bool). x && allWait 0 (noTasks .tasks) (noCard .contacts)) (and-false (soundWhole noTasks))
+none-damaged = ap (λ (x : Bool). x && allWait 0 (noTasks .core .tasks) (noCard .contacts)) (and-false (soundWhole noTasks))

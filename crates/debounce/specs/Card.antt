@@ -76,7 +76,7 @@ allWait now (x ∷ xs) (c ∷ cs) = waitsFor now x c && allWait now xs cs
 
 -- not damaged: the supervisor is sound, its tasks are 1 to 8, and each delays with 1 to p ticks left, its contact's setting in range
 unfoldable pub whole : Card → Bool
-whole c = soundWhole (c .supervisor) && eqb (c .supervisor .created) 8 && allWait (c .supervisor .clock) (c .supervisor .tasks) (c .contacts)
+whole c = soundWhole (c .supervisor) && eqb (c .supervisor .core .created) 8 && allWait (c .supervisor .core .clock) (c .supervisor .core .tasks) (c .contacts)
 
 -- ── a tick ──
 

@@ -23,7 +23,7 @@ pub record CardTyped (c : Card) : Type 0 where
 
 -- the ticks left to the task of contact k
 abbrev pub leftOf : Card → ℕ → ℕ
-leftOf c k = ticksLeft (c .supervisor .clock) (timerOf (view (c .supervisor)) k)
+leftOf c k = ticksLeft (c .supervisor .core .clock) (timerOf (view (c .supervisor)) k)
 
 -- a card is not damaged exactly when all of this holds
 pub record Undamaged (c : Card) : Type 0 where
@@ -32,7 +32,7 @@ pub record Undamaged (c : Card) : Type 0 where
   -- the settings are in range
   pub settings : (k : ℕ) → 1 ≤ k → k ≤ 8 → goodSetting (nthOf (c .contacts) k .n) (nthOf (c .contacts) k .p) ≡ true
   -- the tasks are 1 to 8
-  pub tasks : c .supervisor .created ≡ 8
+  pub tasks : c .supervisor .core .created ≡ 8
   -- each delaying
   pub delaying : (k : ℕ) → 1 ≤ k → k ≤ 8 → placeOf (view (c .supervisor)) k ≡ Delayed
   -- with 1 to p ticks left

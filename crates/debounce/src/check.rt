@@ -4,8 +4,8 @@ ghost use Rattle.rules.specs.State.{ticksLeft};
 ghost use Rattle.debounce.specs.Card.{goodSetting, isDelayed, waitsFor, allWait, whole};
 use super::Card;
 use super::Contact;
+use rules::Core;
 use rules::Place;
-use rules::Supervisor;
 use rules::Task;
 use rules::Timer;
 
@@ -52,7 +52,7 @@ fn waits_for(now: u32, x: Task, c: Contact) -> bool
 }
 
 // Whether each of eight tasks waits for its contact.
-fn all_wait(s: Supervisor, cs: [Contact; 8]) -> bool
+fn all_wait(s: Core, cs: [Contact; 8]) -> bool
     ensures { λ r. ⌜ r ≡ allWait (s .clock) (s .tasks) cs ⌝ }
 {
     let now = s.clock;
@@ -72,6 +72,7 @@ pub fn is_whole(card: Card) -> bool
     ensures { λ r. ⌜ r ≡ whole card ⌝ }
 {
     let s = card.supervisor;
+    let core = s.core;
     let cs = card.contacts;
-    supervisor::sound(s) & (s.created == 8) & all_wait(s, cs)
+    supervisor::sound(s) & (core.created == 8) & all_wait(core, cs)
 }

@@ -26,8 +26,7 @@ use Rattle.rules.specs.declared.Supervisor.{Supervisor}
 use Rattle.rules.proofs.Dispatch.{untouched}
 use Rattle.rules.proofs.EveryStruct.{typed-pack, step-typed}
 use Rattle.rules.proofs.OverRuns.{empty-sound}
-use Rattle.codec.specs.Layout.{encode, stateIn, stored}
-use Rattle.codec.proofs.CodecLaws.{tasks-long}
+use Rattle.codec.specs.Layout.{stateSize, encode, stateIn, stored}
 use Rattle.codec.proofs.Kept as codec
 use Rattle.card.specs.Answers.{stepBy, stateAfter, answerBytes, ifRoom}
 use Rattle.card.proofs.CardLaws.{step-by}
@@ -37,38 +36,28 @@ use Rattle.statements.specs.Library.{CardUse, stepIn, KeepsCard, CardCha
 -- ── a state in its bytes ──
 
 sized : (s : Supervisor) → Typed s → codec.Sized s
-sized s t = record { tasks = t .tasks; ready = t .ready; callers = t .callers; held = t .held; delays = t .delays }
-
-encode-long : (s : Supervisor) → Typed s → length (encode s) ≡ 439
-unfolding encode
-encode-long s t =
-    let h₁ = t .tasks in
-    let h₂ = t .ready in
-    let h₃ = t .callers in
-    let h₄ = t .held in
-    let h₅ = t .delays in
-    simp length-append (omega (arith, tasks-long (s .tasks)))
+sized s t = record { tasks = t .core .tasks; ready = t .core .ready; callers = t .callers; held = t .core .held; delays = t .core .delays }
 
 -- the bytes b hold a state, and the bytes behind it are those of b₀
 record Holds (b₀ b : List ℕ) : Type 0 where
   typed : Typed (stateIn b)
-  bytes : b ≡ encode (stateIn b) ++ drop 439 b₀
+  bytes : b ≡ encode (stateIn b) ++ drop stateSize b₀
 
 module _ (b₀ : List ℕ) (s : Supervisor) (t : Typed s) where
-  put-back : stateIn (encode s ++ drop 439 b₀) ≡ s
-  put-back = codec.kept s (sized s t) (drop 439 b₀)
+  put-back : stateIn (encode s ++ drop stateSize b₀) ≡ s
+  put-back = codec.kept s (sized s t) (drop stateSize b₀)
 
-  put-holds : Holds b₀ (encode s ++ drop 439 b₀)
-  put-holds = record { typed = subst Typed (sym put-back) t; bytes = ap (λ (x : Supervisor). encode x ++ drop 439 b₀) (sym put-back) }
+  put-holds : Holds b₀ (encode s ++ drop stateSize b₀)
+  put-holds = record { typed = subst Typed (sym put-back) t; bytes = ap (λ (x : Supervisor). encode x ++ drop stateSize b₀) (sym put-back) }
 
   -- where bytes hold a state, another is put into them
-  put-over : (b : List ℕ) → Holds b₀ b → stored s b ≡ encode s ++ drop 439 b₀
+  put-over : (b : List ℕ) → Holds b₀ b → stored s b ≡ encode s ++ drop stateSize b₀
   unfolding stored
   put-over b h =
-      let l = encode-long (stateIn b) (h .typed) in
-      let d : drop 439 b ≡ drop 439 b₀ = ap (drop 439) (h .bytes) ∙ drop-at (encode (stateIn b)) (drop 439 b₀) 439 l in
-      let n : length b ≡ length (encode (stateIn b)) + length (drop 439 b₀) = ap length (h .bytes) ∙ length-append (encode (stateIn b)) (drop 439 b₀) in
-      if-false (ltb (length b) 439) b (encode s ++ drop 439 b) (le-ltb (length b) 439 (omega (arith, l, n))) ∙ ap (λ (x : List ℕ). encode s ++ x) d
+      let l = codec.encode-long (stateIn b) (sized (stateIn b) (h .typed)) in
+      let d : drop stateSize b ≡ drop stateSize b₀ = ap (drop stateSize) (h .bytes) ∙ drop-at (encode (stateIn b)) (drop stateSize b₀) stateSize l in
+      let n : length b ≡ length (encode (stateIn b)) + length (drop stateSize b₀) = ap length (h .bytes) ∙ length-append (encode (stateIn b)) (drop stateSize b₀) in
+      if-false (ltb (length b) stateSize) b (encode s ++ drop stateSize b) (le-ltb (length b) stateSize (omega (arith, l, n))) ∙ ap (λ (x : List ℕ). encode s ++ x) d
 
 -- ── one use ──
 
@@ -86,7 +75,7 @@ module _ (b₀ b : List ℕ) (h : Holds b₀ b) (c : C.Call) (n : ℕ) where
       by-bool (eqb (w .refusal) 0)
       (λ e.
       let t = step-typed (stateIn b) (h .typed) c n in
-      let q : stateAfter b w ≡ encode (w .state) ++ drop 439 b₀ = if-true (eqb (w .refusal) 0) (stored (w .state) b) b e ∙ put-over b₀ (w .state) t b h in
+      let q : stateAfter b w ≡ encode (w .state) ++ drop stateSize b₀ = if-true (eqb (w .refusal) 0) (stored (w .state) b) b e ∙ put-over b₀ (w .state) t b h in
       (ap stateIn q ∙ put-back b₀ (w .state) t, subst (Holds b₀) (sym q) (put-holds b₀ (w .state) t)))
       (λ e.
       let q : stateAfter b w ≡ b = if-false (eqb (w .refusal) 0) (stored (w .state) b) b e in
@@ -182,23 +171,23 @@ goes b₀ b (u ∷ us) h c =
     let g = goes b₀ (u .left) us (t .holds) (c .1) in
     record { holds = g .holds; chain = t .chain (usesIn us) (g .chain); ends = g .ends ∙ sym (t .ends (usesIn us)) }
 
-runs : (n : ℕ) → n < 4294967296 → (b : List ℕ) → 439 ≤ length b → (us : List CardUse) → CardChain (stored (start n) b) us → RunsCard n b us
+runs : (n : ℕ) → n < 4294967296 → (b : List ℕ) → stateSize ≤ length b → (us : List CardUse) → CardChain (stored (start n) b) us → RunsCard n b us
 unfolding stored
 runs n h b l us c =
     let t = typed-pack (empty n) (empty-sound n h) in
-    let q : stored (start n) b ≡ encode (start n) ++ drop 439 b = if-false (ltb (length b) 439) b (encode (start n) ++ drop 439 b) (le-ltb (length b) 439 l) in
+    let q : stored (start n) b ≡ encode (start n) ++ drop stateSize b = if-false (ltb (length b) stateSize) b (encode (start n) ++ drop stateSize b) (le-ltb (length b) stateSize l) in
     let s : stateIn (stored (start n) b) ≡ start n = ap stateIn q ∙ put-back b (start n) t in
     let g = goes b (stored (start n) b) us (subst (Holds b) (sym q) (put-holds b (start n) t)) c in
     let e = g .ends ∙ ap (λ (x : Supervisor). reached x (usesIn us)) s in
     record {
       run = record { clock = h; uses = usesIn us; kept = subst (λ (x : Supervisor). Chain x (usesIn us)) s (g .chain) };
       uses = refl;
-      left = g .holds .bytes ∙ ap (λ (x : Supervisor). encode x ++ drop 439 b) e;
+      left = g .holds .bytes ∙ ap (λ (x : Supervisor). encode x ++ drop stateSize b) e;
       state = e;
     }
 
-starts : (b b′ : List ℕ) (n r : ℕ) → r ≡ ifRoom 439 b 1 0 → b′ ≡ stored (start n) b → 439 ≤ length b → (r ≡ 0) × (b′ ≡ stored (start n) b)
-starts b b′ n r p q h = (p ∙ if-false _ _ _ (le-ltb (length b) 439 h), q)
+starts : (b b′ : List ℕ) (n r : ℕ) → r ≡ ifRoom stateSize b 1 0 → b′ ≡ stored (start n) b → stateSize ≤ length b → (r ≡ 0) × (b′ ≡ stored (start n) b)
+starts b b′ n r p q h = (p ∙ if-false _ _ _ (le-ltb (length b) stateSize h), q)
 
 pub library : Library
 library = record {

@@ -113,6 +113,12 @@ second-engine = record {
   running = running.met;
   count = count.met;
   callable = callable.met;
+  empty-asks = λ κs x. tt;
+  step-asks = λ κs x. tt;
+  sound-asks = λ κs x. tt;
+  running-asks = λ κs x. tt;
+  count-asks = λ κs x. tt;
+  callable-asks = λ κs x. tt;
   starts = λ κs x r y p. p;
   steps = λ κs x r y p. record { answer = p .0; room = p .1 };
   tells-sound = λ κs x r y p. p;

@@ -17,7 +17,7 @@ use Rattle.rules.specs.Questions.{countWhole, callableWhole, runningWhole}
 use Rattle.rules.specs.Runs.{start}
 use Rattle.rules.specs.Uses.{Use}
 use Rattle.rules.specs.declared.Answer.{Answer}
-use Rattle.codec.specs.Layout.{encode, stateIn, stored}
+use Rattle.codec.specs.Layout.{stateSize, encode, stateIn, stored}
 use Rattle.card.specs.Answers.{cardStep, stateAfter, answerBytes, ifRoom, oneAfter}
 use Rattle.card.proofs.card_empty.Reads as card-empty
 use Rattle.card.proofs.card_sound.Reads as card-sound
@@ -84,7 +84,7 @@ pub record RunsCard (n : ℕ) (b : List ℕ) (us : List CardUse) : Type 0 where
   pub run : Run n
   pub uses : run .uses ≡ usesIn us
   -- the bytes of the state are the encoding of the state that this run reaches, and the bytes behind them are as they were
-  pub left : leftBy (stored (start n) b) us ≡ encode (stateOf run) ++ drop 439 b
+  pub left : leftBy (stored (start n) b) us ≡ encode (stateOf run) ++ drop stateSize b
   -- and it is read back from them
   pub state : stateIn (leftBy (stored (start n) b) us) ≡ stateOf run
 
@@ -101,9 +101,9 @@ pub record Library : Type 1 where
         wrote = now (y .1 .1 .0);
         told = now (y .1 .1 .1 .0);
       })
-  -- whatever the contract of `card_empty` allows: with 439 bytes or more it returns 0, and an empty supervisor with that clock stands in them
+  -- whatever the contract of `card_empty` allows: with bytes enough it returns 0, and an empty supervisor with that clock stands in them
   pub card-starts : (κs : _) (x : _) (r : _) (y : _) → card-empty.Learnt κs x r y
-      → 439 ≤ length (now (x .0)) → (r ≡ 0) × (now (y .0) ≡ stored (start (x .1 .0)) (now (x .0)))
+      → stateSize ≤ length (now (x .0)) → (r ≡ 0) × (now (y .0) ≡ stored (start (x .1 .0)) (now (x .0)))
   -- whatever the contracts of the questions allow is what the definitions say of the state in the bytes: its number returned, its answer in one byte
   pub card-tells-sound : (κs : _) (x : _) (r : _) (y : _) → card-sound.Learnt κs x r y → r ≡ bit (soundWhole (stateIn (now (x .0))))
   pub card-tells-count : (κs : _) (x : _) (r : _) (y : _) → card-count.Learnt κs x r y
@@ -116,7 +116,7 @@ pub record Library : Type 1 where
       → (r ≡ ifRoom 1 (now (x .1 .0)) 1 (runningWhole (stateIn (now (x .0))) .refusal))
       × (now (y .1 .0) ≡ oneAfter (now (x .1 .0)) (runningWhole (stateIn (now (x .0))) .task))
   -- any sequence of uses, refused ones and records that cannot be read included
-  pub card-run : (n : ℕ) → n < 4294967296 → (b : List ℕ) → 439 ≤ length b → (us : List CardUse) → CardChain (stored (start n) b) us → RunsCard n b us
+  pub card-run : (n : ℕ) → n < 4294967296 → (b : List ℕ) → stateSize ≤ length b → (us : List CardUse) → CardChain (stored (start n) b) us → RunsCard n b us
   -- the number returned is the refusal of the answer
   pub card-returns : (b : List ℕ) (u : CardUse) → KeepsCard b u → 7 ≤ length (u .answer) → u .returned ≡ answerIn (u .told) .refusal
   -- a use that is no use of `step` leaves the bytes of the state and of the room as they were

@@ -8,6 +8,7 @@ use mathlib.Core.Path.{_≡_}
 use mathlib.Core.Bool.{true, false}
 use mathlib.Core.List.{List, [], map}
 use denote.Ref.{now}
+use Rattle.lists.specs.Once.{AsksNothing}
 use Rattle.rules.specs.Questions.{countWhole, callableWhole, runningWhole}
 use Rattle.rules.specs.Runs.{start}
 use Rattle.rules.specs.Second.{viewSecond, packSecond, soundSecond, stepSecond, startSecond, countSecond, callableSecond, runningSecond, SecondKeeps, secondReached, BothRun, repliedOf, secondReplied}
@@ -15,12 +16,12 @@ use Rattle.rules.specs.Step.{takeCall, roomAfter}
 use Rattle.rules.specs.Whole.{doneBy}
 use Rattle.rules.specs.declared.Second.{Second}
 use Rattle.calls.specs.declared.Call as C
-use Rattle.second.proofs.empty.Reads as empty-reads
-use Rattle.second.proofs.step.Reads as step-reads
-use Rattle.second.proofs.sound.Reads as sound-reads
-use Rattle.second.proofs.running.Reads as running-reads
-use Rattle.second.proofs.count.Reads as count-reads
-use Rattle.second.proofs.callable.Reads as callable-reads
+use Rattle.second.proofs.empty.Reads as of-empty
+use Rattle.second.proofs.step.Reads as of-step
+use Rattle.second.proofs.sound.Reads as of-sound
+use Rattle.second.proofs.running.Reads as of-running
+use Rattle.second.proofs.count.Reads as of-count
+use Rattle.second.proofs.callable.Reads as of-callable
 use Rattle.second.proofs.empty.Statement as empty
 use Rattle.second.proofs.step.Statement as step
 use Rattle.second.proofs.sound.Statement as sound
@@ -37,16 +38,23 @@ pub record SecondEngine : Type 2 where
   pub running : {M : Type 1} → running.statement M
   pub count : {M : Type 1} → count.statement M
   pub callable : {M : Type 1} → callable.statement M
+  -- and their contracts ask nothing of who calls
+  pub empty-asks : AsksNothing of-empty.Asked
+  pub step-asks : AsksNothing of-step.Asked
+  pub sound-asks : AsksNothing of-sound.Asked
+  pub running-asks : AsksNothing of-running.Asked
+  pub count-asks : AsksNothing of-count.Asked
+  pub callable-asks : AsksNothing of-callable.Asked
   -- whatever the contract of `empty` allows is the start of a run with that clock; whatever that of `step` allows, in a state x .0 with the call
   -- x .1 .0 and a lent room, is a use that keeps it (x has what the function is given, r is its answer, y has what is lent as it is afterwards)
-  pub starts : (κs : _) (x : _) (r : _) (y : _) → empty-reads.Learnt κs x r y → r ≡ startSecond (x .0)
-  pub steps : (κs : _) (x : _) (r : _) (y : _) → step-reads.Learnt κs x r y
+  pub starts : (κs : _) (x : _) (r : _) (y : _) → of-empty.Learnt κs x r y → r ≡ startSecond (x .0)
+  pub steps : (κs : _) (x : _) (r : _) (y : _) → of-step.Learnt κs x r y
       → SecondKeeps (x .0) (record { call = x .1 .0; lent = now (x .1 .1 .0); gave = r; wrote = now (y .1 .1 .0) })
   -- the same of the questions
-  pub tells-sound : (κs : _) (x : _) (r : _) (y : _) → sound-reads.Learnt κs x r y → r ≡ soundSecond (x .0)
-  pub tells-running : (κs : _) (x : _) (r : _) (y : _) → running-reads.Learnt κs x r y → r ≡ runningSecond (x .0)
-  pub tells-count : (κs : _) (x : _) (r : _) (y : _) → count-reads.Learnt κs x r y → r ≡ countSecond (x .0) (x .1 .0) (x .1 .1 .0)
-  pub tells-callable : (κs : _) (x : _) (r : _) (y : _) → callable-reads.Learnt κs x r y → r ≡ callableSecond (x .0) (x .1 .0)
+  pub tells-sound : (κs : _) (x : _) (r : _) (y : _) → of-sound.Learnt κs x r y → r ≡ soundSecond (x .0)
+  pub tells-running : (κs : _) (x : _) (r : _) (y : _) → of-running.Learnt κs x r y → r ≡ runningSecond (x .0)
+  pub tells-count : (κs : _) (x : _) (r : _) (y : _) → of-count.Learnt κs x r y → r ≡ countSecond (x .0) (x .1 .0) (x .1 .1 .0)
+  pub tells-callable : (κs : _) (x : _) (r : _) (y : _) → of-callable.Learnt κs x r y → r ≡ callableSecond (x .0) (x .1 .0)
   -- "over every sequence of calls from empty it answers as the first does, lists and dispatched tasks included": two chains of uses, asked the same
   pub answers-alike : (n : ℕ) (run : BothRun n) → map secondReplied (run .second) ≡ map repliedOf (run .first)
   -- and so it answers every question afterwards; its states stay sound

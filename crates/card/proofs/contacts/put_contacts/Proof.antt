@@ -6,10 +6,10 @@ use mathlib.Core.List.{List}
 use lib.ListN.{length, getD, drop}
 use Rattle.lists.proofs.ListLaws.{mapped-long}
 use Rattle.lists.proofs.Turns.{rest-cons}
-use Rattle.codec.specs.Layout.{putAt, placedAt}
+use Rattle.codec.specs.Layout.{stateSize, putAt, placedAt}
 use Rattle.codec.proofs.CodecLaws.{put-length, placed-fits}
 use Rattle.debounce.specs.Card.{noContact}
-use Rattle.card.specs.Contacts.{stateSize, cardSize, contactPlace, contactBytes, contactsBytes}
+use Rattle.card.specs.Contacts.{cardSize, contactPlace, contactBytes, contactsBytes}
 use Rattle.card.proofs.ContactsLaws.{put-next-contact, put-no-contact}
 use Rattle.card.proofs.contacts.put_contacts.Statement.{statement}
 use Rattle.card.proofs.contacts.put_contacts.Tie as tie
