@@ -17,7 +17,7 @@ package Fuzgerlint is
    type Bytes is array (Positive range <>) of Byte;
    pragma Pack (Bytes);
 
-   State_Length  : constant := 439;
+   State_Length  : constant := 501;
    Room_Length   : constant := 124;
    Answer_Length : constant := 7;
 

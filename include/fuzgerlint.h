@@ -20,7 +20,7 @@ extern "C" {
 #endif
 
 enum {
-    CARD_STATE = 439, /* bytes of a state: clock 4, created 1, 31 tasks of 10, lines ready, callers, held, delays of 31 */
+    CARD_STATE = 501, /* bytes of a state: clock 4, created 1, 31 tasks of 12, lines ready, callers, held, delays of 31 */
     CARD_ROOM = 124,  /* bytes of room for ended waits: 31 items of task, result, entry, partner */
     CARD_ANSWER = 7   /* bytes of an answer: refusal, result, task, entry, partner, ended waits, dispatched task */
 };

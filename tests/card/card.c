@@ -7,6 +7,9 @@
 /* Bytes behind those that the library may write, to see that it leaves them. */
 enum { BEHIND = 8, MARK = 0xA5 };
 
+/* Where task 1 stands in a state, and three of its bytes. */
+enum { FIRST_TASK = 5, CURRENT = 1, TAG = 3, KEPT = 6 };
+
 static uint8_t state[CARD_STATE + BEHIND], room[CARD_ROOM + BEHIND], answer[CARD_ANSWER + BEHIND];
 
 static uint8_t step(const uint8_t *record, size_t length)
@@ -108,12 +111,18 @@ int main(void)
     printf("short state %d", card_empty(state, CARD_STATE - 1, 0));
     printf(" %d", card_step(state, CARD_STATE - 1, tick, 3, room, sizeof room, answer, sizeof answer));
     printf(" %d\n", card_sound(state, CARD_STATE - 1));
-    state[7] = 7;
+    state[FIRST_TASK + TAG] = 7;
     printf("other tag %d\n", step(tick, 3));
-    state[7] = before[7];
-    state[8] = 1;
+    state[FIRST_TASK + TAG] = before[FIRST_TASK + TAG];
+    state[FIRST_TASK + TAG + 1] = 1;
     printf("unused byte %d\n", step(tick, 3));
-    state[8] = before[8];
+    state[FIRST_TASK + TAG + 1] = before[FIRST_TASK + TAG + 1];
+    state[FIRST_TASK + CURRENT] = 16;
+    printf("current priority 16 %d\n", step(tick, 3));
+    state[FIRST_TASK + CURRENT] = before[FIRST_TASK + CURRENT];
+    state[FIRST_TASK + KEPT] = 1;
+    printf("kept priority of a task that is not held %d\n", step(tick, 3));
+    state[FIRST_TASK + KEPT] = before[FIRST_TASK + KEPT];
     printf("short answer %d\n", card_step(state, sizeof state, tick, 3, room, sizeof room, answer, CARD_ANSWER - 1));
     printf("short room %d\n", card_step(state, sizeof state, tick, 3, room, CARD_ROOM - 1, answer, sizeof answer));
     printf("cut record %d\n", step(tick, 2));

@@ -11,6 +11,11 @@ procedure Card_Test is
    Behind : constant := 8;    --  bytes behind those that the library may write, to see that it leaves them
    Mark   : constant := 16#A5#;
 
+   First_Task : constant := 6;    --  where task 1 stands in a state, and three of its bytes
+   Current    : constant := 1;
+   Tag        : constant := 3;
+   Kept       : constant := 6;
+
    State  : Bytes (1 .. State_Length + Behind) := (others => Mark);
    Room   : Bytes (1 .. Room_Length + Behind) := (others => Mark);
    Answer : Bytes (1 .. Answer_Length + Behind) := (others => Mark);
@@ -171,12 +176,18 @@ begin
    Put ("short state " & Image (Empty (State'Address, State_Length - 1, 0)));
    Put (" " & Image (Do_Step (Tick, State_Length - 1, Room'Length, Answer'Length)));
    Put_Line (" " & Image (Sound (State'Address, State_Length - 1)));
-   State (8) := 7;
+   State (First_Task + Tag) := 7;
    Put_Line ("other tag " & Image (Do_Step (Tick)));
-   State (8) := Before (8);
-   State (9) := 1;
+   State (First_Task + Tag) := Before (First_Task + Tag);
+   State (First_Task + Tag + 1) := 1;
    Put_Line ("unused byte " & Image (Do_Step (Tick)));
-   State (9) := Before (9);
+   State (First_Task + Tag + 1) := Before (First_Task + Tag + 1);
+   State (First_Task + Current) := 16;
+   Put_Line ("current priority 16 " & Image (Do_Step (Tick)));
+   State (First_Task + Current) := Before (First_Task + Current);
+   State (First_Task + Kept) := 1;
+   Put_Line ("kept priority of a task that is not held " & Image (Do_Step (Tick)));
+   State (First_Task + Kept) := Before (First_Task + Kept);
    Put_Line ("short answer " & Image (Do_Step (Tick, State'Length, Room'Length, Answer_Length - 1)));
    Put_Line ("short room " & Image (Do_Step (Tick, State'Length, Room_Length - 1, Answer'Length)));
    Put_Line ("cut record " & Image (Do_Step (Tick (1 .. 2))));

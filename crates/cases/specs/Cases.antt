@@ -1,10 +1,10 @@
--- The starred cases of document 01, its sample, and four of ADVANCE, as one table of values, and the test of a row.
+-- The starred cases of document 01, its sample, four of ADVANCE, and those of priority in a rendezvous, as one table of values, and the test of a row.
 -- A row: the clock of an empty supervisor, the calls made from there, each with 124 bytes of room, and what the last of
 -- them gives: the line as the sample prints it, the clock afterwards, and the ended waits.
 -- Assumes nothing.
 use Prim.Native.Nat.{ℕ}
 use mathlib.Core.Bool.{Bool, true, false, _&&_}
-use mathlib.Core.List.{List, [], _∷_}
+use mathlib.Core.List.{List, [], _∷_, _++_}
 use lib.IntN.{pos, negsuc}
 use lib.ListN.{take, replicate}
 use lib.Dec.{eqb}
@@ -91,6 +91,14 @@ holds step r = gives (lastOf step (pack (empty (r .start))) (r .calls)) r
 unfoldable pub sample : List C.Call
 sample = Create 5 1 ∷ Create 9 0 ∷ Call 1 1 (Timed (pos 3)) ∷ Tick ∷ Select 1 Plain ∷ Tick ∷ Tick ∷ End ∷ End ∷ []
 
+-- task 1, of priority 3, was resumed to serve task 2, of priority 9
+abbrev inside : List C.Call
+inside = Create 3 1 ∷ Select 1 Plain ∷ Create 9 0 ∷ Call 1 1 Simple ∷ []
+
+-- task 1, of priority 3, serves task 3, of priority 7, and meanwhile task 2, of priority 9
+abbrev nested : List C.Call
+nested = Create 3 2 ∷ Create 9 0 ∷ Call 1 1 Simple ∷ Create 7 0 ∷ Call 1 2 Simple ∷ Select 2 Plain ∷ Select 1 Plain ∷ []
+
 unfoldable pub cases : List Row
 cases =
     -- A* empty, FINISH: 4
@@ -142,6 +150,30 @@ cases =
     ∷ row 0 (Create 4 0 ∷ Delay (pos 3) ∷ Create 4 0 ∷ Delay (pos 1) ∷ Advance 5 ∷ []) (says 0 10 0 2 0 2) 5 (item 2 1 0 0 ∷ item 1 1 0 0 ∷ [])
     -- across the clock's last reading
     ∷ row 4294967294 (Create 4 0 ∷ Delay (pos 3) ∷ Advance 4 ∷ []) (says 0 10 0 1 0 1) 2 (item 1 1 0 0 ∷ [])
+    -- a rendezvous runs at the higher of the two priorities: a middle task does not preempt the acceptor
+    ∷ row 0 (inside ++ (Create 5 0 ∷ [])) (says 0 10 3 0 0 1) 0 []
+    -- a resumed acceptor joins the tail of the new level
+    ∷ row 0 (Create 3 1 ∷ Select 1 Plain ∷ Create 9 0 ∷ Create 9 0 ∷ Call 1 1 Simple ∷ []) (says 0 0 2 0 0 3) 0 (item 1 5 1 2 ∷ [])
+    -- one already running that is not raised keeps its place, in front of one of its level
+    ∷ row 0 (Create 9 1 ∷ Delay (pos 1) ∷ Create 9 0 ∷ Call 1 1 Simple ∷ Tick ∷ Create 9 0 ∷ Select 1 Plain ∷ []) (says 0 5 1 1 2 1) 1 []
+    -- raised, it stands alone on the raised level
+    ∷ row 0 (nested ++ (Create 8 0 ∷ [])) (says 0 10 4 0 0 1) 0 []
+    -- END puts it back, below a caller that is higher still
+    ∷ row 0 (nested ++ (Create 8 0 ∷ End ∷ [])) (says 0 10 1 0 0 2) 0 (item 2 2 1 1 ∷ [])
+    -- to what it was before, 7, not to what it was created with
+    ∷ row 0 (nested ++ (Create 8 0 ∷ End ∷ Delay (pos 5) ∷ [])) (says 0 0 2 0 0 4) 0 []
+    ∷ row 0 (nested ++ (Create 8 0 ∷ End ∷ Delay (pos 5) ∷ Delay (pos 5) ∷ Create 5 0 ∷ [])) (says 0 10 5 0 0 1) 0 []
+    -- and the next END to what it was before that, 3
+    ∷ row 0 (nested ++ (Create 8 0 ∷ End ∷ Delay (pos 5) ∷ Delay (pos 5) ∷ Create 5 0 ∷ End ∷ Delay (pos 5) ∷ [])) (says 0 0 3 0 0 5) 0 []
+    -- lowered by END, it goes to the head of the old level, in front of one that became ready before it
+    ∷ row 0 (Create 3 1 ∷ Create 3 0 ∷ Select 1 Plain ∷ Create 9 0 ∷ Call 1 1 Simple ∷ End ∷ Delay (pos 5) ∷ []) (says 0 0 3 0 0 1) 0 []
+    -- not lowered, it keeps its place
+    ∷ row 0 (Create 9 1 ∷ Create 9 0 ∷ Select 1 Plain ∷ Delay (pos 5) ∷ Create 3 0 ∷ Call 1 1 Simple ∷ Create 9 0 ∷ End ∷ []) (says 0 10 1 0 0 1) 0 (item 3 2 1 1 ∷ [])
+    -- the caller's current priority counts, not the one with which it was created
+    ∷ row 0 (Create 3 1 ∷ Select 1 Plain ∷ Create 5 1 ∷ Select 1 Plain ∷ Create 9 0 ∷ Call 2 1 Simple ∷ Call 1 1 Simple ∷ Create 7 0 ∷ []) (says 0 10 4 0 0 1) 0 []
+    -- DELAY 0 inside a rendezvous goes to the tail of the raised level
+    ∷ row 0 (inside ++ (Create 9 0 ∷ Delay (pos 0) ∷ [])) (says 0 1 1 0 0 3) 0 []
+    ∷ row 0 (inside ++ (Create 9 0 ∷ Delay (pos 0) ∷ Delay (pos 0) ∷ [])) (says 0 1 3 0 0 1) 0 []
     ∷ []
 
 -- two tasks that delay, for 2000000000 ticks and for 3

@@ -60,7 +60,7 @@ pub tasks-long : (l : List Task) → length (tasksBytes l) ≡ length l * taskSi
 tasks-long [] = refl
 tasks-long (x ∷ xs) = let ih = tasks-long xs in omega arith
 
--- one turn further: n + 1 turns from k are the one at k and n from k + 10
+-- one turn further: n + 1 turns from k are the one at k and n behind its bytes
 pub are-turn : (n k : ℕ) (b : List ℕ) → areTasks (suc n) (drop k b) ≡ (isTask (drop k b) && areTasks n (drop (k + taskSize) b))
 unfolding areTasks
 are-turn n k b = rw (drop-drop taskSize k b)

@@ -17,13 +17,13 @@ use Rattle.rules.specs.declared.Timer.the-variants.{Off, Due}
 use Rattle.rules.specs.declared.Place.{Place}
 use Rattle.rules.specs.declared.Place.the-variants.{Blank, Ready, Delayed, Queued, Held, Accepting, Completed}
 use Rattle.rules.specs.declared.Supervisor.{Supervisor}
-use Rattle.rules.specs.State.{entryOf}
+use Rattle.rules.specs.State.{entryOf, keptOf}
 use Rattle.codec.specs.Layout.{tasksSize, readyAt, callersAt, heldAt, delaysAt, stateSize, placeTag, placeFirst, timerTag, timerDue, taskBytes, tasksBytes, encode, isPlace, isTimer, placeFrom, timerFrom, isTask, taskFrom, areTasks, tasksFrom, isEncoding, decode, lost, stateIn}
 use Rattle.codec.proofs.CodecLaws.{tasks-long}
 
 -- ── a task ──
 
-place-back : (p : Place) → (placeFrom (placeTag p) (placeFirst p) (entryOf p) ≡ p) × (isPlace (placeTag p) (placeFirst p) (entryOf p) ≡ true)
+place-back : (p : Place) → (placeFrom (placeTag p) (placeFirst p) (entryOf p) (keptOf p) ≡ p) × (isPlace (placeTag p) (placeFirst p) (entryOf p) (keptOf p) ≡ true)
 place-back Blank = (refl, refl)
 place-back Ready = (refl, refl)
 place-back Delayed = (refl, refl)
@@ -44,7 +44,7 @@ task-back : (x : Task) (more : List ℕ) → (taskFrom (taskBytes x ++ more) ≡
 task-back x more =
     let p = place-back (x .place) in
     let w = timer-back (x .timer) in
-    let from : taskFrom (taskBytes x ++ more) ≡ x = λ i. record { priority = x .priority; entries = x .entries; place = p .0 i; timer = w .0 i } in
+    let from : taskFrom (taskBytes x ++ more) ≡ x = λ i. record { priority = x .priority; current = x .current; entries = x .entries; place = p .0 i; timer = w .0 i } in
     (from, and-both (p .1) (w .1))
 
 tasks-back : (l : List Task) (more : List ℕ) → (tasksFrom (length l) (tasksBytes l ++ more) ≡ l) × (areTasks (length l) (tasksBytes l ++ more) ≡ true)

@@ -41,7 +41,7 @@ zero-at b from e j h k =
     ∙ sym (getD-take (readyAt - from) (drop from b) (j - from) 0 (omega arith))
     ∙ blanks-at (tableFrom b from) e (j - from)
 
--- ── ten bytes that are 0 are a blank task ──
+-- ── bytes that are 0 are a blank task ──
 
 blank-task : (l : List ℕ) → ((j : ℕ) → j < taskSize → byte l j ≡ 0) → (isTask l ≡ true) × (taskFrom l ≡ blank)
 blank-task l h =
@@ -55,7 +55,9 @@ blank-task l h =
     let z₇ : byte l 7 ≡ 0 = h 7 (omega arith) in
     let z₈ : byte l 8 ≡ 0 = h 8 (omega arith) in
     let z₉ : byte l 9 ≡ 0 = h 9 (omega arith) in
-    (rw (z₂, z₃, z₄, z₅, z₆, z₇, z₈, z₉), rw (z₀, z₁, z₂, z₅))
+    let z₁₀ : byte l 10 ≡ 0 = h 10 (omega arith) in
+    let z₁₁ : byte l 11 ≡ 0 = h 11 (omega arith) in
+    (rw (z₃, z₄, z₅, z₆, z₇, z₈, z₉, z₁₀, z₁₁), rw (z₀, z₁, z₂, z₃, z₇))
 
 are-none : (b : List ℕ) → areTasks 0 b ≡ true
 unfolding areTasks

@@ -1,4 +1,4 @@
--- A supervisor's 439 bytes: clock 4, created 1, 31 tasks of 10, four lines of 31. Numbers have their high byte first.
+-- A supervisor's 501 bytes: clock 4, created 1, 31 tasks of 12, four lines of 31. Numbers have their high byte first.
 use Prim.Native.Nat.{ℕ, zero, suc, _+_, _*_}
 use mathlib.Core.Bool.{Bool, true, _&&_, _||_}
 use mathlib.Core.List.{List, [], _∷_, _++_}
@@ -7,7 +7,7 @@ use lib.Dec.{eqb, ltb, leb}
 use Rattle.lists.specs.Lists.{if_then_else_}
 use Rattle.calls.specs.Duration.{bytesOf}
 use Rattle.calls.specs.Record.{byte, fourFrom}
-use Rattle.rules.specs.State.{entryOf, empty}
+use Rattle.rules.specs.State.{entryOf, keptOf, empty}
 use Rattle.rules.specs.Whole.{pack}
 use Rattle.rules.specs.declared.Task.{Task}
 use Rattle.rules.specs.declared.Timer.{Timer}
@@ -21,7 +21,7 @@ use Rattle.codec.specs.declared.Fields.{Fields}
 
 -- the bytes of a task, and of all
 abbrev pub taskSize : ℕ
-taskSize = 10
+taskSize = 12
 
 abbrev pub tasksSize : ℕ
 tasksSize = 31 * taskSize
@@ -55,7 +55,7 @@ placeTag (Held m) = 4
 placeTag (Accepting o) = 5
 placeTag Completed = 6
 
--- the byte behind the tag: the called task, the holder or the open set; behind it stands the called entry
+-- the byte behind the tag: the called task, the holder or the open set
 abbrev pub placeFirst : Place → ℕ
 placeFirst Blank = 0
 placeFirst Ready = 0
@@ -75,10 +75,11 @@ abbrev pub timerDue : Timer → ℕ
 timerDue Off = 0
 timerDue (Due d) = d
 
--- the ten bytes of a task: priority, entries, place, time
+-- the bytes of a task: priority, current priority, entries, place, time; those of a place are its tag, the byte behind it, the called entry, and the
+-- current priority that the holder of a held caller had before
 abbrev pub taskBytes : Task → List ℕ
 taskBytes x =
-    x .priority ∷ x .entries ∷ placeTag (x .place) ∷ placeFirst (x .place) ∷ entryOf (x .place) ∷ timerTag (x .timer) ∷ bytesOf (timerDue (x .timer))
+    x .priority ∷ x .current ∷ x .entries ∷ placeTag (x .place) ∷ placeFirst (x .place) ∷ entryOf (x .place) ∷ keptOf (x .place) ∷ timerTag (x .timer) ∷ bytesOf (timerDue (x .timer))
 
 -- the tasks one behind the other
 abbrev pub tasksBytes : List Task → List ℕ
@@ -92,21 +93,21 @@ encode s = (bytesOf (s .core .clock) ++ (s .core .created ∷ [])) ++ tasksBytes
 -- ── the state of bytes ──
 
 -- bytes that are a place: a tag up to 6, and 0 in each byte that its place does not use
-abbrev pub isPlace : ℕ → ℕ → ℕ → Bool
-isPlace tag a b = leb tag 6 && ((leb 3 tag && leb tag 5) || eqb a 0) && ((leb 3 tag && leb tag 4) || eqb b 0)
+abbrev pub isPlace : ℕ → ℕ → ℕ → ℕ → Bool
+isPlace tag a b k = leb tag 6 && ((leb 3 tag && leb tag 5) || eqb a 0) && ((leb 3 tag && leb tag 4) || eqb b 0) && (eqb tag 4 || eqb k 0)
 
 -- bytes that are a time: off with 0, or due at a reading
 abbrev pub isTimer : ℕ → ℕ → Bool
 isTimer tag due = (eqb tag 0 && eqb due 0) || eqb tag 1
 
--- the place of a tag and its two bytes
-abbrev pub placeFrom : ℕ → ℕ → ℕ → Place
-placeFrom tag a b =
+-- the place of a tag and its three bytes
+abbrev pub placeFrom : ℕ → ℕ → ℕ → ℕ → Place
+placeFrom tag a b k =
     if eqb tag 0 then Blank
     else if eqb tag 1 then Ready
     else if eqb tag 2 then Delayed
     else if eqb tag 3 then Queued (record { target = a; entry = b })
-    else if eqb tag 4 then Held (record { holder = a; entry = b })
+    else if eqb tag 4 then Held (record { holder = a; entry = b; kept = k })
     else if eqb tag 5 then Accepting (record { opens = a })
     else Completed
 
@@ -114,45 +115,48 @@ placeFrom tag a b =
 abbrev pub timerFrom : ℕ → ℕ → Timer
 timerFrom tag due = if eqb tag 0 then Off else Due due
 
--- the numbers that stand in the first ten bytes
+-- the numbers that stand in the bytes of a task
 abbrev pub fieldsOf : List ℕ → Fields
 fieldsOf b = record {
   priority = byte b 0;
-  entries = byte b 1;
-  tag = byte b 2;
-  first = byte b 3;
-  second = byte b 4;
-  timed = byte b 5;
-  due = fourFrom b 6;
+  current = byte b 1;
+  entries = byte b 2;
+  tag = byte b 3;
+  first = byte b 4;
+  second = byte b 5;
+  kept = byte b 6;
+  timed = byte b 7;
+  due = fourFrom b 8;
 }
 
 -- the numbers are those of a task
 abbrev pub fieldsGood : Fields → Bool
-fieldsGood f = isPlace (f .tag) (f .first) (f .second) && isTimer (f .timed) (f .due)
+fieldsGood f = isPlace (f .tag) (f .first) (f .second) (f .kept) && isTimer (f .timed) (f .due)
 
 -- the task of the numbers
 abbrev pub fieldsTask : Fields → Task
 fieldsTask f = record {
   priority = f .priority;
+  current = f .current;
   entries = f .entries;
-  place = placeFrom (f .tag) (f .first) (f .second);
+  place = placeFrom (f .tag) (f .first) (f .second) (f .kept);
   timer = timerFrom (f .timed) (f .due);
 }
 
--- the first ten bytes are a task
+-- the bytes are those of a task
 abbrev pub isTask : List ℕ → Bool
 isTask b = fieldsGood (fieldsOf b)
 
--- the task of the first ten bytes
+-- the task of the bytes
 abbrev pub taskFrom : List ℕ → Task
 taskFrom b = fieldsTask (fieldsOf b)
 
--- the first n times ten bytes are tasks
+-- the bytes of n tasks
 unfoldable pub areTasks : ℕ → List ℕ → Bool
 areTasks zero b = true
 areTasks (suc n) b = isTask b && areTasks n (drop taskSize b)
 
--- the tasks of the first n times ten bytes
+-- the n tasks of the bytes
 unfoldable pub tasksFrom : ℕ → List ℕ → List Task
 tasksFrom zero b = []
 tasksFrom (suc n) b = taskFrom b ∷ tasksFrom n (drop taskSize b)

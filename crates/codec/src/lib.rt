@@ -4,7 +4,7 @@ ghost use Prim.Native.Nat.{_+_, _≤_};
 ghost use mathlib.Core.List.{[], _∷_};
 ghost use lib.ListN.{length, take, drop};
 ghost use Rattle.lists.specs.Line.{blanks};
-ghost use Rattle.rules.specs.State.{entryOf};
+ghost use Rattle.rules.specs.State.{entryOf, keptOf};
 ghost use Rattle.codec.specs.Layout.{stateSize, taskSize, placeTag, placeFirst, timerTag, timerDue, taskBytes, tasksBytes, isPlace, isTimer, placeFrom, timerFrom, fieldsOf, fieldsGood, fieldsTask, lost, stateIn, putAt, placedAt, placedLines, stored};
 ghost use Rattle.codec.specs.Used.{tableFrom, usedTasks, bareIn};
 use calls::bytes_of;
@@ -20,30 +20,30 @@ use rules::Waiting;
 use table::tasks::blank_task;
 
 // How many bytes a task takes, where the lines stand, and how many a state takes.
-pub const TASK_SIZE: usize = 10;
+pub const TASK_SIZE: usize = 12;
 
-pub const READY_AT: usize = 315;
+pub const READY_AT: usize = 5 + 31 * TASK_SIZE;
 
-pub const CALLERS_AT: usize = 346;
+pub const CALLERS_AT: usize = READY_AT + 31;
 
-pub const HELD_AT: usize = 377;
+pub const HELD_AT: usize = CALLERS_AT + 31;
 
-pub const DELAYS_AT: usize = 408;
+pub const DELAYS_AT: usize = HELD_AT + 31;
 
-pub const STATE_SIZE: usize = 439;
+pub const STATE_SIZE: usize = DELAYS_AT + 31;
 
-// The three bytes of a place: its tag; the called task, the holder or the open set; the called entry.
-fn place_bytes(p: Place) -> [u8; 3]
-    ensures { λ r. ⌜ r ≡ placeTag p ∷ placeFirst p ∷ entryOf p ∷ [] ⌝ }
+// The four bytes of a place: its tag; the called task, the holder or the open set; the called entry; the priority kept.
+fn place_bytes(p: Place) -> [u8; 4]
+    ensures { λ r. ⌜ r ≡ placeTag p ∷ placeFirst p ∷ entryOf p ∷ keptOf p ∷ [] ⌝ }
 {
     match p {
-        Place::Blank => [0, 0, 0],
-        Place::Ready => [1, 0, 0],
-        Place::Delayed => [2, 0, 0],
-        Place::Queued(q) => [3, q.target, q.entry],
-        Place::Held(m) => [4, m.holder, m.entry],
-        Place::Accepting(o) => [5, o.opens, 0],
-        Place::Completed => [6, 0, 0],
+        Place::Blank => [0, 0, 0, 0],
+        Place::Ready => [1, 0, 0, 0],
+        Place::Delayed => [2, 0, 0, 0],
+        Place::Queued(q) => [3, q.target, q.entry, 0],
+        Place::Held(m) => [4, m.holder, m.entry, m.kept],
+        Place::Accepting(o) => [5, o.opens, 0, 0],
+        Place::Completed => [6, 0, 0, 0],
     }
 }
 
@@ -67,8 +67,8 @@ fn timer_due(w: Timer) -> u32
     }
 }
 
-// The ten bytes of a task.
-fn task_bytes(x: Task) -> [u8; 10]
+// The bytes of a task.
+fn task_bytes(x: Task) -> [u8; 12]
     ensures { λ r. ⌜ r ≡ taskBytes x ⌝ }
 {
     let place = x.place;
@@ -78,10 +78,12 @@ fn task_bytes(x: Task) -> [u8; 10]
     let d = bytes_of(timer_due(w));
     [
         x.priority,
+        x.current,
         x.entries,
         p[0],
         p[1],
         p[2],
+        p[3],
         timed,
         d[0],
         d[1],
@@ -91,10 +93,13 @@ fn task_bytes(x: Task) -> [u8; 10]
 }
 
 // Whether bytes are a place: a tag up to 6, and 0 in each byte that its place does not use.
-fn is_place(tag: u8, a: u8, b: u8) -> bool
-    ensures { λ r. ⌜ r ≡ isPlace tag a b ⌝ }
+fn is_place(tag: u8, a: u8, b: u8, k: u8) -> bool
+    ensures { λ r. ⌜ r ≡ isPlace tag a b k ⌝ }
 {
-    (tag <= 6) & (((3 <= tag) & (tag <= 5)) | (a == 0)) & (((3 <= tag) & (tag <= 4)) | (b == 0))
+    (tag <= 6)
+        & (((3 <= tag) & (tag <= 5)) | (a == 0))
+        & (((3 <= tag) & (tag <= 4)) | (b == 0))
+        & ((tag == 4) | (k == 0))
 }
 
 // Whether bytes are a time: off with 0, or due at a reading.
@@ -104,9 +109,9 @@ fn is_timer(tag: u8, due: u32) -> bool
     ((tag == 0) & (due == 0)) | (tag == 1)
 }
 
-// The place of a tag and its two bytes.
-fn place_from(tag: u8, a: u8, b: u8) -> Place
-    ensures { λ r. ⌜ r ≡ placeFrom tag a b ⌝ }
+// The place of a tag and its three bytes.
+fn place_from(tag: u8, a: u8, b: u8, k: u8) -> Place
+    ensures { λ r. ⌜ r ≡ placeFrom tag a b k ⌝ }
 {
     match tag {
         0 => Place::Blank,
@@ -119,6 +124,7 @@ fn place_from(tag: u8, a: u8, b: u8) -> Place
         4 => Place::Held(Meeting {
             holder: a,
             entry: b,
+            kept: k,
         }),
         5 => Place::Accepting(Offer { opens: a }),
         _ => Place::Completed,
@@ -136,30 +142,34 @@ fn timer_from(tag: u8, due: u32) -> Timer
     }
 }
 
-// The numbers that stand in the ten bytes of a task.
+// The numbers that stand in the bytes of a task.
 struct Fields {
     priority: u8,
+    current: u8,
     entries: u8,
     tag: u8,
     first: u8,
     second: u8,
+    kept: u8,
     timed: u8,
     due: u32,
 }
 
-// The numbers of the first ten bytes.
+// The numbers of the bytes of a task.
 fn fields_of(b: &[u8]) -> Fields
     requires { ⌜ taskSize ≤ length (now b) ⌝ }
     ensures { λ r. ⌜ r ≡ fieldsOf (now (b .entry)) ⌝ }
 {
-    let due = word(b[6], b[7], b[8], b[9]);
+    let due = word(b[8], b[9], b[10], b[11]);
     Fields {
         priority: b[0],
-        entries: b[1],
-        tag: b[2],
-        first: b[3],
-        second: b[4],
-        timed: b[5],
+        current: b[1],
+        entries: b[2],
+        tag: b[3],
+        first: b[4],
+        second: b[5],
+        kept: b[6],
+        timed: b[7],
         due,
     }
 }
@@ -168,17 +178,18 @@ fn fields_of(b: &[u8]) -> Fields
 fn is_task(f: Fields) -> bool
     ensures { λ r. ⌜ r ≡ fieldsGood f ⌝ }
 {
-    is_place(f.tag, f.first, f.second) & is_timer(f.timed, f.due)
+    is_place(f.tag, f.first, f.second, f.kept) & is_timer(f.timed, f.due)
 }
 
 // The task of numbers.
 fn task_from(f: Fields) -> Task
     ensures { λ r. ⌜ r ≡ fieldsTask f ⌝ }
 {
-    let place = place_from(f.tag, f.first, f.second);
+    let place = place_from(f.tag, f.first, f.second, f.kept);
     let timer = timer_from(f.timed, f.due);
     Task {
         priority: f.priority,
+        current: f.current,
         entries: f.entries,
         place,
         timer,

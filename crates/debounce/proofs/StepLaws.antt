@@ -64,7 +64,7 @@ module _ (v : State) (h : Sound v) where
         gives = record {
           state = ap (λ (x : Whole). x .state) q ∙ rw no-31;
           next = ap (λ (x : Whole). x .next) q ∙ rw no-31;
-          sound = add-sound v 1 0 h less (omega arith) (omega arith) (omega arith);
+          sound = add-sound v 1 0 h less (omega arith, omega arith) (omega arith);
           tasks = omega (arith, length-append (v .tasks) (fresh 1 0 ∷ []), m);
         };
         clock = refl;

@@ -6,6 +6,7 @@ use Rattle.lines.proofs.len.Reads as len
 use Rattle.lines.proofs.joined.Reads as joined
 use Rattle.lines.proofs.without.Reads as without
 use Rattle.lines.proofs.rejoined.Reads as rejoined
+use Rattle.lines.proofs.to_head.Reads as to-head
 use Rattle.lines.proofs.joined_all.Reads as joined-all
 use Rattle.lines.proofs.first_of.Reads as first-of
 use Rattle.lines.proofs.last_of.Reads as last-of
@@ -24,6 +25,9 @@ without-once κs x r r′ y y′ p q = p ∙ sym q
 
 pub rejoined-once : Once rejoined.Learnt
 rejoined-once κs x r r′ y y′ p q = p ∙ sym q
+
+pub to-head-once : Once to-head.Learnt
+to-head-once κs x r r′ y y′ p q = p ∙ sym q
 
 pub joined-all-once : Once joined-all.Learnt
 joined-all-once κs x r r′ y y′ p q = p ∙ sym q

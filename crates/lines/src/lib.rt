@@ -2,7 +2,7 @@
 ghost use mathlib.Core.Path.{_≡_};
 ghost use mathlib.Core.List.{[], _∷_, _++_};
 ghost use lib.ListN.{length};
-ghost use Rattle.lists.specs.Lists.{remove, rejoin, first, last};
+ghost use Rattle.lists.specs.Lists.{remove, rejoin, toHead, first, last};
 ghost use Rattle.lists.specs.Line.{line, pad};
 ghost use Rattle.lists.specs.Marks.{noMarks, markOf, marked, withMark, insertBy};
 
@@ -65,6 +65,31 @@ pub fn rejoined(a: [u8; 31], t: u8, joins: bool) -> [u8; 31]
         }
     }
     rest
+}
+
+// The line with t in front of it. Of a full line the last falls off.
+fn in_front(a: [u8; 31], t: u8) -> [u8; 31]
+    ensures { λ r. ⌜ r ≡ pad (t ∷ line a) ⌝ }
+{
+    let mut r = [0u8; 31];
+    let mut carry = t;
+    for i in 0..31 {
+        let x = a[i];
+        r[i] = carry;
+        if x == 0 {
+            return r;
+        }
+        carry = x;
+    }
+    r
+}
+
+// The line with t at its head: those that stood before it come behind it.
+pub fn to_head(a: [u8; 31], t: u8) -> [u8; 31]
+    ensures { λ r. ⌜ r ≡ pad (toHead t (line a)) ⌝ }
+{
+    let rest = without(a, t);
+    in_front(rest, t)
 }
 
 // The line laid out afresh: what stood behind a blank is gone.

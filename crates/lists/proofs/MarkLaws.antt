@@ -2,7 +2,7 @@
 -- Assumes nothing.
 use Prim.Native.Nat.{ℕ, _+_, _≤_, _<_}
 use mathlib.Core.Path.{_≡_, refl, sym, _∙_, ap}
-use mathlib.Core.Bool.{Bool, true, not, _&&_}
+use mathlib.Core.Bool.{Bool, true, false, not, _&&_}
 use mathlib.Core.List.{List, [], _∷_, _++_, append-assoc}
 use native.Mathlib.Omega.{arith}
 use lib.Dec.{eqb, ltb}
@@ -35,6 +35,32 @@ insert-same f g t (x ∷ xs) h =
 pub filter-all : (f : ℕ → Bool) (l : List ℕ) → ((x : ℕ) → f x ≡ true) → filter f l ≡ l
 filter-all f [] h = refl
 filter-all f (x ∷ xs) h = rw (h x, filter-all f xs h)
+
+-- none passes
+pub filter-none : (f : ℕ → Bool) (l : List ℕ) → ((x : ℕ) → 0 < count x l → f x ≡ false) → filter f l ≡ []
+filter-none f [] h = refl
+filter-none f (x ∷ xs) h = rw (h x (rw (eq-eqb x x refl) (omega arith))) (filter-none f xs (λ y k. h y (omega arith)))
+
+-- t alone passes, and stands there once
+pub filter-one : (t : ℕ) (l : List ℕ) → count t l ≡ 1 → filter (λ x. eqb x t) l ≡ t ∷ []
+filter-one t [] h = absurd (omega arith)
+filter-one t (x ∷ xs) h =
+    by-eq x t
+    (λ e. rw (eq-eqb x t e, filter-none (λ y. eqb y t) xs (λ y k. ne-eqb y t (λ z. omega (arith, rw (eq-eqb x t e) at h, rw z at k))), e))
+    (λ n. rw (ne-eqb x t n) (filter-one t xs (omega (arith, rw (ne-eqb x t n) at h))))
+
+-- one that fails the test may be removed before
+pub filter-remove : (f : ℕ → Bool) (t : ℕ) (l : List ℕ) → f t ≡ false → filter f (remove t l) ≡ filter f l
+filter-remove f t [] h = refl
+filter-remove f t (x ∷ xs) h =
+    let ih = filter-remove f t xs h in
+    by-eq x t (λ z. let e : f x ≡ false = ap f z ∙ h in rw (eq-eqb x t z, e) ih) (λ n. rw (ne-eqb x t n, ih))
+
+-- one that is not there may be removed
+pub remove-absent : (t : ℕ) (l : List ℕ) → count t l ≡ 0 → remove t l ≡ l
+remove-absent t [] h = refl
+remove-absent t (x ∷ xs) h =
+    by-eq x t (λ e. absurd (omega (arith, rw (eq-eqb x t e) at h))) (λ n. rw (ne-eqb x t n) (ap (λ (l : List ℕ). x ∷ l) (remove-absent t xs (omega arith))))
 
 -- one filter behind another
 pub filter-filter : (f g : ℕ → Bool) (l : List ℕ) → filter f (filter g l) ≡ filter (λ x. g x && f x) l

@@ -30,6 +30,10 @@ abbrev pub rejoin : Bool → ℕ → List ℕ → List ℕ
 rejoin true t l = remove t l ++ (t ∷ [])
 rejoin false t l = remove t l
 
+-- the list with t at its head
+abbrev pub toHead : ℕ → List ℕ → List ℕ
+toHead t l = t ∷ remove t l
+
 -- t before the first that passes the test, or at the end
 abbrev pub insert : (ℕ → Bool) → ℕ → List ℕ → List ℕ
 insert f t [] = t ∷ []

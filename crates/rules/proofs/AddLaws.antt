@@ -11,6 +11,7 @@ use lib.Dec.{leb}
 use borrow.Author.Tests.{eq-eqb, ne-eqb, leb-true, leb-false}
 use Rattle.lists.specs.Lists.{bit, count}
 use Rattle.rules.specs.State.{State, blank, nth, placeOf, timerOf, isReady, isQueued, isHeld, partnerOf, hasTime, ticksLeft, fresh, add}
+use Rattle.rules.specs.SoundFacts.{Priority}
 use Rattle.rules.specs.declared.Task.{Task}
 use Rattle.rules.specs.declared.Place.{Place}
 use Rattle.rules.specs.declared.Place.the-variants.{Blank, Ready, Delayed, Queued, Held, Accepting, Completed}
@@ -73,15 +74,15 @@ partner-there now ts u g = go (nth ts u .place) (g .place)
     go (Accepting o) f = omega arith
     go Completed f = omega arith
 
-pub add-sound : (s : State) (p n : ℕ) → Sound s → length (s .tasks) < 31 → 0 < p → p ≤ 15 → n ≤ 8 → Sound (add s p n)
-add-sound s p n h f a b c = record {
+pub add-sound : (s : State) (p n : ℕ) → Sound s → length (s .tasks) < 31 → Priority p → n ≤ 8 → Sound (add s p n)
+add-sound s p n h f a b = record {
   clock = h .clock;
   few = omega (arith, f, length-append (s .tasks) (x ∷ []));
   good = λ u i j. by-bool (leb u (length (s .tasks)))
       (λ e. let k = leb-true u (length (s .tasks)) e in let g = h .good u i k in
       rw (nth-old (s .tasks) x u k, nth-old (s .tasks) x (partnerOf (placeOf s u)) (partner-there (s .clock) (s .tasks) u g)) g)
       (λ e. let k : u ≡ suc (length (s .tasks)) = omega (arith, leb-false u (length (s .tasks)) e, j, length-append (s .tasks) (x ∷ [])) in
-      rw (k, nth-new (s .tasks) x) (record { numbers = record { low = a; high = b; few = c }; place = refl; time = tt }));
+      rw (k, nth-new (s .tasks) x) (record { numbers = record { own = a; current = a; few = b }; place = refl; time = tt }));
   ready = add-in (s .tasks) x (λ y. isReady (y .place)) (s .ready) (h .ready) refl refl;
   callers = add-out (s .tasks) x (λ y. isQueued (y .place)) (s .callers) (h .callers) refl refl;
   held = add-out (s .tasks) x (λ y. isHeld (y .place)) (s .held) (h .held) refl refl;

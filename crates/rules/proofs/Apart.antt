@@ -14,7 +14,7 @@ use Prim.Native.Nat.{_^_}
 use Rattle.lists.specs.Lists.{if_then_else_, bit, filter, remove, count, first, last}
 use Rattle.lists.proofs.Tests.{bit-le}
 use Rattle.lists.proofs.ListLaws.{clash, by-bool, by-test, by-eq, count-append, count-filter-yes, count-filter-no, count-filter-le}
-use Rattle.lists.proofs.MarkLaws.{filter-same, filter-all, filter-filter, out, out-cons}
+use Rattle.lists.proofs.MarkLaws.{filter-same, filter-all, filter-filter, remove-absent, out, out-cons}
 use Rattle.rules.specs.State.{State, nth, placeOf, taskOf, created, isTask, isReady, isQueued, isCompleted, accepts, partnerOf, entryOf, opens, waitsOn, queue, heldBy, running, move, wake, wakeAll, meet, setClock, after, waiting, meeting, offer}
 use Rattle.rules.specs.Sound.{sound, inRange}
 use Rattle.rules.specs.Step.{Outcome, refused, took, create, delayFor, enqueue, timedCall, callBusy, call, openFrom, openEntry, selectDelay, selectNone, selectAt, select, endLast, end, queuedFrom, queuedOn, finish, failed, dueAt, endsAt, tick, tickTo, advanced, advanceEnds, readings, ofRunning, takeCall, ticks, item, DONE, expired}
@@ -226,9 +226,6 @@ same-wait s v c a l u f p q = go f
 all-in : (l : List ℕ) → filter (out []) l ≡ l
 all-in l = filter-all (out []) l (λ x. refl)
 
-absent : (t : ℕ) (l : List ℕ) → count t l ≡ 0 → remove t l ≡ l
-absent t l z = filter-same (λ x. not (eqb x t)) (out []) l (λ x k. ap not (ne-eqb x t (λ e. omega (arith, k, z, ap (λ (y : ℕ). count y l) e)))) ∙ all-in l
-
 out-append : (a b l : List ℕ) → filter (out (a ++ b)) l ≡ filter (out b) (filter (out a) l)
 out-append [] b l = ap (filter (out b)) (sym (all-in l))
 out-append (t ∷ a) b l = sym (out-cons t (a ++ b) l) ∙ out-append a b (remove t l) ∙ ap (filter (out b)) (out-cons t a l)
@@ -267,11 +264,11 @@ module _ (s : State) (t : ℕ) (z : count t (s .callers) ≡ 0) where
   stay = sym (append-nil (filter (out []) l) ∙ all-in l)
 
   stay-but : remove t l ≡ filter (out []) l ++ []
-  stay-but = absent t l z ∙ stay
+  stay-but = remove-absent t l z ∙ stay
 
   -- t comes
   come : remove t l ++ (t ∷ []) ≡ filter (out []) l ++ (t ∷ [])
-  come = ap (λ (k : List ℕ). k ++ (t ∷ [])) (absent t l z ∙ sym (all-in l))
+  come = ap (λ (k : List ℕ). k ++ (t ∷ [])) (remove-absent t l z ∙ sym (all-in l))
 
   -- c leaves
   leaves-one : (c : ℕ) → remove c l ≡ filter (out (c ∷ [])) l ++ []
@@ -297,7 +294,7 @@ module _ (s : State) (t : ℕ) (z : count t (s .callers) ≡ 0) where
         by-test (Told (Call g e m) l) (not (ltb 0 e && leb e (taskOf s g .entries))) (λ _. tt) λ _.
         by-test (Told (Call g e m) l) (isCompleted (placeOf s g)) (λ _. stay) λ _.
         by-test (Told (Call g e m) l) (accepts (placeOf s g) e)
-        (λ _. absent t (remove g l) (omega (arith, z, count-filter-le (λ x. not (eqb x g)) t l)) ∙ leaves-one g)
+        (λ _. remove-absent t (remove g l) (omega (arith, z, count-filter-le (λ x. not (eqb x g)) t l)) ∙ leaves-one g)
         (λ _. told-busy m)
 
   module _ (o : ℕ) (m : SelectMode) where
@@ -325,7 +322,7 @@ module _ (s : State) (t : ℕ) (z : count t (s .callers) ≡ 0) where
   told-finish =
       let q = queuedOn s t in
       by-test (Told Finish l) (ltb 0 (length (heldBy s t))) (λ _. tt)
-      (λ _. absent t (wakeAll s q .callers) (omega (arith, z, ap (count t) (wakes-out q s), count-filter-le (out q) t l)) ∙ wakes-out q s
+      (λ _. remove-absent t (wakeAll s q .callers) (omega (arith, z, ap (count t) (wakes-out q s), count-filter-le (out q) t l)) ∙ wakes-out q s
       ∙ ap (λ (g : List ℕ). filter (out g) l) (sym (tasks-of (failed s) (λ x. refl) q)) ∙ sym (append-nil (filter (out (map (λ (i : Item). i .task) (map (failed s) q))) l)))
 
 told-runner : (c : C.Call) (l : List ℕ) (f : ℕ → Outcome) (t : ℕ) → Told c l (f t) → Told c l (ofRunning t f)

@@ -8,7 +8,7 @@ use native.Mathlib.Omega.{arith}
 use lib.ListN.{length, length-map}
 use lib.Dec.{ltb, leb}
 use borrow.Author.Tests.{eqb-false, eq-eqb, ne-eqb, lt-ltb, le-leb, lt-leb, leb-true, leb-false}
-use Rattle.lists.specs.Lists.{bit, filter, remove, count}
+use Rattle.lists.specs.Lists.{bit, filter, count}
 use Rattle.rules.specs.State.{State, taskOf, timerOf, entryOf, partnerOf, ticksLeft, left, after, wake, wakeAll, setClock}
 use Rattle.rules.specs.Step.{item, isDue, expired, expiry, dueAt, tickTo, endsAt}
 use Rattle.rules.specs.Advance.{comesIn, dueWithin, changes, dueMoments, AtOnce}
@@ -17,7 +17,7 @@ use Rattle.rules.specs.declared.Task.{Task}
 use Rattle.rules.specs.declared.Timer.{Timer}
 use Rattle.rules.specs.declared.Timer.the-variants.{Off, Due}
 use Rattle.lists.proofs.ListLaws.{by-eq, by-bool, clash, not-in, count-filter-yes, count-filter-no, Ordered}
-use Rattle.lists.proofs.MarkLaws.{filter-same}
+use Rattle.lists.proofs.MarkLaws.{filter-same, filter-none, filter-remove}
 use Rattle.lists.proofs.Tests.{between}
 use Rattle.rules.proofs.Invariant.{Sound}
 use Rattle.rules.proofs.Members.{in-filter, timed-there}
@@ -29,16 +29,6 @@ use Rattle.rules.proofs.Passes.{left-later, in-time}
 -- x stands in a list that begins with it
 here : (x : ℕ) (xs : List ℕ) → 0 < count x (x ∷ xs)
 here x xs = rw (eq-eqb x x refl) (omega arith)
-
-filter-none : (f : ℕ → Bool) (l : List ℕ) → ((x : ℕ) → 0 < count x l → f x ≡ false) → filter f l ≡ []
-filter-none f [] h = refl
-filter-none f (x ∷ xs) h = rw (h x (here x xs)) (filter-none f xs (λ y k. h y (omega arith)))
-
-filter-remove : (f : ℕ → Bool) (t : ℕ) (l : List ℕ) → f t ≡ false → filter f (remove t l) ≡ filter f l
-filter-remove f t [] h = refl
-filter-remove f t (x ∷ xs) h =
-    let ih = filter-remove f t xs h in
-    by-eq x t (λ z. let e : f x ≡ false = ap f z ∙ h in rw (eq-eqb x t z, e) ih) (λ n. rw (ne-eqb x t n, ih))
 
 map-same : (f g : ℕ → Item) (l : List ℕ) → ((x : ℕ) → 0 < count x l → f x ≡ g x) → map f l ≡ map g l
 map-same f g [] h = refl

@@ -10,12 +10,12 @@ use lib.ListN.{length}
 use lib.Dec.{ltb}
 use borrow.Author.Tests.{eqb-true, eq-eqb, le-ltb}
 use Rattle.lists.specs.Lists.{count, downFrom}
-use Rattle.rules.specs.State.{State, placeOf, priorityOf, created, isReady, level, atLevel, headUpTo, running, queue, waitsOn}
+use Rattle.rules.specs.State.{State, placeOf, created, isReady, level, atLevel, headUpTo, running, queue, waitsOn, currentOf}
 use Rattle.rules.specs.Step.{Outcome, refused, took, none, roomAfter, SHORT-ROOM, BAD-STATE, Refusal, takeCall}
 use Rattle.rules.specs.Whole.{Typed, Whole, view, soundWhole, decline, done, stepWhole}
 use Rattle.rules.specs.Questions.{countWhole}
 use Rattle.rules.specs.EachStep.{Dispatched, waitingOn}
-use Rattle.rules.specs.SoundFacts.{HasEntry}
+use Rattle.rules.specs.SoundFacts.{HasEntry, Priority}
 use Rattle.rules.specs.declared.Supervisor.{Supervisor}
 use Rattle.rules.specs.declared.Place.the-variants.{Ready}
 use Rattle.calls.specs.declared.Call as C
@@ -69,27 +69,26 @@ refused-next s c room =
 -- ── the dispatched task ──
 
 -- whoever stands in the ready line was created, and has a priority in range
-ready-there : (s : State) (u : ℕ) → Sound s → 0 < count u (s .ready) → (0 < u) × (0 < priorityOf s u) × (priorityOf s u ≤ 15)
+ready-there : (s : State) (u : ℕ) → Sound s → 0 < count u (s .ready) → (0 < u) × Priority (currentOf s u)
 ready-there s u h k =
     let p : placeOf s u ≡ Ready = ready-is (placeOf s u) (bit-true (isReady (placeOf s u)) (omega (arith, k, h .ready u))) in
     let i = there (s .tasks) u (not-blank (placeOf s u) p) in
-    let g = h .good u (i .0) (i .1) .numbers in
-    (i .0, g .low, g .high)
+    (i .0, h .good u (i .0) (i .1) .numbers .current)
 
 pub dispatched : (s : State) → Sound s → Dispatched s (running s)
 unfolding running
 dispatched s h = up-to 15 above
   where
-    in-level : (u p : ℕ) → 0 < count u (level s p) → (priorityOf s u ≡ p) × (0 < count u (s .ready))
-    in-level u p k = let i = in-filter (atLevel s p) u (s .ready) k in (eqb-true (priorityOf s u) p (i .0), i .1)
+    in-level : (u p : ℕ) → 0 < count u (level s p) → (currentOf s u ≡ p) × (0 < count u (s .ready))
+    in-level u p k = let i = in-filter (atLevel s p) u (s .ready) k in (eqb-true (currentOf s u) p (i .0), i .1)
 
     above : (p : ℕ) → 15 < p → level s p ≡ []
-    above p k = nobody (level s p) (λ u j. let i = in-level u p j in omega (arith, k, i .0, ready-there s u h (i .1) .2))
+    above p k = nobody (level s p) (λ u j. let i = in-level u p j in omega (arith, k, i .0, ready-there s u h (i .1) .1 .1))
 
     -- nobody is ready where every level is empty
     none : ((p : ℕ) → 0 < p → level s p ≡ []) → s .ready ≡ []
-    none e = nobody (s .ready) (λ u k. let p = priorityOf s u in
-        omega (arith, k, count-filter-yes (atLevel s p) u (s .ready) (eq-eqb p p refl), ap (count u) (e p (ready-there s u h k .1))))
+    none e = nobody (s .ready) (λ u k. let p = currentOf s u in
+        omega (arith, k, count-filter-yes (atLevel s p) u (s .ready) (eq-eqb p p refl), ap (count u) (e p (ready-there s u h k .1 .0))))
 
     up-to : (p : ℕ) → ((q : ℕ) → p < q → level s q ≡ []) → Dispatched s (headUpTo s p)
     up-to zero e = inl (refl, none e)

@@ -10,7 +10,7 @@ use lib.ListN.{length}
 use lib.Dec.{eqb, ltb, leb}
 use borrow.Author.Tests.{eq-eqb, ne-eqb, leb-true, leb-false, not-false}
 use Rattle.lists.specs.Lists.{count, first, last}
-use Rattle.rules.specs.State.{State, nth, taskOf, placeOf, timerOf, created, isTask, hasEntry, isQueued, isCompleted, entryOf, accepts, left, after, fresh, move, wake, meet, meeting, wakeAll, queue, heldBy, running, waiting, offer, waitsOn}
+use Rattle.rules.specs.State.{State, nth, taskOf, placeOf, timerOf, created, isTask, hasEntry, isQueued, isCompleted, entryOf, accepts, left, after, fresh, move, wake, meet, meeting, wakeAll, queue, heldBy, running, waiting, offer, waitsOn, currentOf}
 use Rattle.rules.specs.Sound.{inRange}
 use Rattle.rules.specs.Step.{Outcome, refused, took, item, create, delayFor, enqueue, timedCall, callBusy, call, openEntry, selectDelay, selectNone, selectAt, select, endLast, end, queuedFrom, queuedOn, finish, takeCall, ticks}
 use Rattle.rules.specs.declared.Item.{Item}
@@ -33,7 +33,7 @@ use Rattle.lists.proofs.Tests.{no, between, bit-le}
 use Rattle.lists.proofs.ListLaws.{by-eq, by-bool, by-test, by-member, not-in, count-append, count-filter-le}
 use Rattle.rules.proofs.Invariant.{Sound}
 use Rattle.rules.proofs.Members.{of-queue, queued-there, of-held, held-there, last-in, nth-beyond, Runs}
-use Rattle.rules.proofs.MoveLaws.{Alike, alike, alike-trans, place-same, place-other, part-same, task-same, task-other, length-move}
+use Rattle.rules.proofs.MoveLaws.{Alike, alike, alike-trans, place-same, place-other, meet-same, meet-other, part-same, part-other, task-same, task-other, length-move}
 use Rattle.rules.specs.Step.{failed, expiry, WAITS, SERVED, TASKING-ERROR, ACCEPTED, DONE}
 use Rattle.rules.specs.Runs.{isWaiting, reasons, duration, ticksOf}
 use Rattle.rules.specs.Step.{tickTo, endsAt, advanced, advanceEnds, readings}
@@ -132,12 +132,13 @@ call-fate s u t g e m r =
     met : 0 < g → g ≤ length (s .tasks) → (o : Offer) × (placeOf s g ≡ Accepting o) → Fate s (Call g e m) u (meet (wake s g) g t e) (item t WAITS 0 0) (item g ACCEPTED e t ∷ [])
     met i j q =
         let fit : t ≤ length (wake s g .tasks) = omega (arith, r .high, length-move s g Ready Off) in
+        let fits : g ≤ length (wake s g .tasks) = omega (arith, j, length-move s g Ready Off) in
         let apart : g ≡ t → ⊥ = λ z. let v = r .place in let w = q .1 in no (cc) in
         by-eq u t
-        (λ z. rw z (began-held (rw (r .place)) (meeting g e) (place-same (wake s g) t (Held (meeting g e)) Off (r .low) fit) (rw (ne-eqb g t apart)) (eq-eqb t t refl)))
+        (λ z. rw z (began-held (rw (r .place)) (meeting g e (currentOf (wake s g) g)) (meet-same (wake s g) g t i fits (r .low) fit e) (rw (ne-eqb g t apart)) (eq-eqb t t refl)))
         (λ n. by-eq u g
-        (λ z. rw z (accepted refl (q .0) (q .1) (alike (task-other (wake s g) t (Held (meeting g e)) Off g apart) .place ∙ place-same s g Ready Off i j) (rw (eq-eqb g g refl)) (ne-eqb t g (λ y. apart (sym y)))))
-        (λ k. untouched (alike-trans (alike (task-other s g Ready Off u k)) (alike (task-other (wake s g) t (Held (meeting g e)) Off u n))) (rw (ne-eqb g u (λ z. k (sym z)))) (ne-eqb t u (λ z. n (sym z)))))
+        (λ z. rw z (accepted refl (q .0) (q .1) (meet-other (wake s g) g t i fits (r .low) fit e g apart .place ∙ place-same s g Ready Off i j) (rw (eq-eqb g g refl)) (ne-eqb t g (λ y. apart (sym y)))))
+        (λ k. untouched (alike-trans (alike (task-other s g Ready Off u k)) (meet-other (wake s g) g t i fits (r .low) fit e u n)) (rw (ne-eqb g u (λ z. k (sym z)))) (ne-eqb t u (λ z. n (sym z)))))
 
 -- ── SELECT ──
 
@@ -160,8 +161,8 @@ select-fate s u t o m r = by-test (FateOf s (Select o m) u) (leb (2 ^ (taskOf s 
         let q = caller-taken s t o e z in
         let i = queued-there s c (q .0) (q .1) in
         by-eq u c
-        (λ y. taken refl (q .0) (meeting t (suc e)) (ap (placeOf s) y ∙ q .1) (ap (placeOf (meet s t c (suc e))) y ∙ place-same s c (Held (meeting t (suc e))) Off (i .0) (i .1)) refl refl)
-        (λ n. untouched (alike (task-other s c (Held (meeting t (suc e))) Off u n)) refl refl)
+        (λ y. taken refl (q .0) (meeting t (suc e) (currentOf s t)) (ap (placeOf s) y ∙ q .1) (ap (placeOf (meet s t c (suc e))) y ∙ meet-same s t c (r .low) (r .high) (i .0) (i .1) (suc e)) refl refl)
+        (λ n. untouched (meet-other s t c (r .low) (r .high) (i .0) (i .1) (suc e) u n) refl refl)
 
 -- ── END ──
 
@@ -175,8 +176,8 @@ end-fate s u t run r = go (last (heldBy s t)) refl
         let i = held-there s (suc c) (q .0) (q .1) in
         let m = q .0 in let y : t ≡ m .holder = sym (q .2) in
         by-eq u (suc c)
-        (λ z. rw z (served refl m (q .1) (run ∙ y) (rw y at e) (part-same s (suc c) (i .0) (i .1)) (ap (λ (p : Place). item (suc c) SERVED (entryOf p) t ∷ []) (q .1) ∙ ap (λ (x : ℕ). item (suc c) SERVED (m .entry) x ∷ []) y) refl))
-        (λ n. untouched (alike (task-other s (suc c) Ready Off u n)) (rw (ne-eqb (suc c) u (λ z. n (sym z)))) refl)
+        (λ z. rw z (served refl m (q .1) (run ∙ y) (rw y at e) (part-same s t (suc c) (r .low) (r .high) (i .0) (i .1)) (ap (λ (p : Place). item (suc c) SERVED (entryOf p) t ∷ []) (q .1) ∙ ap (λ (x : ℕ). item (suc c) SERVED (m .entry) x ∷ []) y) refl))
+        (λ n. untouched (part-other s t (suc c) (r .low) (r .high) (i .0) (i .1) u n) (rw (ne-eqb (suc c) u (λ z. n (sym z)))) refl)
 
 -- ── FINISH ──
 

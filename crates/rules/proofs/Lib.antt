@@ -16,6 +16,11 @@ pub mod EveryStruct
 pub mod SoundSaid
 pub mod Bounds
 pub mod Dispatch
+pub mod LevelLaws
+pub mod LevelsSelect
+pub mod LevelsCall
+pub mod LevelsEnd
+pub mod Levels
 pub mod WholeRuns
 pub mod Uses
 pub mod AtOnce

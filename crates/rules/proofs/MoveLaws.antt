@@ -8,9 +8,10 @@ use native.Mathlib.Omega.{arith}
 use lib.ListN.{length, length-set}
 use lib.Seq.{getD-set-same, getD-set-other}
 use lib.Dec.{eqb, ltb}
-use borrow.Author.Tests.{eq-eqb, ne-eqb}
-use Rattle.lists.specs.Lists.{bit, count, remove, rejoin}
-use Rattle.rules.specs.State.{State, blank, nth, setNth, taskOf, placeOf, isReady, isQueued, isHeld, isCompleted, partnerOf, accepts, hasTime, ticksLeft, left, retime, placed, move, part, wake, opens}
+use borrow.Author.Tests.{eq-eqb, ne-eqb, le-ltb, ltb-true}
+use Rattle.lists.specs.Lists.{bit, count, remove, rejoin, toHead}
+use Rattle.rules.specs.State.{State, blank, nth, setNth, taskOf, placeOf, timerOf, currentOf, isReady, isQueued, isHeld, isCompleted, partnerOf, keptOf, accepts, hasTime, ticksLeft, left, retime, placed, ranked, rank, higher, move, meeting, meet, part, wake, opens}
+use Rattle.rules.specs.SoundFacts.{Priority}
 use Rattle.rules.specs.declared.Task.{Task}
 use Rattle.rules.specs.declared.Timer.{Timer}
 use Rattle.rules.specs.declared.Timer.the-variants.{Off, Due}
@@ -19,7 +20,7 @@ use Rattle.rules.specs.declared.Meeting.{Meeting}
 use Rattle.rules.specs.declared.Offer.{Offer}
 use Rattle.rules.specs.declared.Place.{Place}
 use Rattle.rules.specs.declared.Place.the-variants.{Blank, Ready, Delayed, Queued, Held, Accepting, Completed}
-use Rattle.lists.proofs.ListLaws.{by-eq, count-append, count-remove-same, count-remove-other, count-insert, Ordered, ordered-filter, ordered-cong, ordered-insert}
+use Rattle.lists.proofs.ListLaws.{clash, by-eq, by-test, count-append, count-remove-same, count-remove-other, count-insert, Ordered, ordered-filter, ordered-cong, ordered-insert}
 use Rattle.rules.proofs.Invariant.{Lined, Timed, Calls, Fits, InTime, InRange, GoodAt, Sound}
 
 -- ── the tasks after one is set ──
@@ -138,7 +139,7 @@ module _ (s : State) (t : ℕ) (p : Place) (w : Timer) where
   length-move = length-setNth (s .tasks) t (moved s t p w)
 
 numbers-placed : {x : Task} {p : Place} {w : Timer} → InRange x → InRange (placed x p w)
-numbers-placed n = record { low = n .low; high = n .high; few = n .few }
+numbers-placed n = record { own = n .own; current = n .current; few = n .few }
 
 module _ (s : State) (t : ℕ) (p : Place) (w : Timer) (pos : 0 < t) (fit : t ≤ length (s .tasks)) where
   pub move-sound : Sound s → Fits (moved s t p w) (taskOf (move s t p w) (partnerOf p)) p w → InTime (s .clock) w
@@ -167,7 +168,7 @@ welcome-by ts t x pos fit a b u n g h = go (nth ts u .place) refl g h
     go Ready e g f = f
     go Delayed e g f = f
     go (Queued q) e g f = a u q e g (f .0)
-    go (Held m) e g f = (b u m e g (f .0), f .1)
+    go (Held m) e g f = (b u m e g (f .0), f .1, f .2)
     go (Accepting o) e g f = f
     go Completed e g f = f
 
@@ -180,6 +181,83 @@ pub welcome-plain : (ts : List Task) (t : ℕ) (x : Task) (pos : 0 < t) (fit : t
     → isCompleted (x .place) ≡ false → ((e : ℕ) → accepts (x .place) e ≡ false) → Welcome ts t x pos fit
 welcome-plain ts t x pos fit en nc na =
     welcome-by ts t x pos fit (λ u q e g c. (calls-kept en nc (q .entry) c, na (q .entry))) (λ u m e g c. calls-kept en nc (m .entry) c)
+
+-- ── another current priority ──
+
+count-toHead : (t u : ℕ) (l : List ℕ) → count t l ≡ 1 → count u (toHead t l) ≡ count u l
+count-toHead t u l h =
+    by-eq u t
+    (λ e. rw (e, eq-eqb t t refl, count-remove-same t l) (omega (arith, h)))
+    (λ n. rw (ne-eqb t u (λ e. n (sym e)), count-remove-other t u l n) (omega arith))
+
+-- the higher of two is not lower than the first
+pub higher-not-lower : (a b : ℕ) → ltb (higher a b) a ≡ false
+higher-not-lower a b = by-test (λ (x : ℕ). ltb x a ≡ false) (ltb a b) (λ e. le-ltb b a (omega (arith, ltb-true a b e))) (λ _. le-ltb a a (omega arith))
+
+-- what a place asks depends on the entries of the one, and on the entries and the place of the other
+fits-same : (me me′ g g′ : Task) (p : Place) (w : Timer) → me .entries ≡ me′ .entries → g .entries ≡ g′ .entries → g .place ≡ g′ .place → Fits me g p w → Fits me′ g′ p w
+fits-same me me′ g g′ p w a b c f = go p f
+  where
+    kept : (e : ℕ) → Calls g e → Calls g′ e
+    kept e k = record { low = k .low; high = omega (arith, k .high, b); alive = rw (← c) (k .alive) }
+
+    go : (p : Place) → Fits me g p w → Fits me′ g′ p w
+    go Blank f = f
+    go Ready f = f
+    go Delayed f = f
+    go (Queued q) f = (kept (q .entry) (f .0), rw (← c) (f .1))
+    go (Held m) f = (kept (m .entry) (f .0), f .1, f .2)
+    go (Accepting o) f = (rw (← a) (f .0), f .1)
+    go Completed f = f
+
+module _ (s : State) (t n : ℕ) (pos : 0 < t) (fit : t ≤ length (s .tasks)) where
+  -- all but the current priority is as it was
+  rank-keeps {ℓ} : {A : Type ℓ} (f : Task → A) → f (ranked (taskOf s t) n) ≡ f (taskOf s t) → (u : ℕ) → f (taskOf (rank s t n) u) ≡ f (taskOf s u)
+  rank-keeps f e u =
+      by-eq u t
+      (λ q. rw q (ap f (nth-set-same (s .tasks) t (ranked (taskOf s t) n) pos fit) ∙ e))
+      (λ m. ap f (nth-set-other (s .tasks) t (ranked (taskOf s t) n) u m))
+
+  pub rank-place : (u : ℕ) → placeOf (rank s t n) u ≡ placeOf s u
+  rank-place u = rank-keeps (λ x. x .place) refl u
+
+  pub rank-timer : (u : ℕ) → timerOf (rank s t n) u ≡ timerOf s u
+  rank-timer u = rank-keeps (λ x. x .timer) refl u
+
+  pub rank-entries : (u : ℕ) → taskOf (rank s t n) u .entries ≡ taskOf s u .entries
+  rank-entries u = rank-keeps (λ x. x .entries) refl u
+
+  pub rank-alike : (u : ℕ) → Alike (taskOf s u) (taskOf (rank s t n) u)
+  rank-alike u = record { place = rank-place u; timer = rank-timer u }
+
+  pub rank-length : length (rank s t n .tasks) ≡ length (s .tasks)
+  rank-length = length-setNth (s .tasks) t (ranked (taskOf s t) n)
+
+  -- one that is lowered is ready
+  pub rank-sound : Priority n → (ltb n (currentOf s t) ≡ true → isReady (placeOf s t) ≡ true) → Sound s → Sound (rank s t n)
+  rank-sound i f h = record {
+    clock = h .clock;
+    few = omega (arith, h .few, rank-length);
+    good = λ u a b. let g = h .good u a (omega (arith, b, rank-length)) in record {
+      numbers = record {
+        own = rw (rank-keeps (λ x. x .priority) refl u) (g .numbers .own);
+        current = by-eq u t (λ q. rw (q, nth-set-same (s .tasks) t (ranked (taskOf s t) n) pos fit) i) (λ m. rw (nth-set-other (s .tasks) t (ranked (taskOf s t) n) u m) (g .numbers .current));
+        few = rw (rank-entries u) (g .numbers .few);
+      };
+      place = rw (rank-place u, rank-timer u) (fits-same (taskOf s u) (taskOf (rank s t n) u) (taskOf s (partnerOf (placeOf s u))) (taskOf (rank s t n) (partnerOf (placeOf s u))) (placeOf s u) (timerOf s u)
+          (sym (rank-entries u)) (sym (rank-entries (partnerOf (placeOf s u)))) (sym (rank-place (partnerOf (placeOf s u)))) (g .place));
+      time = rw (rank-timer u) (g .time);
+    };
+    ready = λ u. by-test (λ l. count u l ≡ bit (isReady (placeOf (rank s t n) u))) (ltb n (currentOf s t)) (λ e. count-toHead t u (s .ready) (h .ready t ∙ ap bit (f e)) ∙ ready u) (λ _. ready u);
+    callers = λ u. rw (rank-place u) (h .callers u);
+    held = λ u. rw (rank-place u) (h .held u);
+    delays = λ u. rw (rank-timer u) (h .delays u);
+    order = ordered-cong (λ u. ticksLeft (s .clock) (timerOf s u)) (λ u. ticksLeft (s .clock) (timerOf (rank s t n) u)) (s .delays)
+        (λ x y _ _ k. rw (rank-timer x, rank-timer y) k) (h .order);
+  }
+    where
+      ready : (u : ℕ) → count u (s .ready) ≡ bit (isReady (placeOf (rank s t n) u))
+      ready u = rw (rank-place u) (h .ready u)
 
 -- ── the moves that steps are made of ──
 
@@ -213,14 +291,52 @@ queue-sound s t q w pos fit h c a i =
 
 -- ── a rendezvous begins and ends ──
 
-pub hold-sound : (s : State) (t : ℕ) (m : Meeting) → 0 < t → t ≤ length (s .tasks) → Sound s → Calls (taskOf s (m .holder)) (m .entry) → Sound (move s t (Held m) Off)
-hold-sound s t m pos fit h c =
+pub hold-sound : (s : State) (t : ℕ) (m : Meeting) → 0 < t → t ≤ length (s .tasks) → Sound s → Calls (taskOf s (m .holder)) (m .entry) → Priority (m .kept) → Sound (move s t (Held m) Off)
+hold-sound s t m pos fit h c i =
     move-sound s t (Held m) Off pos fit h
-    (calls-after s t (m .holder) (m .entry) (Held m) Off pos fit refl c, refl) tt
+    (calls-after s t (m .holder) (m .entry) (Held m) Off pos fit refl c, refl, i) tt
     (welcome-plain (s .tasks) t (moved s t (Held m) Off) pos fit refl refl (λ e. refl))
 
-pub part-same : (s : State) (c : ℕ) → 0 < c → c ≤ length (s .tasks) → placeOf (part s c) c ≡ Ready
-part-same s c pos fit = place-same s c Ready Off pos fit
+module _ (s : State) (g c : ℕ) (low : 0 < g) (high : g ≤ length (s .tasks)) (pos : 0 < c) (fit : c ≤ length (s .tasks)) where
+  module _ (e : ℕ) where
+    abbrev n : ℕ
+    n = higher (currentOf s g) (currentOf s c)
+
+    abbrev m : Meeting
+    m = meeting g e (currentOf s g)
+
+    pub raise-sound : Sound s → Sound (rank s g n)
+    raise-sound h =
+        rank-sound s g n low high
+        (by-test Priority (ltb (currentOf s g) (currentOf s c)) (λ _. h .good c pos fit .numbers .current) (λ _. h .good g low high .numbers .current))
+        (λ e. clash e (higher-not-lower (currentOf s g) (currentOf s c))) h
+
+    pub meet-sound : Sound s → Calls (taskOf s g) e → Sound (meet s g c e)
+    meet-sound h k =
+        hold-sound (rank s g n) c m pos (omega (arith, fit, rank-length s g n low high)) (raise-sound h)
+        (record { low = k .low; high = rw (rank-entries s g n low high g) (k .high); alive = rw (rank-place s g n low high g) (k .alive) })
+        (h .good g low high .numbers .current)
+
+    pub meet-same : placeOf (meet s g c e) c ≡ Held m
+    meet-same = place-same (rank s g n) c (Held m) Off pos (omega (arith, fit, rank-length s g n low high))
+
+    pub meet-other : (u : ℕ) → (u ≡ c → ⊥) → Alike (taskOf s u) (taskOf (meet s g c e) u)
+    meet-other u q = alike-trans (rank-alike s g n low high u) (alike (task-other (rank s g n) c (Held m) Off u q))
+
+  abbrev k : ℕ
+  k = keptOf (placeOf s c)
+
+  pub restore-sound : (m : Meeting) → placeOf s c ≡ Held m → isReady (placeOf s g) ≡ true → Sound s → Sound (rank s g k)
+  restore-sound m q r h = rank-sound s g k low high (rw q ((rw q at (h .good c pos fit .place)) .2)) (λ _. r) h
+
+  pub part-sound : (m : Meeting) → placeOf s c ≡ Held m → isReady (placeOf s g) ≡ true → Sound s → Sound (part s g c)
+  part-sound m q r h = wake-sound (rank s g k) c pos (omega (arith, fit, rank-length s g k low high)) (restore-sound m q r h)
+
+  pub part-same : placeOf (part s g c) c ≡ Ready
+  part-same = place-same (rank s g k) c Ready Off pos (omega (arith, fit, rank-length s g k low high))
+
+  pub part-other : (u : ℕ) → (u ≡ c → ⊥) → Alike (taskOf s u) (taskOf (part s g c) u)
+  part-other u q = alike-trans (rank-alike s g k low high u) (alike (task-other (rank s g k) c Ready Off u q))
 
 -- t accepts, where nobody is queued on an open entry
 pub accept-sound : (s : State) (t : ℕ) (o : Offer) (w : Timer) → 0 < t → t ≤ length (s .tasks) → Sound s → o .opens < 2 ^ (taskOf s t .entries) → (o .opens ≡ 0 → hasTime w ≡ true) → InTime (s .clock) w

@@ -1,18 +1,18 @@
 -- A step moves tasks one after the other. Who waits in the same place before and after it, and is not listed, is not moved; who comes from an entry queue into
 -- a rendezvous heads that queue. What is said of the order of a line needs no more of the steps than this.
 -- Assumes nothing.
-use Prim.Native.Nat.{ℕ, zero, suc, _^_}
+use Prim.Native.Nat.{ℕ, zero, suc, _^_, _<_, _≤_}
 use mathlib.Core.Path.{_≡_, refl, sym, _∙_, ap, subst}
 use mathlib.Core.Bool.{true, false, not}
 use mathlib.Core.List.{List, [], _∷_, map}
 use native.Mathlib.Omega.{arith}
 use lib.ListN.{length}
 use lib.Dec.{eqb, ltb, leb}
-use borrow.Author.Tests.{eq-eqb}
+use borrow.Author.Tests.{eq-eqb, not-false}
 use Rattle.lists.specs.Lists.{count, first, last}
-use Rattle.lists.proofs.Tests.{no}
+use Rattle.lists.proofs.Tests.{no, between}
 use Rattle.lists.proofs.ListLaws.{by-bool, by-test}
-use Rattle.rules.specs.State.{State, taskOf, placeOf, created, isTask, hasEntry, isQueued, isHeld, isCompleted, partnerOf, entryOf, accepts, after, move, wake, wakeAll, add, setClock, queue, heldBy, waiting, offer, meeting}
+use Rattle.rules.specs.State.{State, taskOf, placeOf, created, isTask, hasEntry, isQueued, isHeld, isCompleted, partnerOf, entryOf, keptOf, currentOf, accepts, after, move, wake, wakeAll, rank, higher, add, setClock, queue, heldBy, waiting, offer, meeting}
 use Rattle.rules.specs.Sound.{inRange}
 use Rattle.rules.specs.Step.{Outcome, refused, took, item, SERVED, ACCEPTED, ticks, delayFor, timedCall, callBusy, call, openEntry, selectDelay, selectNone, selectAt, select, endLast, end, queuedOn, failed, finish, dueAt, expired, advanceEnds, takeCall}
 use Rattle.rules.specs.Runs.{Ask, isWaiting, reasons}
@@ -31,7 +31,7 @@ use Rattle.calls.specs.declared.Call as C
 use Rattle.calls.specs.declared.Call.the-variants.{Create, Delay, Call, Select, End, Finish, Tick, Advance}
 use Rattle.rules.proofs.Invariant.{Sound}
 use Rattle.rules.proofs.Members.{queued-there, Runs}
-use Rattle.rules.proofs.MoveLaws.{place-same}
+use Rattle.rules.proofs.MoveLaws.{place-same, length-move, rank-length}
 use Rattle.rules.proofs.StateRuns.{entry}
 use Rattle.rules.proofs.StepSound.{by-runner, caller-taken}
 use Rattle.rules.proofs.OverRuns.{by-step}
@@ -54,6 +54,7 @@ pub data Moves (s : State) (U : ℕ → Type 0) : State → Type 0 where
   still : Moves s U s
   newly : (s1 : State) → Moves s U s1 → (p n : ℕ) → Moves s U (add s1 p n)
   clocked : (s1 : State) → Moves s U s1 → (n : ℕ) → Moves s U (setClock s1 n)
+  ranks : (s1 : State) → Moves s U s1 → (t n : ℕ) → 0 < t → t ≤ created s1 → Moves s U (rank s1 t n)
   goes : (s1 : State) → Moves s U s1 → (t : ℕ) (p : Place) (w : Timer) → ((a : ℕ) → U a → a ≡ t → ⊥) → Enters s t p → Moves s U (move s1 t p w)
 
 abbrev MovesOf : State → Outcome → Type 0
@@ -106,13 +107,14 @@ busy-moves s t g e Conditional r = still
 
 call-moves : (s : State) (t g e : ℕ) (m : CallMode) → Runs s t → MovesOf s (call s t g e m)
 call-moves s t g e m r =
-    by-test (MovesOf s) (not (isTask s g)) (λ _. tt) λ _.
+    by-test (MovesOf s) (not (isTask s g)) (λ _. tt) λ b.
     by-test (MovesOf s) (not (hasEntry (taskOf s g) e)) (λ _. tt) λ _.
     by-test (MovesOf s) (isCompleted (placeOf s g)) (λ _. still) λ _.
     by-test (MovesOf s) (accepts (placeOf s g) e)
-    (λ _. goes (wake s g)
-    (goes s still g Ready Off (λ a u z. not-item (item g ACCEPTED e t) a (u .quiet) z) (elsewhere refl))
-    t (Held (meeting g e)) Off (not-runner s _ _ t r) (not-queued (rw (r .place))))
+    (λ _. let i = between g (created s) (not-false _ b) in let v = wake s g in let n = higher (currentOf v g) (currentOf v t) in
+    goes (rank v g n)
+    (ranks v (goes s still g Ready Off (λ a u z. not-item (item g ACCEPTED e t) a (u .quiet) z) (elsewhere refl)) g n (i .0) (omega (arith, i .1, length-move s g Ready Off)))
+    t (Held (meeting g e (currentOf v g))) Off (not-runner s _ _ t r) (not-queued (rw (r .place))))
     (λ _. busy-moves s t g e m r)
 
 none-moves : (s : State) (t o : ℕ) (m : SelectMode) → Runs s t → MovesOf s (selectNone s t o m)
@@ -133,18 +135,22 @@ select-moves s t o m r = by-test (MovesOf s) (leb (2 ^ (taskOf s t .entries)) o)
         let c = first (queue s t (suc e)) in
         let q = caller-taken s t o e z in
         let i = queued-there s c (q .0) (q .1) in
-        goes s still c (Held (meeting t (suc e))) Off
+        let n = higher (currentOf s t) (currentOf s c) in
+        let v = rank s t n in
+        let h = Held (meeting t (suc e) (currentOf s t)) in
+        goes v (ranks s still t n (r .low) (r .high)) c h Off
         (λ a u y. no (let p = u .place in let k : placeOf s a ≡ Queued (q .0) = ap (placeOf s) y ∙ q .1 in
-        let j = ap (placeOf (move s c (Held (meeting t (suc e))) Off)) y ∙ place-same s c (Held (meeting t (suc e))) Off (i .0) (i .1) in cc))
+        let j = ap (placeOf (move v c h Off)) y ∙ place-same v c h Off (i .0) (omega (arith, i .1, rank-length s t n (r .low) (r .high))) in cc))
         (heads (rw (q .1, q .2, q .3)))
 
-end-moves : (s : State) (t : ℕ) → MovesOf s (end s t)
-end-moves s t = go (last (heldBy s t))
+end-moves : (s : State) (t : ℕ) → Runs s t → MovesOf s (end s t)
+end-moves s t r = go (last (heldBy s t))
   where
     go : (c : ℕ) → MovesOf s (endLast s t c)
     go zero = tt
     go (suc c) =
-        goes s still (suc c) Ready Off
+        let n = keptOf (placeOf s (suc c)) in
+        goes (rank s t n) (ranks s still t n (r .low) (r .high)) (suc c) Ready Off
         (λ a u z. not-item (item (suc c) SERVED (entryOf (placeOf s (suc c))) t) a (u .quiet) z) (elsewhere refl)
 
 finish-moves : (s : State) (t : ℕ) → Runs s t → MovesOf s (finish s t)
@@ -160,7 +166,7 @@ call-moved s (Create p n) h =
 call-moved s (Delay d) h = by-runner (MovesOf s) s (λ t. delayFor s t (ticks d)) h tt (λ t e r. delay-moves s t (ticks d) r)
 call-moved s (Call g e m) h = by-runner (MovesOf s) s (λ t. call s t g e m) h tt (λ t z r. call-moves s t g e m r)
 call-moved s (Select o m) h = by-runner (MovesOf s) s (λ t. select s t o m) h tt (λ t z r. select-moves s t o m r)
-call-moved s End h = by-runner (MovesOf s) s (λ t. end s t) h tt (λ t z r. end-moves s t)
+call-moved s End h = by-runner (MovesOf s) s (λ t. end s t) h tt (λ t z r. end-moves s t r)
 call-moved s Finish h = by-runner (MovesOf s) s (λ t. finish s t) h tt (λ t z r. finish-moves s t r)
 call-moved s Tick h =
     let now = after (s .clock) 1 in

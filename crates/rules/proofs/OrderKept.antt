@@ -25,12 +25,12 @@ use Rattle.rules.specs.declared.Place.the-variants.{Blank, Ready, Delaye
 use Rattle.rules.proofs.Invariant.{Sound}
 use Rattle.rules.proofs.Members.{there}
 use Rattle.rules.proofs.AddLaws.{nth-old, nth-new, nth-further}
-use Rattle.rules.proofs.MoveLaws.{place-same, place-other, length-move}
+use Rattle.rules.proofs.MoveLaws.{place-same, place-other, length-move, rank-place}
 use Rattle.rules.proofs.StateRuns.{entry, logOf, reach}
 use Rattle.rules.proofs.Fate.{untouched, awake, began, began-held, taken, ran-out, accepted, served, given-up}
 use Rattle.rules.proofs.OverRuns.{StepFate, not-taken, was-taken, step-fate, step-sound, reach-sound, number-pos}
 use Rattle.rules.proofs.TimedWait.{held-run}
-use Rattle.rules.proofs.Moves.{Unmoved, Enters, elsewhere, not-queued, heads, Moves, still, newly, clocked, goes, step-moved}
+use Rattle.rules.proofs.Moves.{Unmoved, Enters, elsewhere, not-queued, heads, Moves, still, newly, clocked, ranks, goes, step-moved}
 
 -- ── along the moves of a step ──
 
@@ -59,12 +59,14 @@ module _ (s : State) (U : ℕ → Type 0) where
   callers-lead s′ still a u k h = h
   callers-lead s′ (newly s1 m p n) a u k h = callers-lead s1 m a u k h
   callers-lead s′ (clocked s1 m n) a u k h = callers-lead s1 m a u k h
+  callers-lead s′ (ranks s1 m t n lo hi) a u k h = callers-lead s1 m a u k h
   callers-lead s′ (goes s1 m t p w f e) a u k h = leads-rejoin (isQueued p) t a u (s1 .callers) (f a k) (callers-lead s1 m a u k h)
 
   pub held-lead : (s′ : State) → Moves s U s′ → (a u : ℕ) → U a → Leads a u (s .held) → Leads a u (s′ .held)
   held-lead s′ still a u k h = h
   held-lead s′ (newly s1 m p n) a u k h = held-lead s1 m a u k h
   held-lead s′ (clocked s1 m n) a u k h = held-lead s1 m a u k h
+  held-lead s′ (ranks s1 m t n lo hi) a u k h = held-lead s1 m a u k h
   held-lead s′ (goes s1 m t p w f e) a u k h = leads-rejoin (isHeld p) t a u (s1 .held) (f a k) (held-lead s1 m a u k h)
 
   retimed : (now : ℕ) (ts : List Task) (w : Timer) (t a b : ℕ) (l : List ℕ) → (a ≡ t → ⊥) → (b ≡ t → ⊥) → ahead a b (retime now ts w t l) ≡ ahead a b l
@@ -75,6 +77,7 @@ module _ (s : State) (U : ℕ → Type 0) where
   delays-same s′ still a b k j = refl
   delays-same s′ (newly s1 m p n) a b k j = delays-same s1 m a b k j
   delays-same s′ (clocked s1 m n) a b k j = delays-same s1 m a b k j
+  delays-same s′ (ranks s1 m t n lo hi) a b k j = delays-same s1 m a b k j
   delays-same s′ (goes s1 m t p w f e) a b k j = retimed (s1 .clock) (s1 .tasks) w t a b (s1 .delays) (f a k) (f b j) ∙ delays-same s1 m a b k j
 
   -- who comes from a queue into a rendezvous heads that queue
@@ -83,6 +86,7 @@ module _ (s : State) (U : ℕ → Type 0) where
   taken-heads s′ still u q h = clash h (queued-not-held (placeOf s u) q)
   taken-heads s′ (newly s1 m p n) u q h = taken-heads s1 m u q (held-old s1 p n u h)
   taken-heads s′ (clocked s1 m n) u q h = taken-heads s1 m u q h
+  taken-heads s′ (ranks s1 m t n lo hi) u q h = taken-heads s1 m u q (sym (ap isHeld (rank-place s1 t n lo hi u)) ∙ h)
   taken-heads s′ (goes s1 m t p w f e) u q h =
       by-eq u t
       (λ z. let i = there (move s1 t p w .tasks) t (λ b. clash (rw (z, b) at h) refl) in

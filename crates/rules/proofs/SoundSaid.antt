@@ -11,7 +11,7 @@ use lib.Dec.{eqb, leb}
 use borrow.Author.Tests.{eq-eqb, le-leb, leb-true, leb-false}
 use Rattle.lists.specs.Lists.{bit, count, every}
 use Rattle.lists.specs.Line.{tidy, blanks}
-use Rattle.rules.specs.State.{State, blank, taskOf, placeOf, timerOf, priorityOf, created, isReady, isCompleted, partnerOf, hasTime, opens, accepts, queue, heldBy, level, ticksLeft, waitsOn, holds, atLevel}
+use Rattle.rules.specs.State.{State, blank, taskOf, placeOf, timerOf, created, isReady, isCompleted, partnerOf, hasTime, opens, accepts, queue, heldBy, level, ticksLeft, waitsOn, holds, atLevel, currentOf}
 use Rattle.rules.specs.Whole.{view, isBlank, unused, soundWhole}
 use Rattle.rules.specs.SoundFacts.{Created, mayBeTimed, SoundFacts, BlankBehind, SoundStruct, SoundnessSaid}
 use Rattle.rules.specs.declared.Task.{Task}
@@ -88,7 +88,7 @@ module _ (s : State) (h : Sound s) where
   timed t (Accepting o) e w = refl
   timed t Completed e w = clash w (fits-at t Completed e (λ b. no (cc)))
 
-  at-level : (t p : ℕ) → count t (level s p) ≡ bit (isReady (placeOf s t) && eqb (priorityOf s t) p)
+  at-level : (t p : ℕ) → count t (level s p) ≡ bit (isReady (placeOf s t) && eqb (currentOf s t) p)
   at-level t p =
       by-bool (atLevel s p t)
       (λ e. count-filter-yes (atLevel s p) t (s .ready) e ∙ h .ready t ∙ by-bool (isReady (placeOf s t)) (λ r. rw (r, e)) (λ r. rw r))
@@ -97,13 +97,15 @@ module _ (s : State) (h : Sound s) where
   pub facts-of : SoundFacts s
   facts-of = record {
     at-most-31 = h .few;
-    priorities = λ t c. (h .good t (c .0) (c .1) .numbers .low, h .good t (c .0) (c .1) .numbers .high);
+    priorities = λ t c. h .good t (c .0) (c .1) .numbers .own;
     entry-counts = λ t c. h .good t (c .0) (c .1) .numbers .few;
     one-of-six = λ t c. six t c (placeOf s t) (h .good t (c .0) (c .1) .place);
     ready = h .ready;
     queued = h .callers;
     held = h .held;
     own-level = at-level;
+    current = λ t c. h .good t (c .0) (c .1) .numbers .current;
+    kept = λ c m e. fits-at c (Held m) e (λ b. no (cc)) .2;
     holds-nobody = λ t e. nobody (heldBy s t) (λ u k. let q = of-held s u t k in clash (rw (ap (placeOf s) (q .2), e)) (held-good u (q .0) (q .1) .alive));
     nobody-queued = λ t e z. nobody (queue s t e) (λ u k. let q = of-queue s u t e k in clash (rw (ap (placeOf s) (q .2), z)) (queued-good s u (q .0) h (q .1) .alive));
     queued-entry = λ c q e. let k = queued-good s c q h e in (k .low, k .high);
@@ -162,7 +164,7 @@ module _ (s : State) (f : SoundFacts s) where
   fits-fact t c Ready e = untimed t Ready e refl
   fits-fact t c Delayed e = f .delayed-timed t e
   fits-fact t c (Queued q) e = let k = f .queued-entry t q e in (record { low = k .0; high = k .1; alive = alive-queued t q e }, shut t q e)
-  fits-fact t c (Held m) e = let k = f .held-entry t m e in (record { low = k .0; high = k .1; alive = alive-held t m e }, untimed t (Held m) e refl)
+  fits-fact t c (Held m) e = let k = f .held-entry t m e in (record { low = k .0; high = k .1; alive = alive-held t m e }, untimed t (Held m) e refl, f .kept t m e)
   fits-fact t c (Accepting o) e = (f .no-further t o e, f .not-empty t o e)
   fits-fact t c Completed e = untimed t Completed e refl
 
@@ -175,7 +177,7 @@ module _ (s : State) (f : SoundFacts s) where
     clock = k;
     few = f .at-most-31;
     good = λ u a b. record {
-      numbers = record { low = f .priorities u (a, b) .0; high = f .priorities u (a, b) .1; few = f .entry-counts u (a, b) };
+      numbers = record { own = f .priorities u (a, b); current = f .current u (a, b); few = f .entry-counts u (a, b) };
       place = fits-fact u (a, b) (placeOf s u) refl;
       time = in-time-fact u (timerOf s u) refl;
     };

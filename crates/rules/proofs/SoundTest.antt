@@ -2,7 +2,7 @@
 -- Assumes nothing.
 use Prim.Native.Nat.{ℕ, zero, suc, _+_, _≤_, _<_, _^_}
 use mathlib.Core.Path.{_≡_, refl, sym, ap}
-use mathlib.Core.Bool.{Bool, true, false, not, _||_}
+use mathlib.Core.Bool.{Bool, true, false, not, _&&_, _||_}
 use mathlib.Core.List.{List, [], _∷_, _++_}
 use native.Mathlib.Omega.{arith}
 use lib.Dec.{eqb, ltb, leb}
@@ -10,7 +10,8 @@ use lib.ListN.{getD}
 use borrow.Author.Tests.{eqb-true, eq-eqb, ne-eqb, ltb-true, leb-true, leb-false, lt-ltb, le-leb, not-true}
 use Rattle.lists.specs.Lists.{bit, count, every, inOrder, downFrom}
 use Rattle.rules.specs.State.{State, blank, taskOf, placeOf, timerOf, created, isTask, isReady, isQueued, isHeld, isCompleted, partnerOf, hasTime, ticksLeft}
-use Rattle.rules.specs.Sound.{calls, fits, timeInRange, goodTask, standsRight, sound}
+use Rattle.rules.specs.Sound.{isPriority, calls, fits, timeInRange, goodTask, standsRight, sound}
+use Rattle.rules.specs.SoundFacts.{Priority}
 use Rattle.rules.specs.declared.Task.{Task}
 use Rattle.rules.specs.declared.Timer.{Timer}
 use Rattle.rules.specs.declared.Timer.the-variants.{Off, Due}
@@ -30,12 +31,15 @@ or-test : (o : ℕ) (b : Bool) → (o ≡ 0 → b ≡ true) → (ltb 0 o || b) �
 or-test zero b h = h refl
 or-test (suc o) b h = rw (lt-ltb 0 (suc o) (omega arith))
 
+pub priority-test : (p : ℕ) → Priority p → isPriority p ≡ true
+priority-test p h = and-both (lt-ltb 0 p (h .0)) (le-leb p 15 (h .1))
+
 fits-test : (me g : Task) (p : Place) (w : Timer) → Fits me g p w → fits me g p w ≡ true
 fits-test me g Blank w h = absurd h
 fits-test me g Ready w h = ap not h
 fits-test me g Delayed w h = h
 fits-test me g (Queued q) w h = and-both (calls-test g (q .entry) (h .0)) (ap not (h .1))
-fits-test me g (Held m) w h = and-both (calls-test g (m .entry) (h .0)) (ap not (h .1))
+fits-test me g (Held m) w h = and-both (and-both (calls-test g (m .entry) (h .0)) (ap not (h .1))) (priority-test (m .kept) (h .2))
 fits-test me g (Accepting o) w h = and-both (lt-ltb (o .opens) (2 ^ (me .entries)) (h .0)) (or-test (o .opens) (hasTime w) (h .1))
 fits-test me g Completed w h = ap not h
 
@@ -46,8 +50,10 @@ time-test now (Due d) h = and-both (and-both (lt-ltb 0 _ (h .0)) (le-leb _ 21474
 good-test : (now : ℕ) (me g : Task) → Good now me g → goodTask now me g ≡ true
 good-test now me g h =
     and-both
-    (and-both (and-both (and-both (lt-ltb 0 _ (h .numbers .low)) (le-leb _ 15 (h .numbers .high))) (le-leb _ 8 (h .numbers .few))) (fits-test me g (me .place) (me .timer) (h .place)))
-    (time-test now (me .timer) (h .time))
+    (and-both
+    (and-both (and-both (priority-test (me .priority) (h .numbers .own)) (le-leb _ 8 (h .numbers .few))) (fits-test me g (me .place) (me .timer) (h .place)))
+    (time-test now (me .timer) (h .time)))
+    (priority-test (me .current) (h .numbers .current))
 
 pub in-down : (x n : ℕ) → 0 < count x (downFrom n) → (0 < x) × (x ≤ n)
 in-down x zero h = absurd (omega arith)
@@ -98,12 +104,17 @@ calls-of g e h =
     let p = each (ltb 0 e) (leb e (g .entries) ∷ not (isCompleted (g .place)) ∷ []) h in
     record { low = ltb-true 0 e (p 0); high = leb-true e (g .entries) (p 1); alive = not-true _ (p 2) }
 
+pub priority-of : (p : ℕ) → isPriority p ≡ true → Priority p
+priority-of p h = between p 15 h
+
 fits-of : (me g : Task) (p : Place) (w : Timer) → fits me g p w ≡ true → Fits me g p w
 fits-of me g Blank w h = differ (sym h)
 fits-of me g Ready w h = not-true _ h
 fits-of me g Delayed w h = h
 fits-of me g (Queued q) w h = (calls-of g (q .entry) (and-first (calls g (q .entry)) _ h), not-true _ (and-second (calls g (q .entry)) _ h))
-fits-of me g (Held m) w h = (calls-of g (m .entry) (and-first (calls g (m .entry)) _ h), not-true _ (and-second (calls g (m .entry)) _ h))
+fits-of me g (Held m) w h =
+    let b = and-first (calls g (m .entry) && not (hasTime w)) (isPriority (m .kept)) h in
+    (calls-of g (m .entry) (and-first (calls g (m .entry)) _ b), not-true _ (and-second (calls g (m .entry)) _ b), priority-of (m .kept) (and-second (calls g (m .entry) && not (hasTime w)) (isPriority (m .kept)) h))
 fits-of me g (Accepting o) w h =
     let p = each (ltb (o .opens) (2 ^ (me .entries))) ((ltb 0 (o .opens) || hasTime w) ∷ []) h in
     (ltb-true (o .opens) (2 ^ (me .entries)) (p 0), λ z. rw z at (p 1))
@@ -117,11 +128,11 @@ time-of now (Due d) h =
 
 good-of : (now : ℕ) (me g : Task) → goodTask now me g ≡ true → Good now me g
 good-of now me g h =
-    let p = each (ltb 0 (me .priority)) (leb (me .priority) 15 ∷ leb (me .entries) 8 ∷ fits me g (me .place) (me .timer) ∷ timeInRange now (me .timer) ∷ []) h in
+    let p = each (isPriority (me .priority)) (leb (me .entries) 8 ∷ fits me g (me .place) (me .timer) ∷ timeInRange now (me .timer) ∷ isPriority (me .current) ∷ []) h in
     record {
-      numbers = record { low = ltb-true 0 _ (p 0); high = leb-true _ 15 (p 1); few = leb-true _ 8 (p 2) };
-      place = fits-of me g (me .place) (me .timer) (p 3);
-      time = time-of now (me .timer) (p 4);
+      numbers = record { own = priority-of (me .priority) (p 0); current = priority-of (me .current) (p 4); few = leb-true _ 8 (p 1) };
+      place = fits-of me g (me .place) (me .timer) (p 2);
+      time = time-of now (me .timer) (p 3);
     }
 
 not-task : (s : State) (u : ℕ) → isTask s u ≡ false → taskOf s u ≡ blank

@@ -10,8 +10,8 @@ use lib.ListN.{length}
 use lib.Dec.{eqb, ltb, leb}
 use borrow.Author.Tests.{eqb-true, eqb-false, eq-eqb, ne-eqb, ltb-true, ltb-false, leb-true, leb-false, not-false, lt-ltb}
 use Rattle.lists.specs.Lists.{count, first, last}
-use Rattle.rules.specs.State.{State, taskOf, placeOf, timerOf, created, isTask, hasEntry, isCompleted, accepts, opens, hasTime, ticksLeft, left, after, wake, wakeAll, setClock, queue, heldBy, running, waiting, meeting, offer}
-use Rattle.rules.specs.Sound.{inRange}
+use Rattle.rules.specs.State.{State, taskOf, placeOf, timerOf, created, isTask, hasEntry, isCompleted, accepts, opens, hasTime, ticksLeft, left, after, wake, wakeAll, setClock, queue, heldBy, running, waiting, offer}
+use Rattle.rules.specs.Sound.{inRange, isPriority}
 use Rattle.rules.specs.Step.{NO-TASK, Outcome, refused, took, create, delayFor, enqueue, timedCall, callBusy, call, openFrom, openEntry, selectDelay, selectNone, selectAt, select, endLast, end, queuedFrom, queuedOn, finish, dueAt, isDue, tick, tickTo, advanced, ofRunning, takeCall, ticks}
 use Rattle.rules.specs.declared.Task.{Task}
 use Rattle.rules.specs.declared.Timer.{Timer}
@@ -32,7 +32,7 @@ use Rattle.lists.proofs.Tests.{no, each, between, and-second, and-fails}
 use Rattle.rules.proofs.Invariant.{Calls, InTime, Sound}
 use Rattle.rules.proofs.Members.{WaitsOn, in-filter, first-member, some-length, in-queue, of-queue, queued-good, queued-there, of-held, in-held, held-there, last-in, timed-there, bit-true, Runs, runs}
 use Rattle.rules.proofs.AddLaws.{add-sound}
-use Rattle.rules.proofs.MoveLaws.{wake-sound, delay-sound, queue-sound, hold-sound, accept-sound, complete-sound, moved, task-same, task-other, length-move}
+use Rattle.rules.proofs.MoveLaws.{wake-sound, delay-sound, queue-sound, meet-sound, part-sound, accept-sound, complete-sound, moved, task-same, task-other, length-move}
 
 abbrev pub Kept : Outcome → Type 0
 Kept (refused r) = Unit {0}
@@ -78,7 +78,7 @@ call-kept s t g e m h r =
     let i = between g (created s) (not-false _ b1) in
     let j = between e (taskOf s g .entries) (not-false _ b2) in
     by-test Kept (accepts (placeOf s g) e)
-    (λ b4. hold-sound (wake s g) t (meeting g e) (r .low) (omega (arith, r .high, length-move s g Ready Off)) (wake-sound s g (i .0) (i .1) h)
+    (λ b4. meet-sound (wake s g) g t (i .0) (omega (arith, i .1, length-move s g Ready Off)) (r .low) (omega (arith, r .high, length-move s g Ready Off)) e (wake-sound s g (i .0) (i .1) h)
     (rw (task-same s g Ready Off (i .0) (i .1)) (record { low = j .0; high = j .1; alive = refl })))
     (λ b4. busy-kept s t g e m h r (record { low = j .0; high = j .1; alive = b3 }) b4)
 
@@ -137,7 +137,7 @@ select-kept s t o m h r = by-test Kept (leb (2 ^ (taskOf s t .entries)) o) (λ _
         let c = first (queue s t (suc e)) in
         let q = caller-taken s t o e z in
         let i = queued-there s c (q .0) (q .1) in
-        hold-sound s c (meeting t (suc e)) (i .0) (i .1) h (rw (q .2, q .3) at (queued-good s c (q .0) h (q .1)))
+        meet-sound s t c (r .low) (r .high) (i .0) (i .1) (suc e) h (rw (q .2, q .3) at (queued-good s c (q .0) h (q .1)))
 
 -- ── END ──
 
@@ -149,7 +149,7 @@ end-kept s t h r = go (last (heldBy s t)) refl
     go (suc c) e =
         let q = of-held s (suc c) t (last-in c (heldBy s t) e) in
         let i = held-there s (suc c) (q .0) (q .1) in
-        wake-sound s (suc c) (i .0) (i .1) h
+        part-sound s t (suc c) (r .low) (r .high) (i .0) (i .1) (q .0) (q .1) (rw (r .place)) h
 
 -- ── wakeAll ──
 
@@ -308,8 +308,8 @@ pub create-kept : (s : State) (p n : ℕ) → Sound s → Kept (create s p n)
 create-kept s p n h =
     by-test Kept (not (inRange p n)) (λ _. tt) λ b1.
     by-test Kept (leb 31 (created s)) (λ _. tt) λ b2.
-    let i = each (ltb 0 p) (leb p 15 ∷ leb n 8 ∷ []) (not-false (inRange p n) b1) in
-    add-sound s p n h (leb-false 31 (created s) b2) (ltb-true 0 p (i 0)) (leb-true p 15 (i 1)) (leb-true n 8 (i 2))
+    let i = each (isPriority p) (leb n 8 ∷ []) (not-false (inRange p n) b1) in
+    add-sound s p n h (leb-false 31 (created s) b2) (between p 15 (i 0)) (leb-true n 8 (i 1))
 
 -- ── a call ──
 

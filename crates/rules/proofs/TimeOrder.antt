@@ -13,7 +13,7 @@ use Rattle.lists.specs.Lists.{if_then_else_, count, filter, remove, ahead, last
 use Rattle.lists.proofs.Tests.{no, and-first}
 use Rattle.lists.proofs.ListLaws.{clash, by-bool, by-test, count-remove-same, count-remove-other, ordered-filter, ordered-cong}
 use Rattle.lists.proofs.AheadLaws.{ahead-filter, ahead-inserted}
-use Rattle.rules.specs.State.{State, taskOf, placeOf, timerOf, created, isTask, hasEntry, isHeld, isCompleted, accepts, after, left, ticksLeft, move, wake, meeting, heldBy}
+use Rattle.rules.specs.State.{State, taskOf, placeOf, timerOf, created, isTask, hasEntry, isHeld, isCompleted, accepts, after, left, ticksLeft, currentOf, move, wake, rank, ranked, higher, meeting, heldBy}
 use Rattle.rules.specs.Sound.{inRange}
 use Rattle.rules.specs.Step.{Outcome, refused, took, number, ticks, delayFor, timedCall, callBusy, call, openEntry, selectDelay, selectNone, selectAt, select, endLast, end, finish, expired, isDue, takeCall, WAITS, ACCEPTED, SERVED, TASKING-ERROR}
 use Rattle.rules.specs.Runs.{Ask, Given, isWaiting, begins, reasons, ended, ticksOf, tickCount, duration, timeReason}
@@ -33,7 +33,7 @@ use Rattle.calls.specs.declared.Call as C
 use Rattle.calls.specs.declared.Call.the-variants.{Create, Delay, Call, Select, End, Finish, Tick, Advance}
 use Rattle.rules.proofs.Invariant.{Sound}
 use Rattle.rules.proofs.Members.{Runs, there, in-filter}
-use Rattle.rules.proofs.MoveLaws.{place-same, task-same, length-move}
+use Rattle.rules.proofs.MoveLaws.{place-same, task-same, length-move, length-setNth}
 use Rattle.rules.proofs.Passes.{in-time}
 use Rattle.rules.proofs.StateRuns.{entry, logOf, reach}
 use Rattle.rules.proofs.StepSound.{by-runner, left-after}
@@ -73,14 +73,23 @@ begun-call s u t g e m r =
     by-test P (not (hasEntry (taskOf s g) e)) (λ _. tt) λ _.
     by-test P (isCompleted (placeOf s g)) (λ _ z k f. clash z refl) λ _.
     by-test P (accepts (placeOf s g) e)
-    (λ _ z k f. clash (ap (λ (x : ℕ). isHeld (placeOf s′ x)) (sym (eqb-true t u z)) ∙ ap isHeld (place-same (wake s g) t (Held (meeting g e)) Off (r .low) (omega (arith, r .high, length-move s g Ready Off)))) f)
+    (λ _ z k f. clash (ap (λ (x : ℕ). isHeld (placeOf s′ x)) (sym (eqb-true t u z)) ∙ ap isHeld (place-same (rank v g n) t h Off (r .low) (omega (arith, r .high, length-move s g Ready Off, length-setNth (v .tasks) g (ranked (taskOf v g) n))))) f)
     (λ _. begun-busy s u t g e m)
   where
     P : Outcome → Type 0
     P = BegunOf s (Call g e m) u
 
+    v : State
+    v = wake s g
+
+    n : ℕ
+    n = higher (currentOf v g) (currentOf v t)
+
+    h : Place
+    h = Held (meeting g e (currentOf v g))
+
     s′ : State
-    s′ = move (wake s g) t (Held (meeting g e)) Off
+    s′ = move (rank v g n) t h Off
 
 begun-none : (s : State) (u t o : ℕ) (m : SelectMode) → BegunOf s (Select o m) u (selectNone s t o m)
 begun-none s u t o Plain = by-test (BegunOf s (Select o Plain) u) (eqb o 0) (λ _ z k f. clash z refl) (λ _ z k f. absurd (omega (arith, k)))

@@ -14,6 +14,8 @@ pub mod Whole
 pub mod Questions
 -- when a state is sound, fact by fact
 pub mod SoundFacts
+-- priority in a rendezvous: the acceptor's current priority, and the ready queues
+pub mod Levels
 -- the dispatched task, and COUNT
 pub mod EachStep
 -- runs, their logs, and what is read off a log

@@ -12,9 +12,13 @@ use Rattle.rules.specs.declared.Timer.the-variants.{Off, Due}
 use Rattle.rules.specs.declared.Place.{Place}
 use Rattle.rules.specs.declared.Place.the-variants.{Blank, Ready, Delayed, Queued, Held, Accepting, Completed}
 
+-- a priority is 1 to 15
+abbrev pub isPriority : ℕ → Bool
+isPriority p = ltb 0 p && leb p 15
+
 -- priority and entry count in range
 abbrev pub inRange : ℕ → ℕ → Bool
-inRange p n = ltb 0 p && leb p 15 && leb n 8
+inRange p n = isPriority p && leb n 8
 
 -- e is an entry of the called task g, which is there and has not completed
 abbrev pub calls : Task → ℕ → Bool
@@ -26,7 +30,7 @@ fits me g Blank w = false
 fits me g Ready w = not (hasTime w)
 fits me g Delayed w = hasTime w
 fits me g (Queued q) w = calls g (q .entry) && not (accepts (g .place) (q .entry))
-fits me g (Held m) w = calls g (m .entry) && not (hasTime w)
+fits me g (Held m) w = calls g (m .entry) && not (hasTime w) && isPriority (m .kept)
 fits me g (Accepting o) w = ltb (o .opens) (2 ^ (me .entries)) && (ltb 0 (o .opens) || hasTime w)
 fits me g Completed w = not (hasTime w)
 
@@ -35,9 +39,9 @@ abbrev pub timeInRange : ℕ → Timer → Bool
 timeInRange now Off = true
 timeInRange now (Due d) = ltb 0 (ticksLeft now (Due d)) && leb (ticksLeft now (Due d)) 2147483647 && ltb d 4294967296
 
--- a task in range, that stands where it may with its time; g is the task that it has called
+-- a task in range, its current priority too, that stands where it may with its time; g is the task that it has called
 abbrev pub goodTask : ℕ → Task → Task → Bool
-goodTask now me g = inRange (me .priority) (me .entries) && fits me g (me .place) (me .timer) && timeInRange now (me .timer)
+goodTask now me g = inRange (me .priority) (me .entries) && fits me g (me .place) (me .timer) && timeInRange now (me .timer) && isPriority (me .current)
 
 -- task t is good, and stands once in the line of its place, once in the delay queue if it has a time, and nowhere else
 abbrev pub standsRight : State → ℕ → Bool

@@ -10,7 +10,7 @@ use lib.ListN.{length, getD}
 use lib.Dec.{eqb, leb}
 use Rattle.lists.specs.Lists.{bit, count, inOrder}
 use Rattle.lists.specs.Line.{line}
-use Rattle.rules.specs.State.{State, blank, taskOf, placeOf, timerOf, priorityOf, created, isReady, isQueued, isHeld, hasTime, opens, queue, heldBy, level, left, ticksLeft}
+use Rattle.rules.specs.State.{State, blank, taskOf, placeOf, timerOf, priorityOf, currentOf, created, isReady, isQueued, isHeld, hasTime, opens, queue, heldBy, level, left, ticksLeft}
 use Rattle.rules.specs.Sound.{sound}
 use Rattle.rules.specs.Whole.{view, isBlank, soundWhole}
 use Rattle.rules.specs.declared.Timer.the-variants.{Due}
@@ -20,6 +20,10 @@ use Rattle.rules.specs.declared.Offer.{Offer}
 use Rattle.rules.specs.declared.Place.{Place}
 use Rattle.rules.specs.declared.Place.the-variants.{Blank, Ready, Delayed, Queued, Held, Accepting, Completed}
 use Rattle.rules.specs.declared.Supervisor.{Supervisor}
+
+-- a priority is 1 to 15
+abbrev pub Priority : ℕ → Type 0
+Priority p = (1 ≤ p) × (p ≤ 15)
 
 -- t is the number of a created task
 abbrev pub Created : State → ℕ → Type 0
@@ -52,7 +56,7 @@ pub record SoundFacts (s : State) : Type 0 where
   -- the tasks are 1..n, n at most 31
   pub at-most-31 : created s ≤ 31
   -- with priority and entry count in range
-  pub priorities : (t : ℕ) → Created s t → (1 ≤ priorityOf s t) × (priorityOf s t ≤ 15)
+  pub priorities : (t : ℕ) → Created s t → Priority (priorityOf s t)
   pub entry-counts : (t : ℕ) → Created s t → taskOf s t .entries ≤ 8
   -- each created task is ready, delayed, queued on an entry, held in a rendezvous, waiting to accept, or completed
   pub one-of-six : (t : ℕ) → Created s t → isBlank (placeOf s t) ≡ false
@@ -60,8 +64,11 @@ pub record SoundFacts (s : State) : Type 0 where
   pub ready : (t : ℕ) → count t (s .ready) ≡ bit (isReady (placeOf s t))
   pub queued : (t : ℕ) → count t (s .callers) ≡ bit (isQueued (placeOf s t))
   pub held : (t : ℕ) → count t (s .held) ≡ bit (isHeld (placeOf s t))
-  -- a ready one in the queue of its own priority
-  pub own-level : (t p : ℕ) → count t (level s p) ≡ bit (isReady (placeOf s t) && eqb (priorityOf s t) p)
+  -- a ready one in the queue of its current priority
+  pub own-level : (t p : ℕ) → count t (level s p) ≡ bit (isReady (placeOf s t) && eqb (currentOf s t) p)
+  -- current and kept ones in 1..15
+  pub current : (t : ℕ) → Created s t → Priority (currentOf s t)
+  pub kept : (c : ℕ) (m : Meeting) → placeOf s c ≡ Held m → Priority (m .kept)
   -- a completed task holds nobody and has nobody queued
   pub holds-nobody : (t : ℕ) → placeOf s t ≡ Completed → heldBy s t ≡ []
   pub nobody-queued : (t e : ℕ) → placeOf s t ≡ Completed → queue s t e ≡ []

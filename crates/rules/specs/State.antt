@@ -7,7 +7,7 @@ use mathlib.Core.Bool.{Bool, true, false, _&&_}
 use mathlib.Core.List.{List, [], _∷_, _++_}
 use lib.ListN.{length, getD, set}
 use lib.Dec.{eqb, ltb, leb}
-use Rattle.lists.specs.Lists.{filter, remove, rejoin, insert}
+use Rattle.lists.specs.Lists.{if_then_else_, filter, remove, rejoin, toHead, insert}
 use Rattle.rules.specs.declared.Task.{Task}
 use Rattle.rules.specs.declared.Timer.{Timer}
 use Rattle.rules.specs.declared.Timer.the-variants.{Off, Due}
@@ -35,7 +35,7 @@ pub record State : Type 0 where
 
 -- an unused place for a task
 abbrev pub blank : Task
-blank = record { priority = 0; entries = 0; place = Blank; timer = Off }
+blank = record { priority = 0; current = 0; entries = 0; place = Blank; timer = Off }
 
 -- task t; a blank one for 0 and for a number that was never given
 abbrev pub nth : List Task → ℕ → Task
@@ -63,6 +63,10 @@ timerOf s t = taskOf s t .timer
 abbrev pub priorityOf : State → ℕ → ℕ
 priorityOf s t = taskOf s t .priority
 
+-- the current priority of task t: its level where it is ready
+abbrev pub currentOf : State → ℕ → ℕ
+currentOf s t = taskOf s t .current
+
 -- how many tasks have been created: they are 1..created
 abbrev pub created : State → ℕ
 created s = length (s .tasks)
@@ -77,7 +81,7 @@ hasEntry x e = ltb 0 e && leb e (x .entries)
 
 -- ── places ──
 
--- ready, in the queue of its own priority
+-- ready, in the queue of its current priority
 abbrev pub isReady : Place → Bool
 isReady Blank = false
 isReady Ready = true
@@ -137,6 +141,16 @@ entryOf (Held m) = m .entry
 entryOf (Accepting o) = 0
 entryOf Completed = 0
 
+-- the current priority that the holder of a held caller had before; 0 of all others
+abbrev pub keptOf : Place → ℕ
+keptOf Blank = 0
+keptOf Ready = 0
+keptOf Delayed = 0
+keptOf (Queued q) = 0
+keptOf (Held m) = m .kept
+keptOf (Accepting o) = 0
+keptOf Completed = 0
+
 -- entry e is in the open set: bit e - 1; there is no entry 0
 abbrev pub opens : ℕ → ℕ → Bool
 opens o zero = false
@@ -167,9 +181,9 @@ waitsOn s t e c = isQueued (placeOf s c) && eqb (partnerOf (placeOf s c)) t && e
 abbrev pub holds : State → ℕ → ℕ → Bool
 holds s g c = isHeld (placeOf s c) && eqb (partnerOf (placeOf s c)) g
 
--- task t is of priority p
+-- task t is of the current priority p
 abbrev pub atLevel : State → ℕ → ℕ → Bool
-atLevel s p t = eqb (priorityOf s t) p
+atLevel s p t = eqb (currentOf s t) p
 
 -- the queue of entry e of task t
 abbrev pub queue : State → ℕ → ℕ → List ℕ
@@ -220,11 +234,11 @@ retime now tasks (Due d) t l = insert (λ x. ltb (left now d) (ticksLeft now (nt
 
 -- a task in another place, with another time
 abbrev pub placed : Task → Place → Timer → Task
-placed x p w = record { priority = x .priority; entries = x .entries; place = p; timer = w }
+placed x p w = record { priority = x .priority; current = x .current; entries = x .entries; place = p; timer = w }
 
 -- a new task: ready, with priority p and n entries
 abbrev pub fresh : ℕ → ℕ → Task
-fresh p n = record { priority = p; entries = n; place = Ready; timer = Off }
+fresh p n = record { priority = p; current = p; entries = n; place = Ready; timer = Off }
 
 -- task t goes to place p with the time w: it leaves the lines in which it stands, and joins the end of the line of its new place
 abbrev pub move : State → ℕ → Place → Timer → State
@@ -254,17 +268,41 @@ waiting g e = record { target = g; entry = e }
 abbrev pub offer : ℕ → Offer
 offer o = record { opens = o }
 
--- the rendezvous of a caller of entry e with g
-abbrev pub meeting : ℕ → ℕ → Meeting
-meeting g e = record { holder = g; entry = e }
+-- ── the one way in which a task changes its current priority ──
 
--- the rendezvous of g with its caller c at entry e begins: c is held by g, its time is dropped
+-- a task with another current priority
+abbrev pub ranked : Task → ℕ → Task
+ranked x n = record { priority = x .priority; current = n; entries = x .entries; place = x .place; timer = x .timer }
+
+-- task t's current priority becomes n: one that is lowered goes to the head of its new level, any other keeps its place
+abbrev pub rank : State → ℕ → ℕ → State
+rank s t n = record {
+  clock = s .clock;
+  tasks = setNth (s .tasks) t (ranked (taskOf s t) n);
+  ready = if ltb n (currentOf s t) then toHead t (s .ready) else s .ready;
+  callers = s .callers;
+  held = s .held;
+  delays = s .delays;
+}
+
+-- ── a rendezvous ──
+
+-- the higher of two priorities
+abbrev pub higher : ℕ → ℕ → ℕ
+higher a b = if ltb a b then b else a
+
+-- the rendezvous of a caller of entry e with g, whose current priority was k
+abbrev pub meeting : ℕ → ℕ → ℕ → Meeting
+meeting g e k = record { holder = g; entry = e; kept = k }
+
+-- the rendezvous of g with its caller c at entry e begins: g's current priority becomes the higher of its own and c's; c is held by g,
+-- with what g's was before, and its time is dropped
 abbrev pub meet : State → ℕ → ℕ → ℕ → State
-meet s g c e = move s c (Held (meeting g e)) Off
+meet s g c e = move (rank s g (higher (currentOf s g) (currentOf s c))) c (Held (meeting g e (currentOf s g))) Off
 
--- the rendezvous of a caller c ends: it becomes ready
-abbrev pub part : State → ℕ → State
-part s c = wake s c
+-- the rendezvous of g with its caller c ends: g's current priority is put back to what it was before, and c becomes ready
+abbrev pub part : State → ℕ → ℕ → State
+part s g c = wake (rank s g (keptOf (placeOf s c))) c
 
 -- a new ready task
 abbrev pub add : State → ℕ → ℕ → State

@@ -177,10 +177,10 @@ select s t o m =
 
 -- ── END, FINISH, TICK ──
 
--- c, if it is not 0, becomes ready with SERVED
+-- c, if it is not 0, becomes ready with SERVED, and t's current priority is what it was before
 abbrev pub endLast : State → ℕ → ℕ → Outcome
 endLast s t zero = refused NOT-SERVING
-endLast s t (suc c) = took (part s (suc c)) (item t DONE 0 0) (item (suc c) SERVED (entryOf (placeOf s (suc c))) t ∷ [])
+endLast s t (suc c) = took (part s t (suc c)) (item t DONE 0 0) (item (suc c) SERVED (entryOf (placeOf s (suc c))) t ∷ [])
 
 -- END: the caller held last becomes ready with SERVED
 abbrev pub end : State → ℕ → Outcome

@@ -12,10 +12,11 @@ pub struct Waiting {
     pub entry: u8,
 }
 
-// A caller in a rendezvous: who holds it, and at which entry.
+// A caller in a rendezvous: who holds it, at which entry, and what the holder's current priority was before.
 pub struct Meeting {
     pub holder: u8,
     pub entry: u8,
+    pub kept: u8,
 }
 
 // A task that waits to accept: the set of its open entries.
@@ -33,8 +34,10 @@ pub enum Place {
     Completed,
 }
 
+// A task: the priority with which it was created, the current one, its entries, its place and its time.
 pub struct Task {
     pub priority: u8,
+    pub current: u8,
     pub entries: u8,
     pub place: Place,
     pub timer: Timer,

@@ -8,6 +8,7 @@ use rules::Timer;
 use table::place::accepts_at;
 use table::place::has_time;
 use table::place::in_range;
+use table::place::is_between;
 use table::place::is_completed;
 use table::place::is_too_wide;
 
@@ -25,7 +26,7 @@ pub fn is_unused(x: Task) -> bool
 {
     let p = x.place;
     let w = x.timer;
-    (x.priority == 0) & (x.entries == 0) & is_blank(p) & !has_time(w)
+    (x.priority == 0) & (x.entries == 0) & is_blank(p) & !has_time(w) & (x.current == 0)
 }
 
 // Whether e is an entry of the called task g.
@@ -49,7 +50,7 @@ fn is_fit(me: Task, g: Task, p: Place, w: Timer) -> bool
             let q = g.place;
             calls_entry(g, a.entry) & !accepts_at(q, a.entry)
         }
-        Place::Held(m) => calls_entry(g, m.entry) & !timed,
+        Place::Held(m) => calls_entry(g, m.entry) & !timed & is_between(m.kept, 15),
         Place::Accepting(o) => !is_too_wide(o.opens, n) & ((0 < o.opens) | timed),
         Place::Completed => !timed,
     }
@@ -73,5 +74,8 @@ pub fn is_good(now: u32, me: Task, g: Task) -> bool
 {
     let p = me.place;
     let w = me.timer;
-    in_range(me.priority, me.entries) & is_fit(me, g, p, w) & is_in_time(now, w)
+    in_range(me.priority, me.entries)
+        & is_fit(me, g, p, w)
+        & is_in_time(now, w)
+        & is_between(me.current, 15)
 }

@@ -1,6 +1,6 @@
 -- CALL.
 -- Assumes nothing.
-use Prim.Native.Nat.{ℕ, zero, suc, _≤_}
+use Prim.Native.Nat.{ℕ, zero, suc, _≤_, _<_}
 use mathlib.Core.Path.{_≡_, refl, _∙_}
 use mathlib.Core.Bool.{Bool, true, false, not, _&&_}
 use mathlib.Core.List.{[], _∷_}
@@ -9,14 +9,14 @@ use lib.Dec.{ltb, leb}
 use lib.ListN.{length}
 use borrow.Author.Tests.{not-true, not-false}
 use Rattle.lists.proofs.Tests.{between}
-use Rattle.rules.specs.State.{State, created, taskOf, wake, running, after, isTask, hasEntry, placeOf, isCompleted, accepts, meeting, meet}
+use Rattle.rules.specs.State.{State, created, taskOf, wake, running, after, isTask, hasEntry, placeOf, isCompleted, accepts, meet}
 use Rattle.rules.specs.Step.{refused, took, NO-TASK, NO-TARGET, NO-ENTRY, item, WAITS, CALL-EXPIRED, TASKING-ERROR, ACCEPTED, ticks, enqueue, timedCall, callBusy, call, takeCall}
 use Rattle.rules.specs.Sound.{sound}
 use Rattle.lists.specs.Lists.{remove}
 use Rattle.rules.specs.Callers.{withCallers}
 use Rattle.rules.specs.Whole.{viewCore, packCore}
 use Rattle.rules.specs.declared.Core.{Core}
-use Rattle.rules.specs.declared.Place.the-variants.{Ready, Held}
+use Rattle.rules.specs.declared.Place.the-variants.{Ready}
 use Rattle.rules.specs.declared.Timer.the-variants.{Off, Due}
 use Rattle.calls.specs.declared.Call.the-variants.{Call}
 use lib.IntN.{ℤ}
@@ -26,7 +26,7 @@ use Rattle.rules.specs.declared.Timer.{Timer}
 use Rattle.rules.proofs.MoveLaws.{wake-sound, length-move}
 use Rattle.table.specs.Moved.{movedOf, metOf}
 use Rattle.steps.specs.Taken.{Stands, endedBy}
-use Rattle.steps.proofs.MoveLaws.{moved-packed, moved-state, created-is}
+use Rattle.steps.proofs.MoveLaws.{moved-packed, met-state, created-is}
 use Rattle.steps.proofs.AnswerLaws.{no-runner, of-runner}
 
 module _ (v : State) (t g e : ℕ) (m : CallMode) (run : t ≡ running v) where
@@ -84,9 +84,10 @@ quiet-busy v t g e (Timed d) = go (ticks d)
 quiet-busy v t g e Conditional = refl
 
 -- two moves, one after the other
-pub woken-met : (s n k : Core) (g t e : ℕ) → Stands s → isTask (viewCore s) g ≡ true → t ≤ length (viewCore s .tasks) → n ≡ movedOf s g Ready Off → k ≡ metOf n g t e
+pub woken-met : (s n k : Core) (g t e : ℕ) → Stands s → isTask (viewCore s) g ≡ true → 0 < t → t ≤ length (viewCore s .tasks) → n ≡ movedOf s g Ready Off → k ≡ metOf n g t e
     → k ≡ packCore (meet (wake (viewCore s) g) g t e)
-woken-met s n k g t e h q b en ek =
+woken-met s n k g t e h q a b en ek =
     let v = viewCore s in
     let i = between g (created v) q in
-    ek ∙ moved-state n (wake v g) (remove g (h .callers)) t (Held (meeting g e)) Off (en ∙ moved-packed s g Ready Off h (i .1)) (wake-sound (withCallers v (h .callers)) g (i .0) (i .1) (h .sound)) (omega (arith, b, length-move v g Ready Off))
+    ek ∙ met-state n (wake v g) (remove g (h .callers)) g t e (en ∙ moved-packed s g Ready Off h (i .1)) (wake-sound (withCallers v (h .callers)) g (i .0) (i .1) (h .sound))
+    (i .0) (omega (arith, i .1, length-move v g Ready Off)) a (omega (arith, b, length-move v g Ready Off))

@@ -1,6 +1,6 @@
 -- SELECT.
 -- Assumes nothing.
-use Prim.Native.Nat.{ℕ, zero, suc, _≤_, _^_}
+use Prim.Native.Nat.{ℕ, zero, suc, _≤_, _^_, _<_}
 use mathlib.Core.Path.{_≡_, refl, sym}
 use mathlib.Core.Bool.{true, false}
 use mathlib.Core.List.{[]}
@@ -42,11 +42,11 @@ module _ (v : State) (t o : ℕ) (m : SelectMode) where
       go zero k z f = absurd (z refl)
       go (suc e) k z f = rw f
 
-pub first-fits : (v : State) (t o e k : ℕ) → e ≡ openEntry v t o → (e ≡ 0 → ⊥) → k ≡ first (queue v t e) → k ≤ length (v .tasks)
+pub first-fits : (v : State) (t o e k : ℕ) → e ≡ openEntry v t o → (e ≡ 0 → ⊥) → k ≡ first (queue v t e) → (0 < k) × (k ≤ length (v .tasks))
 first-fits v t o zero k i z f = absurd (z refl)
 first-fits v t o (suc e) k i z f =
     let q = caller-taken v t o e (sym i) in
-    rw f (queued-there v (first (queue v t (suc e))) (q .0) (q .1) .1)
+    rw f (queued-there v (first (queue v t (suc e))) (q .0) (q .1))
 
 module _ (v : State) (t o : ℕ) (d : ℤ) (n : ℕ) (is : n ≡ ticks d) where
   pub select-now : n ≡ 0 → selectNone v t o (S.Delay d) ≡ took v (item t DELAY-TAKEN 0 0) []

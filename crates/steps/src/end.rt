@@ -50,6 +50,6 @@ pub fn end(s: Core, room: &mut [u8]) -> Taken
             partner: t,
         },
     );
-    let n = parted(s, k);
+    let n = parted(s, t, k);
     answered(n, t, DONE, 0, 0, 1)
 }

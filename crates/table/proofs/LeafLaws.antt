@@ -16,17 +16,17 @@ use Rattle.lists.proofs.LineLaws.{left-over, line-picked}
 use Rattle.lists.proofs.MarkLaws.{insert-by}
 use Rattle.lists.specs.Lists.{if_then_else_, bit, remove, rejoin}
 use Rattle.lists.specs.Marks.{noMarks, markOf, marked, withMark, insertBy}
-use Rattle.rules.specs.State.{blank, nth, setNth, taskOf, isReady, isQueued, isHeld, retime, ticksLeft, placed}
+use Rattle.rules.specs.State.{blank, nth, setNth, taskOf, isReady, isHeld, keptOf, retime, ticksLeft, placed, ranked, higher, meeting}
 use Rattle.rules.specs.Callers.{queuedIn}
 use Rattle.rules.specs.Whole.{viewCore}
 use Rattle.rules.specs.declared.Core.{Core}
 use Rattle.rules.specs.declared.Place.{Place}
 use Rattle.rules.specs.declared.Timer.{Timer}
 use Rattle.rules.specs.declared.Timer.the-variants.{Off, Due}
-use Rattle.rules.specs.declared.Place.the-variants.{Ready}
+use Rattle.rules.specs.declared.Place.the-variants.{Ready, Held}
 use Rattle.rules.specs.declared.Task.{Task}
 use Rattle.rules.proofs.Members.{nth-beyond}
-use Rattle.table.specs.Moved.{withTasks, withTask, movedOf, readiedTask, readiedOf, wokenOf, leftOf}
+use Rattle.table.specs.Moved.{withTasks, withTask, movedOf, changedTask, readiedOf, wokenOf, readyRanked, rankedOf, metOf, partedOf, leftOf}
 use Rattle.table.specs.Numbers.{isNumber, indexOf, shownOf}
 
 -- ---- the table
@@ -97,6 +97,23 @@ put-back ts t x l =
     (λ r. rw (p, r) (set-getD ts 0 blank ∙ set-beyond ts x t (omega (arith, leb-false t 31 r, l)))))
     (λ p. let z : t ≡ 0 = omega (arith, ltb-false 0 t p) in rw (p, z) (set-getD ts 0 blank))
 
+-- what stands at the place of t as f changes it, from what the code's test says of its number
+module _ (f : Task → Task) (n t : ℕ) (k : Task) where
+  pub changed-in : (b : Bool) (x y : Task) → b ≡ isNumber t → b ≡ true → x ≡ shownOf n t k → y ≡ f x → y ≡ changedTask f n t k
+  changed-in b x y e q ex ey = ey ∙ ap f ex ∙ rw (sym e ∙ q)
+
+  pub changed-out : (b : Bool) → b ≡ isNumber t → b ≡ false → k ≡ changedTask f n t k
+  changed-out b e q = rw (sym e ∙ q)
+
+-- task t, put back into the table as f changes it
+pub changed-put : (f : Task → Task) (s : Core) (t at : ℕ) (z : Task) → length (s .tasks) ≡ 31 → at ≡ indexOf t → z ≡ changedTask f (s .created) t (getD (s .tasks) at blank)
+    → set (s .tasks) at z ≡ setNth (s .tasks) t (f (taskOf (viewCore s) t))
+changed-put f s t at z l ea ez =
+    let back : ℕ → Task = λ i. if isNumber t then f (taskOf (viewCore s) t) else getD (s .tasks) i blank in
+    let e : z ≡ back at =
+    ez ∙ ap (λ (k : Task). if isNumber t then f k else getD (s .tasks) at blank) (shown-at s t at (shownOf (s .created) t (getD (s .tasks) at blank)) l ea refl) in
+    ap (set (s .tasks) at) e ∙ ap (λ (i : ℕ). set (s .tasks) i (back i)) ea ∙ put-back (s .tasks) t (f (taskOf (viewCore s) t)) l
+
 -- ---- the move, from what its parts answer
 
 pub with-out : (s : Core) (t : ℕ) (x : Task) → length (s .tasks) ≡ 31 → isNumber t ≡ false → s ≡ withTask s t x
@@ -112,41 +129,58 @@ retime-due s t d n l keys long k e em q =
     none : (x : ℕ) → 32 ≤ x → leftOf s x ≡ 0
     none x h = ap (λ (y : Task). ticksLeft (s .clock) (y .timer)) (sym (task-out (s .tasks) (s .created) x (omega arith)))
 
--- the place and the time of the task that moves, as a call of `moved` was given them
-module _ {r : Core} (s : Core) (t : ℕ) (p : Place) (w : Timer) where
-  abbrev pub placeGiven : r ≡ movedOf s t p w → Place
-  placeGiven e = p
-
-  abbrev pub timerGiven : r ≡ movedOf s t p w → Timer
-  timerGiven e = w
-
 pub moved-law :
-    (s : Core) (t : ℕ) (p : Place) (w : Timer) (n : Core) (x y : Task) (b1 b3 : Bool) (r h d : List ℕ) → x ≡ taskOf (viewCore s) t → y ≡ placed x p w → n ≡ withTask s t y
-    → b1 ≡ isReady p → b3 ≡ isHeld p
+    (s : Core) (t : ℕ) (p : Place) (w : Timer) (at : ℕ) (y : Task) (b1 b3 : Bool) (r h d : List ℕ) → length (s .tasks) ≡ 31
+    → at ≡ indexOf t → y ≡ changedTask (λ x. placed x p w) (s .created) t (getD (s .tasks) at blank) → b1 ≡ isReady p → b3 ≡ isHeld p
     → r ≡ pad (rejoin b1 t (line (s .ready))) → h ≡ pad (rejoin b3 t (line (s .held))) → d ≡ pad (retime (s .clock) (viewCore s .tasks) w t (line (s .delays)))
-    → record { clock = n .clock; created = n .created; tasks = n .tasks; ready = r; held = h; delays = d }
+    → record { clock = s .clock; created = s .created; tasks = set (s .tasks) at y; ready = r; held = h; delays = d }
     ≡ movedOf s t p w
 unfolding movedOf
-moved-law s t p w n x y b1 b3 r h d ex ey en e1 e3 er eh ed =
-    let g = en ∙ ap (withTask s t) (ey ∙ ap (λ (k : Task). placed k p w) ex) in λ i. record {
-      clock = g i .clock;
-      created = g i .created;
-      tasks = g i .tasks;
-      ready = (er ∙ ap (λ (a : Bool). pad (rejoin a t (line (s .ready)))) e1) i;
-      held = (eh ∙ ap (λ (a : Bool). pad (rejoin a t (line (s .held)))) e3) i;
-      delays = ed i;
-    }
+moved-law s t p w at y b1 b3 r h d l ea ey e1 e3 er eh ed = λ i. record {
+  clock = s .clock;
+  created = s .created;
+  tasks = changed-put (λ x. placed x p w) s t at y l ea ey i;
+  ready = (er ∙ ap (λ (a : Bool). pad (rejoin a t (line (s .ready)))) e1) i;
+  held = (eh ∙ ap (λ (a : Bool). pad (rejoin a t (line (s .held)))) e3) i;
+  delays = ed i;
+}
+
+-- ---- another current priority, and a rendezvous, from what their parts answer
+
+-- the table, the ready line and the others of `movedOf (rankedOf s g n) c p Off`
+pub ranked-moved-law :
+    (s : Core) (g n c : ℕ) (p : Place) (at to : ℕ) (x y z : Task) (b1 b3 : Bool) (k r h d : List ℕ) → length (s .tasks) ≡ 31
+    → at ≡ indexOf g → x ≡ shownOf (s .created) g (getD (s .tasks) at blank) → k ≡ readyRanked (s .ready) g (ltb n (x .current))
+    → y ≡ changedTask (λ v. ranked v n) (s .created) g (getD (s .tasks) at blank)
+    → to ≡ indexOf c → z ≡ changedTask (λ v. placed v p Off) (s .created) c (getD (set (s .tasks) at y) to blank) → b1 ≡ isReady p → b3 ≡ isHeld p
+    → r ≡ pad (rejoin b1 c (line k)) → h ≡ pad (rejoin b3 c (line (s .held))) → d ≡ pad (remove c (line (s .delays)))
+    → record { clock = s .clock; created = s .created; tasks = set (set (s .tasks) at y) to z; ready = r; held = h; delays = d }
+    ≡ movedOf (rankedOf s g n) c p Off
+unfolding movedOf rankedOf
+ranked-moved-law s g n c p at to x y z b1 b3 k r h d l ea ex ek ey eo ez e1 e3 er eh ed = λ i. record {
+  clock = s .clock;
+  created = s .created;
+  tasks = (changed-put (λ v. placed v p Off) (withTasks s (set (s .tasks) at y)) c to z (length-set {A = Task} (s .tasks) at y ∙ l) eo ez
+      ∙ ap (λ (ts : List Task). setNth ts c (placed (nth (take (s .created) ts) c) p Off)) (changed-put (λ v. ranked v n) s g at y l ea ey)) i;
+  ready = (er ∙ λ j. pad (rejoin (e1 j) c (line ((ek ∙ ap (λ (v : Task). readyRanked (s .ready) g (ltb n (v .current))) (shown-at s g at x l ea ex)) j)))) i;
+  held = (eh ∙ ap (λ (a : Bool). pad (rejoin a c (line (s .held)))) e3) i;
+  delays = ed i;
+}
+
+-- the place of the caller, as the function that changes both was given it
+abbrev pub placeGiven : {r : Core} (s : Core) (g n c : ℕ) (p : Place) → r ≡ movedOf (rankedOf s g n) c p Off → Place
+placeGiven s g n c p e = p
+
+pub met-law : (s : Core) (g c e : ℕ) (r : Core) (x y : Task) (n : ℕ) (p : Place) → x ≡ taskOf (viewCore s) g → y ≡ taskOf (viewCore s) c → n ≡ higher (x .current) (y .current)
+    → p ≡ Held (meeting g e (x .current)) → r ≡ movedOf (rankedOf s g n) c p Off → r ≡ metOf s g c e
+met-law s g c e r x y n p ex ey en ep er =
+    er ∙ λ i. movedOf (rankedOf s g ((en ∙ λ j. higher (ex j .current) (ey j .current)) i)) c ((ep ∙ ap (λ (z : Task). Held (meeting g e (z .current))) ex) i) Off
+
+pub parted-law : (s : Core) (g c : ℕ) (r : Core) (y : Task) (n : ℕ) (p : Place) → y ≡ taskOf (viewCore s) c → n ≡ keptOf (y .place) → p ≡ Ready
+    → r ≡ movedOf (rankedOf s g n) c p Off → r ≡ partedOf s g c
+parted-law s g c r y n p ey en ep er = er ∙ λ i. movedOf (rankedOf s g ((en ∙ ap (λ (z : Task). keptOf (z .place)) ey) i)) c (ep i) Off
 
 -- ---- all of a line ready
-
--- task t, put back into the table ready and with no time
-pub readied-put : (s : Core) (t at : ℕ) (z : Task) → length (s .tasks) ≡ 31 → at ≡ indexOf t → z ≡ readiedTask (s .created) t (getD (s .tasks) at blank)
-    → set (s .tasks) at z ≡ setNth (s .tasks) t (placed (taskOf (viewCore s) t) Ready Off)
-readied-put s t at z l ea ez =
-    let back : ℕ → Task = λ i. if isNumber t then placed (taskOf (viewCore s) t) Ready Off else getD (s .tasks) i blank in
-    let f : z ≡ back at =
-    ez ∙ ap (λ (k : Task). if isNumber t then placed k Ready Off else getD (s .tasks) at blank) (shown-at s t at (shownOf (s .created) t (getD (s .tasks) at blank)) l ea refl) in
-    ap (set (s .tasks) at) f ∙ ap (λ (i : ℕ). set (s .tasks) i (back i)) ea ∙ put-back (s .tasks) t (placed (taskOf (viewCore s) t) Ready Off) l
 
 -- one turn: the next of the list is ready in the table
 pub readied-on : (n : Core) (t : ℕ) (xs ys : List ℕ) (ts : List Task) → xs ≡ t ∷ ys → ts ≡ setNth (n .tasks) t (placed (taskOf (viewCore n) t) Ready Off)

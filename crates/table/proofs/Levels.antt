@@ -10,7 +10,7 @@ use lib.ListN.{length, getD, take}
 use borrow.Author.Tests.{ne-eqb, eqb-true, eqb-false, le-leb, lt-leb, lt-ltb, le-ltb, leb-true, leb-false, ltb-true, ltb-false}
 use Rattle.lists.specs.Lists.{if_then_else_, filter}
 use Rattle.lists.proofs.ListLaws.{by-bool}
-use Rattle.rules.specs.State.{State, blank, nth, level, headUpTo, priorityOf, running}
+use Rattle.rules.specs.State.{State, blank, nth, level, headUpTo, currentOf, running}
 use Rattle.rules.specs.Whole.{viewCore}
 use Rattle.rules.specs.declared.Core.{Core}
 use Rattle.table.specs.Best.{bestOf, betterOf, lastOf, levelOf}
@@ -70,7 +70,7 @@ module _ (f : ℕ → ℕ) where
       (λ y. on b (rw (e, y)) ∙ sym (skip x l (b .priority) 15 (b .task) (λ q a c z. omega (arith, ltb-false (b .priority) (f x) y)))))
       (λ e. on b (rw (e, le-ltb (b .priority) 0 (omega arith))) ∙ sym (skip x l (b .priority) 15 (b .task) (λ q a c z. omega (arith, leb-false (f x) 15 e))))
 
-from-zero : (s : State) (p : ℕ) → headIn (priorityOf s) (s .ready) 0 p 0 ≡ headUpTo s p
+from-zero : (s : State) (p : ℕ) → headIn (currentOf s) (s .ready) 0 p 0 ≡ headUpTo s p
 from-zero s zero = refl
 from-zero s (suc p) = rw (lt-leb (suc p) 0 (omega arith), from-zero s p) (go (level s (suc p)))
   where
@@ -78,9 +78,9 @@ from-zero s (suc p) = rw (lt-leb (suc p) 0 (omega arith), from-zero s p) (go (le
     go [] = refl
     go (x ∷ xs) = refl
 
-pub one-pass-running : (s : State) → running s ≡ bestOf (priorityOf s) (record { task = 0; priority = 0 }) (s .ready) .task
+pub one-pass-running : (s : State) → running s ≡ bestOf (currentOf s) (record { task = 0; priority = 0 }) (s .ready) .task
 unfolding running
-one-pass-running s = sym (one-pass (priorityOf s) (s .ready) (record { task = 0; priority = 0 }) ∙ from-zero s 15)
+one-pass-running s = sym (one-pass (currentOf s) (s .ready) (record { task = 0; priority = 0 }) ∙ from-zero s 15)
 
 -- ── one turn ──
 
@@ -96,20 +96,20 @@ last-low n = by-bool (leb n 31) (λ e. rw e (omega arith, leb-true n 31 e)) (λ 
 
 module _ (s : Core) (b : Best) (t n : ℕ) (xs ys : List ℕ) (q : xs ≡ t ∷ ys) where
   -- a task of the table
-  pub best-turn : (c : Best) (p : ℕ) → (t ≡ 0 → ⊥) → n ≡ lastOf (s .created) → t ≤ n → p ≡ getD (s .tasks) (t - 1) blank .priority → c ≡ betterOf b t p
-      → bestOf (priorityOf (viewCore s)) b xs .task ≡ bestOf (priorityOf (viewCore s)) c ys .task
+  pub best-turn : (c : Best) (p : ℕ) → (t ≡ 0 → ⊥) → n ≡ lastOf (s .created) → t ≤ n → p ≡ getD (s .tasks) (t - 1) blank .current → c ≡ betterOf b t p
+      → bestOf (currentOf (viewCore s)) b xs .task ≡ bestOf (currentOf (viewCore s)) c ys .task
   best-turn c p z en h ep ec =
       let k = last-low (s .created) in
       let x = task-in (s .tasks) (s .created) t z (omega arith) in
-      let e : betterOf b t (priorityOf (viewCore s) t) ≡ c = sym (ec ∙ ap (betterOf b t) (ep ∙ ap (λ (y : Task). y .priority) x)) in
-      rw q (ap (λ (a : Best). bestOf (priorityOf (viewCore s)) a ys .task) e)
+      let e : betterOf b t (currentOf (viewCore s) t) ≡ c = sym (ec ∙ ap (betterOf b t) (ep ∙ ap (λ (y : Task). y .current) x)) in
+      rw q (ap (λ (a : Best). bestOf (currentOf (viewCore s)) a ys .task) e)
 
   -- a number that no task has
-  pub best-skip : length (s .tasks) ≡ 31 → n ≡ lastOf (s .created) → n < t → bestOf (priorityOf (viewCore s)) b xs .task ≡ bestOf (priorityOf (viewCore s)) b ys .task
+  pub best-skip : length (s .tasks) ≡ 31 → n ≡ lastOf (s .created) → n < t → bestOf (currentOf (viewCore s)) b xs .task ≡ bestOf (currentOf (viewCore s)) b ys .task
   best-skip l en h =
       let x : blank ≡ nth (take (s .created) (s .tasks)) t =
       by-bool (leb (s .created) 31)
       (λ e. task-past (s .tasks) (s .created) t (omega (arith, rw e at en)))
       (λ e. task-out (s .tasks) (s .created) t (omega (arith, rw e at en, l))) in
-      let e : betterOf b t (priorityOf (viewCore s) t) ≡ b = ap (λ (y : Task). betterOf b t (y .priority)) (sym x) ∙ rw (le-ltb (b .priority) 0 (omega arith)) in
-      rw q (ap (λ (a : Best). bestOf (priorityOf (viewCore s)) a ys .task) e)
+      let e : betterOf b t (currentOf (viewCore s) t) ≡ b = ap (λ (y : Task). betterOf b t (y .current)) (sym x) ∙ rw (le-ltb (b .priority) 0 (omega arith)) in
+      rw q (ap (λ (a : Best). bestOf (currentOf (viewCore s)) a ys .task) e)

@@ -11,7 +11,7 @@ use mir.Val.{hasKey}
 use Rattle.lists.specs.Lists.{if_then_else_}
 use Rattle.lists.proofs.ListLaws.{by-bool}
 use Rattle.rules.proofs.Place.{the-type}
-use Rattle.rules.specs.State.{isReady, isQueued, isHeld, isCompleted, partnerOf, entryOf, accepts}
+use Rattle.rules.specs.State.{isReady, isQueued, isHeld, isCompleted, partnerOf, entryOf, keptOf, accepts}
 use Rattle.rules.specs.Step.{expiry}
 use Rattle.rules.specs.declared.Waiting.{Waiting}
 use Rattle.rules.specs.declared.Meeting.{Meeting}
@@ -62,6 +62,9 @@ calls-nobody = in-arm partnerOf 0 (0 ∷ 1 ∷ 2 ∷ 5 ∷ 6 ∷ []) refl refl r
 
 pub calls-nothing : (p : Place) → Among (0 ∷ 1 ∷ 2 ∷ 5 ∷ 6 ∷ []) p → 0 ≡ entryOf p
 calls-nothing = in-arm entryOf 0 (0 ∷ 1 ∷ 2 ∷ 5 ∷ 6 ∷ []) refl refl refl tt tt (λ o. refl) refl
+
+pub keeps-nothing : (p : Place) → Among (0 ∷ 1 ∷ 2 ∷ 3 ∷ 5 ∷ 6 ∷ []) p → 0 ≡ keptOf p
+keeps-nothing = in-arm keptOf 0 (0 ∷ 1 ∷ 2 ∷ 3 ∷ 5 ∷ 6 ∷ []) refl refl refl (λ q. refl) tt (λ o. refl) refl
 
 pub no-expiry : (p : Place) → Among (0 ∷ 1 ∷ 4 ∷ 6 ∷ []) p → 0 ≡ expiry p
 no-expiry = in-arm expiry 0 (0 ∷ 1 ∷ 4 ∷ 6 ∷ []) refl refl tt tt (λ m. refl) tt refl

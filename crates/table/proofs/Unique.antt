@@ -13,9 +13,11 @@ use Rattle.table.proofs.place.is_held.Reads as is-held
 use Rattle.table.proofs.place.is_completed.Reads as is-completed
 use Rattle.table.proofs.place.partner_of.Reads as partner-of
 use Rattle.table.proofs.place.entry_of.Reads as entry-of
+use Rattle.table.proofs.place.kept_of.Reads as kept-of
 use Rattle.table.proofs.place.expiry_of.Reads as expiry-of
 use Rattle.table.proofs.place.has_time.Reads as has-time
 use Rattle.table.proofs.place.ticks_left.Reads as ticks-left
+use Rattle.table.proofs.place.higher_of.Reads as higher-of
 use Rattle.table.proofs.place.is_between.Reads as is-between
 use Rattle.table.proofs.place.in_range.Reads as in-range
 use Rattle.table.proofs.place.is_open.Reads as is-open
@@ -25,6 +27,7 @@ use Rattle.table.proofs.queues.picked.Reads as picked
 use Rattle.table.proofs.tasks.blank_task.Reads as blank-task
 use Rattle.table.proofs.tasks.fresh_task.Reads as fresh-task
 use Rattle.table.proofs.tasks.placed_at.Reads as placed-at
+use Rattle.table.proofs.tasks.ranked_at.Reads as ranked-at
 use Rattle.table.proofs.tasks.index_of.Reads as index-of
 use Rattle.table.proofs.tasks.shown.Reads as shown
 use Rattle.table.proofs.tasks.left_of.Reads as left-of
@@ -70,6 +73,9 @@ partner-of-once κs x r r′ y y′ p q = p ∙ sym q
 pub entry-of-once : Once entry-of.Learnt
 entry-of-once κs x r r′ y y′ p q = p ∙ sym q
 
+pub kept-of-once : Once kept-of.Learnt
+kept-of-once κs x r r′ y y′ p q = p ∙ sym q
+
 pub expiry-of-once : Once expiry-of.Learnt
 expiry-of-once κs x r r′ y y′ p q = p ∙ sym q
 
@@ -78,6 +84,9 @@ has-time-once κs x r r′ y y′ p q = p ∙ sym q
 
 pub ticks-left-once : Once ticks-left.Learnt
 ticks-left-once κs x r r′ y y′ p q = p ∙ sym q
+
+pub higher-of-once : Once higher-of.Learnt
+higher-of-once κs x r r′ y y′ p q = p ∙ sym q
 
 pub is-between-once : Once is-between.Learnt
 is-between-once κs x r r′ y y′ p q = p ∙ sym q
@@ -109,6 +118,9 @@ fresh-task-once κs x r r′ y y′ p q = p ∙ sym q
 
 pub placed-at-once : Once placed-at.Learnt
 placed-at-once κs x r r′ y y′ p q = p ∙ sym q
+
+pub ranked-at-once : Once ranked-at.Learnt
+ranked-at-once κs x r r′ y y′ p q = p ∙ sym q
 
 pub index-of-once : Once index-of.Learnt
 index-of-once κs x r r′ y y′ p q = p .0 ∙ sym (q .0)

@@ -14,7 +14,7 @@ lastOf n = if leb n 31 then n else 31
 abbrev pub levelOf : ℕ → ℕ
 levelOf p = if leb p 15 then p else 0
 
--- the better of one and the next, whose priority is p: the first of the highest level
+-- the better of one and the next, whose current priority is p: the first of the highest level
 abbrev pub betterOf : Best → ℕ → ℕ → Best
 betterOf b t p = if ltb (b .priority) (levelOf p) then record { task = t; priority = levelOf p } else b
 

@@ -3,11 +3,11 @@
 use Prim.Native.Nat.{ℕ}
 use mathlib.Core.Bool.{Bool, _&&_}
 use mathlib.Core.List.{List, [], _∷_, _++_}
-use lib.Dec.{eqb}
+use lib.Dec.{eqb, ltb}
 use Rattle.lists.specs.Line.{line, pad}
-use Rattle.lists.specs.Lists.{if_then_else_, rejoin}
+use Rattle.lists.specs.Lists.{if_then_else_, rejoin, toHead}
 use Rattle.lists.specs.Marks.{noMarks, marked, withMark}
-use Rattle.rules.specs.State.{State, setNth, taskOf, timerOf, isReady, isQueued, isHeld, ticksLeft, retime, placed, partnerOf, entryOf, meeting}
+use Rattle.rules.specs.State.{State, setNth, taskOf, timerOf, isReady, isQueued, isHeld, ticksLeft, retime, placed, partnerOf, entryOf, meeting, placeOf, currentOf, ranked, keptOf, higher}
 use Rattle.rules.specs.declared.Place.the-variants.{Ready, Held}
 use Rattle.rules.specs.declared.Timer.the-variants.{Off}
 use Rattle.rules.specs.Advance.{comesIn}
@@ -46,9 +46,9 @@ movedOf s t p w = record {
   delays = pad (retime (s .clock) (viewCore s .tasks) w t (line (s .delays)));
 }
 
--- what stands at the place of task t of n when it is ready, with no time, where k stood there; k where t is no task's number
-abbrev pub readiedTask : ℕ → ℕ → Task → Task
-readiedTask n t k = if isNumber t then placed (shownOf n t k) Ready Off else k
+-- what stands at the place of task t of n when f changes it, where k stood there; k where t is no task's number
+abbrev pub changedTask : (Task → Task) → ℕ → ℕ → Task → Task
+changedTask f n t k = if isNumber t then f (shownOf n t k) else k
 
 -- those of the list are ready, with no time, in the table; the lines stay
 abbrev pub readiedOf : Core → List ℕ → Core
@@ -66,12 +66,28 @@ wokenOf s l = record {
   delays = pad (withMark (marked (λ _. 1) l noMarks) 0 (line (s .delays)));
 }
 
+-- the ready line when task t is lowered, or not
+abbrev pub readyRanked : List ℕ → ℕ → Bool → List ℕ
+readyRanked ready t lowered = if lowered then pad (toHead t (line ready)) else ready
+
+-- task t's current priority becomes n, in the struct
+unfoldable pub rankedOf : Core → ℕ → ℕ → Core
+rankedOf s t n = record {
+  clock = s .clock;
+  created = s .created;
+  tasks = setNth (s .tasks) t (ranked (taskOf (viewCore s) t) n);
+  ready = readyRanked (s .ready) t (ltb n (currentOf (viewCore s) t));
+  held = s .held;
+  delays = s .delays;
+}
+
 -- a rendezvous of g with its caller c at entry e begins, and ends, in the struct
 abbrev pub metOf : Core → ℕ → ℕ → ℕ → Core
-metOf s g c e = movedOf s c (Held (meeting g e)) Off
+metOf s g c e =
+    movedOf (rankedOf s g (higher (currentOf (viewCore s) g) (currentOf (viewCore s) c))) c (Held (meeting g e (currentOf (viewCore s) g))) Off
 
-abbrev pub partedOf : Core → ℕ → Core
-partedOf s c = movedOf s c Ready Off
+abbrev pub partedOf : Core → ℕ → ℕ → Core
+partedOf s g c = movedOf (rankedOf s g (keptOf (placeOf (viewCore s) c))) c Ready Off
 
 -- the ticks that task x has left
 abbrev pub leftOf : Core → ℕ → ℕ

@@ -5,7 +5,7 @@ ghost use Rattle.rules.specs.Whole.{viewCore};
 ghost use Rattle.table.specs.Best.{betterOf, lastOf};
 use rules::Core;
 
-// A task and its priority.
+// A task and its current priority.
 pub struct Best {
     pub task: u8,
     pub priority: u8,
@@ -18,7 +18,7 @@ fn last_of(n: u8) -> u8
     if n <= 31 { n } else { 31 }
 }
 
-// The better of one and the next, whose priority is p: the first of the highest level.
+// The better of one and the next, whose current priority is p: the first of the highest level.
 fn better(b: Best, t: u8, p: u8) -> Best
     ensures { λ r. ⌜ r ≡ betterOf b t p ⌝ }
 {
@@ -49,7 +49,7 @@ pub fn running(s: Core) -> u8
         }
         if t <= n {
             let at = (t - 1) as usize;
-            b = better(b, t, s.tasks[at].priority);
+            b = better(b, t, s.tasks[at].current);
         }
     }
     b.task

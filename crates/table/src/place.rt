@@ -4,7 +4,7 @@ ghost use lib.Dec.{ltb, leb};
 ghost use mathlib.Core.Bool.{_&&_};
 ghost use mathlib.Core.Path.{_≡_};
 ghost use Rattle.rules.specs.Sound.{inRange};
-ghost use Rattle.rules.specs.State.{isReady, isQueued, isHeld, isCompleted, partnerOf, entryOf, accepts, opens, hasTime, ticksLeft};
+ghost use Rattle.rules.specs.State.{isReady, isQueued, isHeld, isCompleted, partnerOf, entryOf, keptOf, accepts, opens, hasTime, ticksLeft, higher};
 ghost use Rattle.rules.specs.Step.{expiry};
 use rules::Place;
 use rules::Timer;
@@ -68,6 +68,16 @@ pub fn entry_of(p: Place) -> u8
     }
 }
 
+// What the current priority of the holder of a held caller was before.
+pub fn kept_of(p: Place) -> u8
+    ensures { λ r. ⌜ r ≡ keptOf p ⌝ }
+{
+    match p {
+        Place::Held(m) => m.kept,
+        _ => 0, // who is not held
+    }
+}
+
 // How a wait in this place ends by time.
 pub fn expiry_of(p: Place) -> u8
     ensures { λ r. ⌜ r ≡ expiry p ⌝ }
@@ -97,6 +107,13 @@ pub fn ticks_left(now: u32, w: Timer) -> u32
         Timer::Off => 0,
         Timer::Due(d) => std::num::wrapping_sub_u32(d, now),
     }
+}
+
+// The higher of two priorities.
+pub fn higher_of(a: u8, b: u8) -> u8
+    ensures { λ r. ⌜ r ≡ higher a b ⌝ }
+{
+    if a < b { b } else { a }
 }
 
 // Whether x is one of 1..most.

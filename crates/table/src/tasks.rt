@@ -1,7 +1,7 @@
 // The table of tasks.
 ghost use Prim.Native.Nat.{_<_};
 ghost use mathlib.Core.Path.{_≡_};
-ghost use Rattle.rules.specs.State.{blank, taskOf, fresh, placed, ticksLeft};
+ghost use Rattle.rules.specs.State.{blank, taskOf, fresh, placed, ranked, ticksLeft};
 ghost use Rattle.rules.specs.Whole.{viewCore};
 ghost use Rattle.table.specs.Moved.{withTask};
 ghost use Rattle.table.specs.Numbers.{indexOf, shownOf};
@@ -17,6 +17,7 @@ pub fn blank_task() -> Task
 {
     Task {
         priority: 0,
+        current: 0,
         entries: 0,
         place: Place::Blank,
         timer: Timer::Off,
@@ -28,6 +29,7 @@ pub fn fresh_task(priority: u8, entries: u8) -> Task
 {
     Task {
         priority,
+        current: priority,
         entries,
         place: Place::Ready,
         timer: Timer::Off,
@@ -40,9 +42,25 @@ pub fn placed_at(x: Task, p: Place, w: Timer) -> Task
 {
     Task {
         priority: x.priority,
+        current: x.current,
         entries: x.entries,
         place: p,
         timer: w,
+    }
+}
+
+// The task with another current priority.
+pub fn ranked_at(x: Task, n: u8) -> Task
+    ensures { λ r. ⌜ r ≡ ranked x n ⌝ }
+{
+    let place = x.place;
+    let timer = x.timer;
+    Task {
+        priority: x.priority,
+        current: n,
+        entries: x.entries,
+        place,
+        timer,
     }
 }
 

@@ -6,15 +6,17 @@ use Rattle.codec.proofs.fields_of.Tie as tie
 
 returns : tie.Need-returns
 returns c =
-    let w = c .before .before .before .before .before .before in
+    let w = c .before .before .before .before .before .before .before .before in
     let b = now (w .before .before .before .before .before .before .args .b) in
     λ i. record {
       priority = byte b 0;
-      entries = byte b 1;
-      tag = byte b 2;
-      first = byte b 3;
-      second = byte b 4;
-      timed = byte b 5;
+      current = byte b 1;
+      entries = byte b 2;
+      tag = byte b 3;
+      first = byte b 4;
+      second = byte b 5;
+      kept = byte b 6;
+      timed = byte b 7;
       due = w .word .ensures i;
     }
 
@@ -23,4 +25,4 @@ fields-of-spec =
     tie.close
     (tie.spec (λ c. search needs) (λ c. search needs) (λ c. search needs) (λ c. search needs) (λ c κs. search needs)
     (λ c. search needs) (λ c. search needs) (λ c. search needs) (λ c. search needs) (λ c. search needs) (λ c. search needs)
-    returns)
+    (λ c. search needs) (λ c. search needs) returns)

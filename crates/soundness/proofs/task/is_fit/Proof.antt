@@ -19,7 +19,7 @@ returns-4 : tie.Need-returns-4
 returns-4 c = rw (c .before .before .before .p .given .1) (λ i. c .before .calls-entry .ensures i && not (c .accepts-at .ensures i))
 
 returns-5 : tie.Need-returns-5
-returns-5 c = rw (c .before .before .p2 .given .1) (λ i. c .calls-entry2 .ensures i && not (c .before .before .before .before .has-time .ensures i))
+returns-5 c = rw (c .before .before .before .p2 .given .1) (λ i. (c .before .calls-entry2 .ensures i && not (c .before .before .before .before .before .has-time .ensures i)) && c .is-between .ensures i)
 
 returns-6 : tie.Need-returns-6
 returns-6 c = rw (c .before .before .before .p3 .given .1, c .before .is-too-wide .ensures, not-leb (2 ^ (c .before .before .before .before .before .before .args .me .entries)) (c .before .before .before .p3 .given .0 .0 .opens), c .before .before .before .before .before .has-time .ensures)
@@ -31,6 +31,6 @@ pub is-fit-spec : {M : Type 1} → statement M
 is-fit-spec =
     tie.close
     (tie.spec (λ c κs. search needs) (λ c. search needs) (λ c. search needs) (λ c. search needs) (λ c. search needs)
-    (λ c κs. search needs) (λ c κs. search needs) (λ c. search needs) (λ c κs. search needs) (λ c. search needs)
+    (λ c κs. search needs) (λ c κs. search needs) (λ c. search needs) (λ c κs. search needs) (λ c κs. search needs) (λ c. search needs)
     (λ c κs. search needs) (λ c. search needs) returns returns-2 returns-3 returns-4
     returns-5 returns-6 returns-7)

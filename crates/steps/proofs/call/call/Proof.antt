@@ -83,7 +83,7 @@ answer-here c =
     let a = k .args in
     let v = viewCore (a .s) in
     let t = e1 .before .running .result in
-    let woken = woken-met (a .s) _ _ (a .g) t (a .e) (k .pre .0) (task-here e2) (runs-here e1 .high) (c .before .before .moved .ensures) (c .before .met .ensures) in
+    let woken = woken-met (a .s) _ _ (a .g) t (a .e) (k .pre .0) (task-here e2) (runs-here e1 .low) (runs-here e1 .high) (c .before .before .moved .ensures) (c .before .met .ensures) in
     by-outcome (a .s) (meets-here m) (answers (a .s) (c .before .met .result) (meet (wake v (a .g)) (a .g) t (a .e)) (item t WAITS 0 0) (item (a .g) ACCEPTED (a .e) t ∷ []) (c .answered2 .ensures) woken refl)
 
 written-here : Room (need tie.Need-returns-5)

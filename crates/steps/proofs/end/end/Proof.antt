@@ -7,13 +7,11 @@ use Rattle.rules.specs.State.{entryOf, placeOf, heldBy, part}
 use Rattle.rules.specs.Step.{item, takeCall, took, DONE, SERVED}
 use Rattle.rules.specs.Step as rules
 use Rattle.rules.specs.Whole.{viewCore}
-use Rattle.rules.specs.declared.Place.the-variants.{Ready}
-use Rattle.rules.specs.declared.Timer.the-variants.{Off}
 use Rattle.table.specs.declared.queues.Test.the-variants.{HeldBy}
 use Rattle.lists.proofs.Parts.{need, Answer, Room}
 use Rattle.steps.proofs.MoveLaws.{long-held, picked-line}
-use Rattle.steps.proofs.AnswerLaws.{by-both, by-ended, by-outcome, move-answers}
-use Rattle.steps.proofs.EndLaws.{end-idle, end-runs, end-none, end-one, held-fits}
+use Rattle.steps.proofs.AnswerLaws.{by-both, by-ended, by-outcome, runner}
+use Rattle.steps.proofs.EndLaws.{end-idle, end-runs, end-none, end-one, held-last, parted-answers}
 use Rattle.steps.proofs.end.end.Statement.{statement}
 use Rattle.steps.proofs.end.end.Tie as tie
 
@@ -40,7 +38,7 @@ returns-2 c =
 
 -- the caller held last is served
 serves-here : (c : tie.Else2)
-    → let v = viewCore (c .before .before .before .before .before .before .before .args .s) in let t = c .before .before .before .before .before .running .result in let k = c .before .last-of .result in takeCall v End ≡ took (part v k) (item t DONE 0 0) (item k SERVED (entryOf (placeOf v k)) t ∷ [])
+    → let v = viewCore (c .before .before .before .before .before .before .before .args .s) in let t = c .before .before .before .before .before .running .result in let k = c .before .last-of .result in takeCall v End ≡ took (part v t k) (item t DONE 0 0) (item k SERVED (entryOf (placeOf v k)) t ∷ [])
 serves-here c =
     let e1 = c .before .before .before .before in
     end-here e1 ∙ end-one (viewCore (e1 .before .before .before .args .s)) (e1 .before .running .result) (c .before .last-of .result) (last-here (c .before)) (c .if2 .left)
@@ -55,7 +53,7 @@ answer-here c =
     let t = e1 .before .running .result in
     let k = e2 .before .last-of .result in
     by-outcome s (serves-here e2)
-    (move-answers s (c .before .parted .result) k Ready Off (item t DONE 0 0) (item k SERVED (entryOf (placeOf v k)) t ∷ []) (r .pre .0) (held-fits v t k (last-here (e2 .before)) (e2 .if2 .left)) (c .answered .ensures) (c .before .parted .ensures))
+    (parted-answers s (c .before .parted .result) t k (item t DONE 0 0) (item k SERVED (entryOf (placeOf v k)) t ∷ []) (r .pre .0) (runner s t (r .pre .0) (e1 .before .running .ensures) (e1 .if1 .left)) (held-last v t k (last-here (e2 .before)) (e2 .if2 .left)) (c .answered .ensures) (c .before .parted .ensures))
 
 written-here : Room (need tie.Need-returns-3)
 written-here c = by-ended _ _ (serves-here (c .before .before .before .before .before .before .before .before)) (rw (c .before .before .before .before .before .entry-of .ensures, c .before .before .before .before .before .before .before .task-of .ensures) at (c .before .before .before .before .put .ensures))

@@ -1,14 +1,12 @@
 use borrow.Author.Needs.{needs}
 use Prim.Native.Nat.{_^_}
-use mathlib.Core.Path.{_≡_, sym, ap, _∙_}
+use mathlib.Core.Path.{_≡_, sym, ap, _∙_, refl}
 use mathlib.Core.Bool.{false}
 use mathlib.Core.List.{[]}
 use lib.Dec.{leb}
 use Rattle.calls.specs.declared.Call.the-variants.{Select}
 use Rattle.lists.specs.Lists.{first}
-use Rattle.rules.specs.State.{taskOf, queue, meeting, meet}
-use Rattle.rules.specs.declared.Place.the-variants.{Held}
-use Rattle.rules.specs.declared.Timer.the-variants.{Off}
+use Rattle.rules.specs.State.{taskOf, queue, meet}
 use Rattle.rules.specs.Step.{takeCall, took, item, openEntry, ACCEPTED}
 use Rattle.rules.specs.Step as rules
 use Rattle.lists.specs.Line.{line}
@@ -17,7 +15,8 @@ use Rattle.rules.proofs.Apart.{running-core, same-none}
 use Rattle.rules.specs.Whole.{viewCore}
 use Rattle.rules.proofs.Members.{Runs}
 use Rattle.steps.specs.Taken.{takenOf, seen}
-use Rattle.steps.proofs.AnswerLaws.{by-outcome, by-core, of-task, runner, move-answers}
+use Rattle.steps.proofs.AnswerLaws.{by-outcome, by-core, of-task, runner, answers}
+use Rattle.steps.proofs.MoveLaws.{met-packed}
 use Rattle.steps.proofs.LowestLaws.{lowest-none, lowest-one}
 use Rattle.steps.proofs.SelectLaws.{select-alone, select-runs, select-wide, select-idle, select-takes, first-fits}
 use Rattle.steps.proofs.select.select.Statement.{statement}
@@ -75,7 +74,11 @@ held-here c =
     let t = e1 .before .running .result in
     let b = e3 .before .before .lowest .result in
     let l = lowest-here e3 in
-    move-answers (a .s) (c .before .met .result) (b .task) (Held (meeting t (b .entry))) Off (item t ACCEPTED (b .entry) (b .task)) [] (e1 .before .before .pre .stands) (first-fits (seen (a .s) (a .mine)) t (a .o) (b .entry) (b .task) (l .0) (l .1) (l .2)) (c .answered .ensures) (c .before .met .ensures)
+    let h = e1 .before .before .pre .stands in
+    let r = runs-here e1 in
+    let i = first-fits (seen (a .s) (a .mine)) t (a .o) (b .entry) (b .task) (l .0) (l .1) (l .2) in
+    answers (a .s) (c .before .met .result) (meet (viewCore (a .s)) t (b .task) (b .entry)) (item t ACCEPTED (b .entry) (b .task)) [] (c .answered .ensures)
+    (c .before .met .ensures ∙ met-packed (a .s) t (b .task) h (r .low) (r .high) (i .0) (i .1) (b .entry)) refl
 
 returns-4 : tie.Need-returns-4
 returns-4 c =

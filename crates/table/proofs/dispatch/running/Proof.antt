@@ -7,7 +7,7 @@ use Rattle.lists.specs.Line.{line}
 use Rattle.lists.proofs.Tests.{ways}
 use Rattle.lists.proofs.Turns.{rest-blank, rest-entry, rest-end}
 use Rattle.lists.proofs.ListLaws.{mapped-long}
-use Rattle.rules.specs.State.{running, priorityOf}
+use Rattle.rules.specs.State.{running, currentOf}
 use Rattle.rules.specs.Whole.{viewCore}
 use Rattle.table.specs.Best.{bestOf, lastOf}
 use Rattle.table.proofs.Levels.{one-pass-running, last-low, best-turn, best-skip}
@@ -17,7 +17,7 @@ use Rattle.table.proofs.dispatch.running.Tie as tie
 -- The best of the rest of the line, from the best so far, is the running task.
 abbrev Inv-loop : tie.InvT-loop
 Inv-loop s n b₀ i₀ b i =
-    (i ≤ 31) × (length (s .tasks) ≡ 31) × (length (s .ready) ≡ 31) × (n ≡ lastOf (s .created)) × (running (viewCore s) ≡ bestOf (priorityOf (viewCore s)) b (line (drop i (s .ready))) .task)
+    (i ≤ 31) × (length (s .tasks) ≡ 31) × (length (s .ready) ≡ 31) × (n ≡ lastOf (s .created)) × (running (viewCore s) ≡ bestOf (currentOf (viewCore s)) b (line (drop i (s .ready))) .task)
 
 abbrev μ-loop : tie.MeasureT-loop
 μ-loop s n b₀ i₀ b i = 31 - i

@@ -7,9 +7,12 @@ use lib.ListN.{drop, getD, length, length-set}
 use Rattle.lists.specs.Line.{line}
 use Rattle.lists.proofs.Turns.{rest-blank, rest-entry, rest-end}
 use Rattle.lists.proofs.ListLaws.{mapped-long}
+use Rattle.rules.specs.State.{placed}
+use Rattle.rules.specs.declared.Place.the-variants.{Ready}
 use Rattle.rules.specs.declared.Task.{Task}
+use Rattle.rules.specs.declared.Timer.the-variants.{Off}
 use Rattle.table.specs.Moved.{readiedOf}
-use Rattle.table.proofs.LeafLaws.{readied-put, readied-on}
+use Rattle.table.proofs.LeafLaws.{changed-put, readied-on}
 use Rattle.table.proofs.moves.readied.Statement.{statement}
 use Rattle.table.proofs.moves.readied.Tie as tie
 
@@ -31,10 +34,10 @@ loop-again c =
     let s = e .before .before .loop in
     let t = e .before .before .before .args .t2 in (
       omega arith,
-      length-set {A = Task} (s .n .tasks) _ (c .readied-task .result) ∙ s .inv .1,
+      length-set {A = Task} (s .n .tasks) _ (c .placed-task .result) ∙ s .inv .1,
       s .inv .2
           ∙ readied-on (s .n) (getD t (s .i) 0) _ _ _ (rest-entry t (s .i) (search needs) (e .if1 .left))
-          (readied-put (s .n) (getD t (s .i) 0) _ _ (s .inv .1) (i .index-of .ensures .0) (c .readied-task .ensures)),
+          (changed-put (λ x. placed x Ready Off) (s .n) (getD t (s .i) 0) _ _ (s .inv .1) (i .index-of .ensures .0) (c .placed-task .ensures)),
     )
 
 returns-2 : tie.Need-returns-2 Inv-loop μ-loop

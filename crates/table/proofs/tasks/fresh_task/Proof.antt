@@ -10,8 +10,11 @@ entries-here c = refl
 place-here : Field (need tie.Need-returns) (λ x. x .place)
 place-here c = refl
 
+current-here : Field (need tie.Need-returns) (λ x. x .current)
+current-here c = refl
+
 returns : tie.Need-returns
-returns c = λ i. record { priority = c .args .priority; entries = entries-here c i; place = place-here c i; timer = Off }
+returns c = λ i. record { priority = c .args .priority; current = current-here c i; entries = entries-here c i; place = place-here c i; timer = Off }
 
 pub fresh-task-spec : {M : Type 1} → statement M
 fresh-task-spec = tie.close (tie.spec returns)
