@@ -66,6 +66,10 @@ after-short b r c h = by-bool (eqb r 0) (λ e. card-short b c h ∙ sym (if-true
 
 -- ── and read back ──
 
+-- the contact of five bytes
+pub five-are : (n high low closed against : ℕ) → closed ≤ 1 → contactFrom n high low closed against ≡ record { n = n; p = two high low; closed = eqb closed 1; against = against }
+five-are n high low closed against h = if-true (leb closed 1) (record { n = n; p = two high low; closed = eqb closed 1; against = against }) noContact (le-leb closed 1 h)
+
 contact-back : (c : Contact) → contactFrom (c .n) (c .p / 256) (c .p % 256) (bit (c .closed)) (c .against) ≡ c
 contact-back c = go (c .closed) refl
   where

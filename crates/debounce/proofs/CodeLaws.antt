@@ -123,11 +123,11 @@ module _ (c : Card) (bits : ℕ) where
   pub tick-refused : whole c ≡ false → tickOf c bits ≡ damaged c
   tick-refused e = if-false (whole c) (answered (tickedCard c bits)) (damaged c) e
 
-abbrev made : ℕ → Card → Made
+abbrev pub made : ℕ → Card → Made
 made r c = record { refusal = r; card = c }
 
-pub fresh-made : (b : List ℕ) → goodSettings b ≡ true → freshOf b ≡ record { refusal = 0; card = freshCard (settingsIn b) }
+pub fresh-made : (b : List ℕ) → goodSettings b ≡ true → freshOf b ≡ made 0 (freshCard (settingsIn b))
 fresh-made b e = if-true (goodSettings b) (made 0 (freshCard (settingsIn b))) (made 17 noCard) e
 
-pub fresh-refused : (b : List ℕ) → goodSettings b ≡ false → freshOf b ≡ record { refusal = 17; card = noCard }
-fresh-refused b e = if-false (goodSettings b) (made 0 (freshCard (settingsIn b))) (made 17 noCard) e
+pub fresh-refused : (b : List ℕ) (x : Card) → goodSettings b ≡ false → x ≡ noCard → made 17 x ≡ freshOf b
+fresh-refused b x e q = ap (made 17) q ∙ sym (if-false (goodSettings b) (made 0 (freshCard (settingsIn b))) (made 17 noCard) e)

@@ -18,7 +18,7 @@ use Rattle.debounce.proofs.CheckLaws.{undamaged, passes}
 use Rattle.debounce.proofs.HistoryLaws.{reach}
 use Rattle.debounce.proofs.FreshLaws.{stays-whole, stays-undamaged, reports-rule}
 use Rattle.debounce.proofs.SettingsLaws.{settings-said, settings-only}
-use Rattle.debounce.proofs.TickSaid.{tick-said, none-damaged}
+use Rattle.debounce.proofs.TickSaid.{one-tick, next-undamaged, none-damaged}
 use Rattle.debounce.proofs.fresh.Met as fresh
 use Rattle.debounce.proofs.tick.Met as tick
 use Rattle.statements.specs.Debouncer.{Tick, Allowed, reached, Chain, rawBits, Debounces, Refused, Taken, Debouncer}
@@ -36,10 +36,10 @@ refused c u a e =
 
 is-taken : (c : Card) → CardTyped c → (u : Tick) → Allowed c u → Undamaged c → Taken c u
 is-taken c t u a f =
-    let q = gave c u a (passes c t f) in
-    let d = tick-said c (u .bits) t (passes c t f) in
+    let e = passes c t f in
+    let q = gave c u a e in
     let p = ap (λ (x : Ticked). x .card) q in
-    record { refusal = ap (λ (x : Ticked). x .refusal) q; undamaged = subst Undamaged (sym p) (d .0); contacts = rw p (d .1) }
+    record { refusal = ap (λ (x : Ticked). x .refusal) q; undamaged = subst Undamaged (sym p) (next-undamaged c (u .bits) t e); contacts = rw p (one-tick c (u .bits) t e) }
 
 -- ── from a fresh card on ──
 
@@ -77,7 +77,7 @@ makes-none : (b : List ℕ) → Bytes b → ((xs : List Setting) → SettingsOf 
     → (r .refusal ≡ 17) × ((u : Tick) → Allowed (r .card) u → Refused (r .card) u)
 makes-none b small n r e =
     let bad : goodSettings b ≡ false = by-bool (goodSettings b) (λ g. absurd (n (settingsIn b) (settings-said b small g))) (λ g. g) in
-    let q = e ∙ fresh-refused b bad in
+    let q = e ∙ sym (fresh-refused b noCard bad refl) in
     let c : r .card ≡ noCard = ap (λ (m : Made). m .card) q in
     (ap (λ (m : Made). m .refusal) q, λ u a. refused (r .card) u a (ap whole c ∙ none-damaged))
 

@@ -20,8 +20,7 @@ returns c =
 returns-2 : tie.Need-returns-2
 returns-2 c =
     let bad = c .before in
-    (λ i. record { refusal = 17; card = c .blank-card .ensures i })
-    ∙ sym (fresh-refused (now (bad .before .before .before .args .settings)) (sym (bad .before .is-good .ensures) ∙ bad .if1 .left))
+    fresh-refused (now (bad .before .before .before .args .settings)) (c .blank-card .result) (sym (bad .before .is-good .ensures) ∙ bad .if1 .left) (c .blank-card .ensures)
 
 pub fresh-spec : {M : Type 1} → statement M
 fresh-spec =
