@@ -14,6 +14,8 @@ from module import Kit, rests_on, run, stop
 
 # the words for a program alone, which a library is compiled without
 PROGRAM_ONLY = "\n-Xclang\n-fmerge-functions\n-mllvm\n-mergefunc-use-aliases"
+# a function of the library that C calls
+EXPORTED = re.compile(r'#\[no_mangle\]\s+pub extern "C" fn (\w+)')
 FUNCTION = re.compile(r'(?ms)^(?:; Function Attrs:[^\n]*\n)?define [^\n]*?@("[^"]+"|\w+)\((.*?)\) #0 {\n.*?^}\n')
 
 
@@ -57,8 +59,8 @@ def exported(name, words):
         else:
             given.append(f"{kind} noundef %a{at}")
             handed.append(f"{kind} %a{at}")
-    code.append(f'  %r = call i8 @"card::{name}"({", ".join(handed)})')
-    return "\n".join([f"define noundef i8 @{name}({', '.join(given)}) #0 {{", *code, "  ret i8 %r", "}", ""])
+    code.append(f'  %r = call i8 @"{name}"({", ".join(handed)})')
+    return "\n".join([f"define noundef i8 @{name.split('::')[-1]}({', '.join(given)}) #0 {{", *code, "  ret i8 %r", "}", ""])
 
 
 def compiled(kit, main, crate, work, is_library, logic):
@@ -70,7 +72,9 @@ def compiled(kit, main, crate, work, is_library, logic):
     names = in_crate_order(kit, {name: m.group() for name, m in found.items()})
     texts = [found[name].group() for name in names]
     if is_library:
-        texts += [exported(name[6:], found[name].group(2)) for name in names if name.startswith("card::card_")]
+        marked = {name for file in main.parent.glob("*.rt") for name in EXPORTED.findall(file.read_text())}
+        own = [name for name in names if name.startswith(f"{crate}::") and name.split("::")[-1] in marked]
+        texts += [exported(name, found[name].group(2)) for name in own]
         words = "\n".join(words).replace(PROGRAM_ONLY, "").replace("-fPIE", "-fPIC").split()
     else:
         texts.append(found["main"].group())
