@@ -1,15 +1,31 @@
-/* Puts the cases of its standard input to the library and writes what it answers; tests/reference/replies.rs says how a
-   case and a reply are laid out. It takes two functions of the C library and none of its headers, so that the kit's
-   compiler alone builds it. */
+/* Puts the cases of its standard input to an engine of the library and writes what it answers; tests/reference/replies.rs says how a
+   case and a reply are laid out. The engine is the word in front of its functions' names, card or second. It takes two functions of the C library
+   and none of its headers, so that the kit's compiler alone builds it. */
 #include "fuzgerlint.h"
+
+#ifndef ENGINE
+#define ENGINE card
+#endif
+#define JOINED(engine, name) engine##_##name
+#define NAMED(engine, name) JOINED(engine, name)
+#define OWN(name) NAMED(ENGINE, name)
 
 long read(int file, void *to, size_t bytes);
 long write(int file, const void *from, size_t bytes);
 
-enum { CASE = 456, BEFORE = 165 };
+uint8_t OWN(sound)(const uint8_t *state, size_t state_length);
+uint8_t OWN(step)(uint8_t *state, size_t state_length, const uint8_t *record, size_t record_length,
+                  uint8_t *room, size_t room_length, uint8_t *answer, size_t answer_length);
+uint8_t OWN(count)(const uint8_t *state, size_t state_length, uint8_t task, uint8_t entry, uint8_t *answer, size_t answer_length);
+uint8_t OWN(callable)(const uint8_t *state, size_t state_length, uint8_t task, uint8_t *answer, size_t answer_length);
+uint8_t OWN(running)(const uint8_t *state, size_t state_length, uint8_t *answer, size_t answer_length);
+
+/* The bytes of a state: the second engine has 31 rows of callers where the first has one line. */
+enum { TASKS = 31, card_state = CARD_STATE, second_state = CARD_STATE - TASKS + TASKS * TASKS, STATE = OWN(state) };
+enum { CASE = STATE + 17, BEFORE = 165 };
 
 struct reply {
-    uint8_t refusal, sound, answer[9], state[448], room[255], questions[6];
+    uint8_t refusal, sound, answer[9], state[STATE + 9], room[255], questions[6];
 };
 
 static int whole(uint8_t *to, size_t bytes) {
@@ -35,17 +51,17 @@ static int all(const uint8_t *from, size_t bytes) {
 static void fill(struct reply *r, const uint8_t *state) {
     uint8_t *bytes = (uint8_t *)r;
     for (size_t i = 0; i < sizeof *r; i++) bytes[i] = BEFORE;
-    for (size_t i = 0; i < CARD_STATE; i++) r->state[i] = state[i];
+    for (size_t i = 0; i < STATE; i++) r->state[i] = state[i];
 }
 
 static void put(struct reply *r, const uint8_t *given) {
     size_t state = (size_t)given[0] << 8 | given[1];
     uint8_t *q = r->questions;
-    r->sound = card_sound(r->state, state);
-    q[0] = card_count(r->state, state, given[5], given[6], q + 1, 1);
-    q[2] = card_callable(r->state, state, given[5], q + 3, 1);
-    q[4] = card_running(r->state, state, q + 5, 1);
-    r->refusal = card_step(r->state, state, given + 7, given[4], r->room, given[2], r->answer, given[3]);
+    r->sound = OWN(sound)(r->state, state);
+    q[0] = OWN(count)(r->state, state, given[5], given[6], q + 1, 1);
+    q[2] = OWN(callable)(r->state, state, given[5], q + 3, 1);
+    q[4] = OWN(running)(r->state, state, q + 5, 1);
+    r->refusal = OWN(step)(r->state, state, given + 7, given[4], r->room, given[2], r->answer, given[3]);
 }
 
 int main(void) {
@@ -53,7 +69,7 @@ int main(void) {
     static struct reply r;
     while (whole(one, CASE)) {
         fill(&r, one);
-        put(&r, one + CARD_STATE);
+        put(&r, one + STATE);
         if (!all((const uint8_t *)&r, sizeof r)) return 1;
     }
     return 0;

@@ -1,6 +1,7 @@
 //! States for the soundness test: reached ones, put-together ones that no log reaches, and damage to both.
 
 use crate::calls;
+use crate::engines::CORE;
 use crate::flat::{self, tag, Flat, Line, ALL_LINES, CREATED, FIRST_TASK, LINES, STATE, TASK};
 use crate::forge;
 use crate::generate;
@@ -236,4 +237,25 @@ fn another_time(random: &mut Random, bytes: &mut [u8]) {
     }
     delays.resize(TASKS, 0);
     bytes[LINES + 3 * TASKS..].copy_from_slice(&delays);
+}
+
+/// Damage to a row of the second engine: it loses a caller, with a gap or without, gets one more, behind a gap too, one twice, or is another row.
+pub fn one_row(random: &mut Random, bytes: &mut [u8]) {
+    let rows = &mut bytes[CORE..];
+    let used: Vec<usize> = (0..TASKS).filter(|&row| rows[row * TASKS] != 0).collect();
+    let row = random.pick(&used).unwrap_or(random.below(TASKS)) * TASKS;
+    let other = random.below(TASKS) * TASKS;
+    let length = rows[row..row + TASKS].iter().position(|&task| task == 0).unwrap_or(TASKS - 1);
+    let at = random.below(length.max(1));
+    match random.below(6) {
+        0 => rows[row + at] = 0,
+        1 => {
+            rows.copy_within(row + at + 1..row + TASKS, row + at);
+            rows[row + TASKS - 1] = 0;
+        }
+        2 => rows[row + (length + random.below(4)).min(TASKS - 1)] = random.below(34) as u8,
+        3 => rows[row + length] = rows[row + at],
+        4 => (0..TASKS).for_each(|i| rows.swap(row + i, other + i)),
+        _ => rows.swap(row + at, row + random.below(length.max(1))),
+    }
 }

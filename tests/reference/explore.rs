@@ -2,6 +2,7 @@
 //! entry each, short times, the clock close before its wrap.
 
 use crate::calls::{Call, CallMode, SelectMode};
+use crate::engines::Engine;
 use crate::flat;
 use crate::judge;
 use crate::numbers::ROOM;
@@ -29,7 +30,7 @@ fn alphabet() -> Vec<Call> {
 
 /// The cases of the first `states` states, each state with every call of the small world; and the number of calls of
 /// which every log is among them.
-pub fn cases(states: usize) -> (Vec<u8>, usize) {
+pub fn cases(engine: Engine, states: usize) -> (Vec<u8>, usize) {
     let calls = alphabet();
     let mut waiting = VecDeque::from([(Supervisor::empty(CLOCK), 0)]);
     let mut seen = HashSet::from([flat::write(&waiting[0].0)]);
@@ -39,7 +40,7 @@ pub fn cases(states: usize) -> (Vec<u8>, usize) {
         let Some((state, made)) = waiting.pop_front() else { break };
         depth = made;
         for call in &calls {
-            bytes.extend(judge::plain_case(&flat::write(&state), call));
+            bytes.extend(judge::plain_case(engine, &engine.write(&state), call));
             let mut after = state.clone();
             after.step(call, &mut [0; ROOM]);
             if after.tasks.len() <= TASKS && seen.insert(flat::write(&after)) {

@@ -9,6 +9,7 @@ mod contact_words;
 mod contacts;
 mod damage;
 mod debounce;
+mod engines;
 mod explore;
 mod flat;
 mod forge;
@@ -27,6 +28,7 @@ mod supervisor;
 mod tally;
 mod words;
 
+use engines::Engine;
 use logs::Log;
 use std::io::{self, Read, Write};
 use std::process::ExitCode;
@@ -44,13 +46,17 @@ const USAGE: &str = "the reference of the supervisor; it reads standard input wh
   assemble                   writes a file of logs in words as a sequence of logs
   damage SEED N              writes N states of 439 bytes, sound ones and damaged ones
   verdicts                   prints for each state whether it is sound
-  cases SEED N               writes N cases of a state, a call, a length of room and a question
-  tally-cases                prints how often each event of ADVANCE occurs in cases; fails if one never does
-  replies                    writes what the reference answers to cases
-  each-byte SEED             writes the cases of one state of 31 tasks with each of its bytes set to each value
-  explore N                  writes the cases of the first N states of a small world, each with every call of it
-  judge CASES WRITTEN        fails, with the first difference, if the answers in WRITTEN are not the reference's
   tally-states               prints how many states break each rule; fails if a rule is never broken
+
+those of cases have a word for the engine, card or second:
+  cases ENGINE SEED N        writes N cases of a state, a call, a length of room and a question
+  tally-cases ENGINE         prints how often each event of ADVANCE occurs in cases; fails if one never does
+  replies ENGINE             writes what the reference answers to cases
+  each-byte ENGINE SEED      writes the cases of one state of 31 tasks with each of its bytes set to each value, or to some
+  explore ENGINE N           writes the cases of the first N states of a small world, each with every call of it
+  judge ENGINE CASES WRITTEN fails, with the first difference, if the answers in WRITTEN are not the reference's
+
+those of the debouncer:
   debouncer                  prints what the program debouncer prints for an input
   contact-input SEED TICKS   writes an input of the program debouncer: good settings, and contacts that bounce
   contact-edges              checks the lines that a file of such inputs in words says are printed
@@ -119,10 +125,10 @@ fn tally() -> Result<(), String> {
     counted(&tally.counts())
 }
 
-fn tally_cases() -> Result<(), String> {
+fn tally_cases(engine: Engine) -> Result<(), String> {
     let cases = input()?;
-    output(format!("{} cases\n", cases.len() / replies::CASE).as_bytes())?;
-    counted(&judge::advances(&cases))
+    output(format!("{} cases\n", cases.len() / replies::case_size(engine)).as_bytes())?;
+    counted(&judge::advances(engine, &cases))
 }
 
 fn promises() -> Result<(), String> {
@@ -151,8 +157,8 @@ fn tally_states() -> Result<(), String> {
     counted(&states::tally(&input))
 }
 
-fn explore(states: usize) -> Result<(), String> {
-    let (cases, depth) = explore::cases(states);
+fn explore(engine: Engine, states: usize) -> Result<(), String> {
+    let (cases, depth) = explore::cases(engine, states);
     eprintln!("{states} states; every log of {depth} calls of the small world is among the cases");
     output(&cases)
 }
@@ -194,6 +200,21 @@ fn judged(files: [&str; 2], case: usize, difference: impl Fn(&[u8], &[u8]) -> Op
     }
 }
 
+fn on_engine(command: &str, engine: Engine, words: &[&str]) -> Result<(), String> {
+    match (command, words) {
+        ("cases", [seed, count]) => output(&judge::cases(engine, number(seed)?, number(count)? as usize)),
+        ("tally-cases", []) => tally_cases(engine),
+        ("replies", []) => output(&replies::replies(engine, &input()?)),
+        ("each-byte", [seed]) => output(&judge::each_byte(engine, number(seed)?)),
+        ("explore", [states]) => explore(engine, number(states)? as usize),
+        ("judge", [cases, written]) => {
+            let difference = |cases: &[u8], written: &[u8]| judge::first_difference(engine, cases, written);
+            judged([cases, written], replies::case_size(engine), difference)
+        }
+        _ => Err(USAGE.to_string()),
+    }
+}
+
 fn run(words: &[&str]) -> Result<(), String> {
     match words {
         ["stepper"] => output(Log { clock: 0, bytes: input()? }.printed().as_bytes()),
@@ -211,12 +232,6 @@ fn run(words: &[&str]) -> Result<(), String> {
         ["damage", seed, count] => output(&damage::states(number(seed)?, number(count)? as usize).concat()),
         ["verdicts"] => output(states::verdicts(&input()?).as_bytes()),
         ["tally-states"] => tally_states(),
-        ["cases", seed, count] => output(&judge::cases(number(seed)?, number(count)? as usize)),
-        ["tally-cases"] => tally_cases(),
-        ["replies"] => output(&replies::replies(&input()?)),
-        ["each-byte", seed] => output(&judge::each_byte(number(seed)?)),
-        ["explore", states] => explore(number(states)? as usize),
-        ["judge", cases, written] => judged([cases, written], replies::CASE, judge::first_difference),
         ["debouncer"] => output(debounce::printed(&input()?).as_bytes()),
         ["contact-input", seed, ticks] => output(&contacts::input(number(seed)?, number(ticks)? as usize)),
         ["contact-edges"] => contact_edges(),
@@ -227,6 +242,10 @@ fn run(words: &[&str]) -> Result<(), String> {
         ["contact-tally"] => counted(&contact_tally::tally(&input()?)),
         ["contact-replies"] => output(&bounces::replies(&input()?)),
         ["contact-judge", cases, written] => judged([cases, written], bounces::CASE, bounces::first_difference),
+        [command, engine, words @ ..] => match Engine::named(engine) {
+            Some(engine) => on_engine(command, engine, words),
+            None => Err(USAGE.to_string()),
+        },
         _ => Err(USAGE.to_string()),
     }
 }

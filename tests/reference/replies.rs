@@ -1,24 +1,32 @@
 //! What the reference answers to a case: one step of a state given as bytes, and the questions about it.
 //!
-//! A case is 456 bytes: a state; seven bytes, which are the lengths lent for the state (two bytes, high byte first), for
+//! A case is a state of an engine; seven bytes, which are the lengths lent for the state (two bytes, high byte first), for
 //! the room, for the answer and for the record, and the task and the entry that are asked about; and ten bytes that begin
-//! with the record. What is lent lies at the start of a longer stretch that is filled with 165. A reply is 720 bytes:
-//! the refusal that the step returns; 1 if the state is sound; the stretches of the answer (9), of the state (448) and of
+//! with the record. What is lent lies at the start of a longer stretch that is filled with 165. A reply is the refusal that the
+//! step returns; 1 if the state is sound; the stretches of the answer (9), of the state (9 more than it has) and of
 //! the room (255) afterwards; refusal and number of COUNT, of CALLABLE and of the dispatched task.
 
 use crate::calls::{self, Read};
-use crate::flat::{self, Flat, STATE};
+use crate::engines::Engine;
 use crate::numbers::{refusal, ROOM};
 use crate::supervisor::{Answer, Supervisor};
 
-pub const CASE: usize = STATE + 17;
-pub const REPLY: usize = 2 + ANSWER_STRETCH + STATE_STRETCH + ROOM_STRETCH + 6;
 pub const ANSWER_STRETCH: usize = 9;
-const STATE_STRETCH: usize = 448;
 const ROOM_STRETCH: usize = 255;
+/// By what the stretch of a state is longer.
+const BEHIND: usize = 9;
 /// What lent bytes hold before.
 const BEFORE: u8 = 165;
 const END_OF_LOG: u8 = 12;
+
+/// The bytes of a case.
+pub fn case_size(engine: Engine) -> usize {
+    engine.size() + 17
+}
+
+pub fn reply_size(engine: Engine) -> usize {
+    2 + ANSWER_STRETCH + engine.size() + BEHIND + ROOM_STRETCH + 6
+}
 
 /// How much is lent, and what is asked.
 #[derive(Clone, Copy)]
@@ -30,8 +38,8 @@ pub struct Lent {
 }
 
 /// The parts of a case: the state's bytes, what is lent, and the record.
-pub fn parts(case: &[u8]) -> (&[u8], Lent, &[u8]) {
-    let (state, rest) = case.split_at(STATE);
+pub fn parts(engine: Engine, case: &[u8]) -> (&[u8], Lent, &[u8]) {
+    let (state, rest) = case.split_at(engine.size());
     let lent = Lent {
         state: usize::from(rest[0]) << 8 | usize::from(rest[1]),
         room: rest[2] as usize,
@@ -42,9 +50,11 @@ pub fn parts(case: &[u8]) -> (&[u8], Lent, &[u8]) {
 }
 
 /// The state of lent bytes, if there are enough and they are sound.
-pub fn state_of(bytes: &[u8], length: usize) -> Option<Supervisor> {
-    let flat = Flat(bytes);
-    (length >= STATE && flat::broken(flat).is_none()).then(|| flat::read(flat))
+pub fn state_of(engine: Engine, bytes: &[u8], length: usize) -> Option<Supervisor> {
+    if length < engine.size() {
+        return None;
+    }
+    engine.read(bytes)
 }
 
 /// The step's answer; the reader's refusals come before the step's.
@@ -62,9 +72,9 @@ fn step(state: &mut Option<Supervisor>, record: &[u8], room: &mut [u8]) -> Answe
 }
 
 /// What the reference answers to a case.
-pub fn reply_to(case: &[u8]) -> Vec<u8> {
-    let (bytes, lent, record) = parts(case);
-    let mut state = state_of(bytes, lent.state);
+pub fn reply_to(engine: Engine, case: &[u8]) -> Vec<u8> {
+    let (bytes, lent, record) = parts(engine, case);
+    let mut state = state_of(engine, bytes, lent.state);
     let questions = match &state {
         Some(s) => [0, s.count(lent.asked[0], lent.asked[1]), 0, u8::from(s.callable(lent.asked[0])), 0, s.running()],
         None => [refusal::BAD_STATE, 0, refusal::BAD_STATE, 0, refusal::BAD_STATE, 0],
@@ -72,7 +82,7 @@ pub fn reply_to(case: &[u8]) -> Vec<u8> {
     let sound = u8::from(state.is_some());
     let mut answer = [BEFORE; ANSWER_STRETCH];
     let mut after = bytes.to_vec();
-    after.resize(STATE_STRETCH, BEFORE);
+    after.resize(engine.size() + BEHIND, BEFORE);
     let mut room = [BEFORE; ROOM_STRETCH];
     let mut returned = refusal::SHORT_ROOM;
     if lent.answer >= 7 {
@@ -80,13 +90,13 @@ pub fn reply_to(case: &[u8]) -> Vec<u8> {
         returned = a.refusal;
         answer[..7].copy_from_slice(&[a.refusal, a.result, a.task, a.entry, a.partner, a.ended, a.next]);
         if let Some(state) = &state {
-            after[..STATE].copy_from_slice(&flat::write(state));
+            after[..engine.size()].copy_from_slice(&engine.write(state));
         }
     }
     [&[returned, sound][..], &answer, &after, &room, &questions].concat()
 }
 
 /// What the reference answers to each of the cases.
-pub fn replies(cases: &[u8]) -> Vec<u8> {
-    cases.chunks_exact(CASE).flat_map(reply_to).collect()
+pub fn replies(engine: Engine, cases: &[u8]) -> Vec<u8> {
+    cases.chunks_exact(case_size(engine)).flat_map(|case| reply_to(engine, case)).collect()
 }
