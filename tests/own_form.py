@@ -23,7 +23,7 @@ FUNCTIONS = [
 
 # a program that uses the library, so that the compiler gets all of it
 PROGRAM = """fn main() {
-    let mut state = [0u8; 439];
+    let mut state = [0u8; 501];
     let mut room = [0u8; 124];
     let mut answer = [0u8; 7];
     card::card_empty(&mut state, 0);

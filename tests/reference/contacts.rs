@@ -8,7 +8,6 @@ use crate::flat::STATE;
 use crate::numbers::LONGEST;
 use crate::random::Random;
 use crate::supervisor::{Place, Supervisor, Task, Timer};
-use std::collections::VecDeque;
 
 const LENT: Lent = Lent { card: CARD, given: 0, report: 1, ticks: true };
 
@@ -85,11 +84,10 @@ fn card(random: &mut Random) -> Card {
     let strange = random.once_in(4);
     for contact in &contacts {
         let (priority, entries) = match strange {
-            true => (random.between(1, 15) as u8, random.below(9)),
+            true => (random.between(1, 15) as u8, random.below(9) as u8),
             false => (1, 0),
         };
-        let queues = vec![VecDeque::new(); entries];
-        supervisor.tasks.push(Task { priority, place: Place::Delayed, since: 0, queues, held: Vec::new() });
+        supervisor.tasks.push(Task::new(priority, entries, Place::Delayed));
         let p = i64::from(contact.setting.p);
         let latest = if random.once_in(4) { p } else { p.min(6) };
         let left = random.between(1, latest);
@@ -116,7 +114,7 @@ fn damaged(random: &mut Random, card: &Card) -> Vec<u8> {
         3 => stand(state, task, Place::Completed, None),
         4 => {
             stand(state, task, Place::Ready, None);
-            let level = state.task(task).priority as usize - 1;
+            let level = state.task(task).current as usize - 1;
             state.ready[level].push_back(task);
         }
         5 => stand(state, task, Place::Accepting { open: 0 }, Some(due)),
@@ -153,7 +151,7 @@ fn stand(state: &mut Supervisor, task: u8, place: Place, due: Option<u32>) {
 
 /// One task more, which delays or has completed.
 fn ninth(random: &mut Random, state: &mut Supervisor, due: u32) {
-    state.tasks.push(Task { priority: 1, place: Place::Completed, since: 0, queues: Vec::new(), held: Vec::new() });
+    state.tasks.push(Task::new(1, 0, Place::Completed));
     if random.once_in(2) {
         let task = state.tasks.len() as u8;
         stand(state, task, Place::Delayed, Some(due));

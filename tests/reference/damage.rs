@@ -2,14 +2,14 @@
 
 use crate::calls;
 use crate::engines::CORE;
-use crate::flat::{self, tag, Flat, Line, ALL_LINES, CREATED, FIRST_TASK, LINES, STATE, TASK};
+use crate::flat::{self, field, tag, Flat, Line, ALL_LINES, CREATED, FIRST_TASK, LINES, STATE, TASK};
 use crate::forge;
 use crate::generate;
 use crate::numbers::{ROOM, TASKS};
 use crate::random::Random;
 use crate::supervisor::Supervisor;
 
-/// `count` states of 439 bytes, about a quarter of them as they were, the others damaged.
+/// `count` states, about a quarter of them as they were, the others damaged.
 pub fn states(seed: u64, count: usize) -> Vec<Vec<u8>> {
     let mut random = Random::new(seed);
     let mut found = Vec::new();
@@ -110,7 +110,7 @@ fn one_field(random: &mut Random, bytes: &mut [u8]) {
             bytes[..4].copy_from_slice(&clock.wrapping_add(ticks).to_be_bytes());
         }
         _ => {
-            let field = random.below(8);
+            let field = random.below(10);
             if let Some(task) = some_task(random, bytes) {
                 task_field(random, task, field, clock);
             }
@@ -120,21 +120,23 @@ fn one_field(random: &mut Random, bytes: &mut [u8]) {
 
 fn task_field(random: &mut Random, task: &mut [u8], field: usize, clock: u32) {
     match field {
-        0 => task[0] = random.one_of(&[0, 1, 15, 16, 255]),
-        1 => task[1] = random.below(10) as u8,
-        2 => task[2] = random.below(8) as u8,
-        3 if task[2] == tag::ACCEPTING => task[3] ^= 1 << random.below(8),
-        3 => task[3] = random.below(34) as u8,
-        4 => task[4] = random.below(10) as u8,
-        5 => task[5] = random.below(3) as u8,
+        0 => task[field::PRIORITY] = random.one_of(&[0, 1, 15, 16, 255]),
+        1 => task[field::ENTRIES] = random.below(10) as u8,
+        2 => task[field::TAG] = random.below(8) as u8,
+        3 if task[field::TAG] == tag::ACCEPTING => task[field::FIRST] ^= 1 << random.below(8),
+        3 => task[field::FIRST] = random.below(34) as u8,
+        4 => task[field::ENTRY] = random.below(10) as u8,
+        5 => task[field::TIMED] = random.below(3) as u8,
         6 => {
             // a timer goes off, with its due time
-            task[5] = 0;
-            task[6..].fill(0);
+            task[field::TIMED] = 0;
+            task[field::DUE..].fill(0);
         }
+        7 => task[field::CURRENT] = random.one_of(&[0, 1, 15, 16, 255]),
+        8 => task[field::KEPT] = random.one_of(&[0, 1, 15, 16, 255]),
         _ => {
             let ticks = random.one_of(&[0, 1, i32::MAX as u32, 1 << 31, u32::MAX, 5]);
-            task[6..].copy_from_slice(&clock.wrapping_add(ticks).to_be_bytes());
+            task[field::DUE..].copy_from_slice(&clock.wrapping_add(ticks).to_be_bytes());
         }
     }
 }
@@ -184,11 +186,11 @@ fn one_relation(random: &mut Random, bytes: &mut [u8]) {
     let Some(caller) = random.pick(Flat(bytes).members(line)).filter(|&task| task as usize <= TASKS) else {
         return acceptor_field(random, bytes);
     };
-    let (target, entry) = (Flat(bytes).task(caller)[3], Flat(bytes).task(caller)[4]);
+    let (target, entry) = (Flat(bytes).partner(caller), Flat(bytes).task(caller)[field::ENTRY]);
     match random.below(4) {
         0 => stand_apart(bytes, target, [tag::COMPLETED, 0]),
         1 => stand_apart(bytes, target, [tag::ACCEPTING, 1 << (entry - 1)]),
-        2 => bytes[FIRST_TASK + (target as usize - 1) * TASK + 1] = entry - 1,
+        2 => bytes[FIRST_TASK + (target as usize - 1) * TASK + field::ENTRIES] = entry - 1,
         _ => acceptor_field(random, bytes),
     }
 }
@@ -202,15 +204,15 @@ fn stand_apart(bytes: &mut [u8], task: u8, place: [u8; 2]) {
         bytes[start..start + members.len()].copy_from_slice(&members);
     }
     let at = FIRST_TASK + (task as usize - 1) * TASK;
-    bytes[at + 2..at + 4].copy_from_slice(&place);
-    bytes[at + 4..at + TASK].fill(0);
+    bytes[at + field::TAG..at + field::ENTRY].copy_from_slice(&place);
+    bytes[at + field::ENTRY..at + TASK].fill(0);
 }
 
 fn acceptor_field(random: &mut Random, bytes: &mut [u8]) {
     let created = Flat(bytes).created().min(TASKS as u8);
     let acceptors: Vec<u8> = (1..=created).filter(|&task| Flat(bytes).tag(task) == tag::ACCEPTING).collect();
     if let Some(task) = random.pick(&acceptors) {
-        let open = &mut bytes[FIRST_TASK + (task as usize - 1) * TASK + 3];
+        let open = &mut bytes[FIRST_TASK + (task as usize - 1) * TASK + field::FIRST];
         *open = random.one_of(&[0, *open << 1, *open | 128, *open | 1, *open >> 1]);
     }
 }
@@ -229,8 +231,8 @@ fn another_time(random: &mut Random, bytes: &mut [u8]) {
         false => Some(Flat(bytes).clock().wrapping_add(1 + random.below(5) as u32)),
     };
     let at = FIRST_TASK + (task as usize - 1) * TASK;
-    bytes[at + 5] = u8::from(due.is_some());
-    bytes[at + 6..at + TASK].copy_from_slice(&due.unwrap_or(0).to_be_bytes());
+    bytes[at + field::TIMED] = u8::from(due.is_some());
+    bytes[at + field::DUE..at + TASK].copy_from_slice(&due.unwrap_or(0).to_be_bytes());
     if due.is_some() {
         delays.push(task);
         delays.sort_by_key(|&task| Flat(bytes).left(task));

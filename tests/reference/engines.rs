@@ -64,7 +64,7 @@ fn spread(first: &[u8]) -> Vec<u8> {
     let mut rows = vec![Vec::new(); TASKS];
     for &caller in Flat(first).members(Line::Callers) {
         let called = match caller as usize <= TASKS {
-            true => Flat(first).task(caller)[3] as usize,
+            true => Flat(first).partner(caller) as usize,
             false => TASKS,
         };
         rows[called.clamp(1, TASKS) - 1].push(caller);
@@ -94,5 +94,5 @@ fn joined(second: &[u8]) -> Option<Vec<u8>> {
 /// Whether the task is queued on one of the entries of the other.
 fn calls(second: &[u8], caller: u8, called: u8) -> bool {
     let core = Flat(second);
-    caller as usize <= TASKS && core.tag(caller) == tag::QUEUED && core.task(caller)[3] == called
+    caller as usize <= TASKS && core.tag(caller) == tag::QUEUED && core.partner(caller) == called
 }

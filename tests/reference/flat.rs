@@ -1,19 +1,34 @@
-//! The state as 439 bytes, and the soundness rules of document 01 over them.
+//! The state as bytes, and the soundness rules of document 01 over them.
 //!
-//! Clock in four bytes, high byte first; created; 31 tasks of ten bytes: priority, entries, place, two bytes that
+//! Clock in four bytes, high byte first; created; 31 tasks: priority, current priority, entries, place, three bytes that
 //! belong to the place, timer (0 off, 1 due), due in four bytes; four lines of 31 task numbers, then zeros: ready in the
-//! order of becoming ready, callers in the order of their calls, held in the order of their rendezvous, delays.
+//! order of becoming ready, one put to the head of its level at the head; callers in the order of their calls, held in the order of their
+//! rendezvous, delays.
 
 use crate::calls::number;
 use crate::numbers::{ENTRIES, LEVELS, LONGEST, TASKS};
 use crate::supervisor::{Place, Supervisor, Task, Timer};
-use std::collections::VecDeque;
 
-pub const STATE: usize = 439;
+pub const STATE: usize = LINES + ALL_LINES.len() * TASKS;
 pub const CREATED: usize = 4;
 pub const FIRST_TASK: usize = 5;
-pub const TASK: usize = 10;
+pub const TASK: usize = field::DUE + 4;
 pub const LINES: usize = FIRST_TASK + TASKS * TASK;
+
+/// Where a task's bytes lie.
+pub mod field {
+    pub const PRIORITY: usize = 0;
+    pub const CURRENT: usize = 1;
+    pub const ENTRIES: usize = 2;
+    pub const TAG: usize = 3;
+    /// The called task, the holder, or the open set.
+    pub const FIRST: usize = 4;
+    pub const ENTRY: usize = 5;
+    /// Of a held caller: the holder's current priority before.
+    pub const KEPT: usize = 6;
+    pub const TIMED: usize = 7;
+    pub const DUE: usize = 8;
+}
 
 pub mod tag {
     pub const READY: u8 = 1;
@@ -41,6 +56,7 @@ pub enum Rule {
     Created,
     UnusedPlaces,
     PriorityAndEntries,
+    CurrentPriority,
     Place,
     Timer,
     Lines,
@@ -72,19 +88,24 @@ impl<'a> Flat<'a> {
     }
 
     pub fn entries(self, task: u8) -> u8 {
-        self.task(task)[1]
+        self.task(task)[field::ENTRIES]
     }
 
     pub fn tag(self, task: u8) -> u8 {
-        self.task(task)[2]
+        self.task(task)[field::TAG]
     }
 
     pub fn timed(self, task: u8) -> bool {
-        self.task(task)[5] == 1
+        self.task(task)[field::TIMED] == 1
     }
 
     pub fn left(self, task: u8) -> u32 {
-        number(&self.task(task)[6..]).wrapping_sub(self.clock())
+        number(&self.task(task)[field::DUE..]).wrapping_sub(self.clock())
+    }
+
+    /// The task that it calls or that holds it.
+    pub fn partner(self, task: u8) -> u8 {
+        self.task(task)[field::FIRST]
     }
 
     pub fn line(self, line: Line) -> &'a [u8] {
@@ -124,21 +145,26 @@ pub fn broken(state: Flat) -> Option<Rule> {
 /// A task's own bytes: each in its range, unused ones 0.
 fn broken_fields(state: Flat, task: u8) -> Option<Rule> {
     let f = state.task(task);
-    if f[0] < 1 || f[0] > LEVELS as u8 || f[1] > ENTRIES {
+    let level = |at: usize| (1..=LEVELS as u8).contains(&f[at]);
+    if !level(field::PRIORITY) || f[field::ENTRIES] > ENTRIES {
         return Some(Rule::PriorityAndEntries);
     }
-    let blank = match f[2] {
-        tag::QUEUED | tag::HELD => true,
-        tag::ACCEPTING => f[4] == 0,
-        tag::READY | tag::DELAYED | tag::COMPLETED => f[3] == 0 && f[4] == 0,
+    let blank = match f[field::TAG] {
+        tag::HELD => true,
+        tag::QUEUED => f[field::KEPT] == 0,
+        tag::ACCEPTING => f[field::ENTRY] == 0 && f[field::KEPT] == 0,
+        tag::READY | tag::DELAYED | tag::COMPLETED => f[field::FIRST..field::TIMED] == [0, 0, 0],
         _ => false,
     };
     if !blank {
         return Some(Rule::Place);
     }
-    let timer = match f[5] {
-        0 => number(&f[6..]) == 0 && f[2] != tag::DELAYED,
-        1 => matches!(f[2], tag::DELAYED | tag::QUEUED | tag::ACCEPTING),
+    if !level(field::CURRENT) || f[field::TAG] == tag::HELD && !level(field::KEPT) {
+        return Some(Rule::CurrentPriority);
+    }
+    let timer = match f[field::TIMED] {
+        0 => number(&f[field::DUE..]) == 0 && f[field::TAG] != tag::DELAYED,
+        1 => matches!(f[field::TAG], tag::DELAYED | tag::QUEUED | tag::ACCEPTING),
         _ => false,
     };
     (!timer).then_some(Rule::Timer)
@@ -177,10 +203,10 @@ fn broken_delays(state: Flat) -> Option<Rule> {
 
 /// What a place asks of other tasks.
 fn broken_place(state: Flat, task: u8) -> Option<Rule> {
-    let (first, second) = (state.task(task)[3], state.task(task)[4]);
+    let (first, entry) = (state.task(task)[field::FIRST], state.task(task)[field::ENTRY]);
     match state.tag(task) {
         tag::QUEUED | tag::HELD => {
-            if first < 1 || first > state.created() || second < 1 || second > state.entries(first) {
+            if first < 1 || first > state.created() || entry < 1 || entry > state.entries(first) {
                 return Some(Rule::CallersEntry);
             }
             (state.tag(first) == tag::COMPLETED).then_some(Rule::CompletedIsFree)
@@ -190,7 +216,7 @@ fn broken_place(state: Flat, task: u8) -> Option<Rule> {
                 return Some(Rule::OpenSet);
             }
             let called = |entry: u8| (1..=8).contains(&entry) && first & (1 << (entry - 1)) != 0;
-            let waits = |&caller: &u8| state.task(caller)[3] == task && called(state.task(caller)[4]);
+            let waits = |&caller: &u8| state.partner(caller) == task && called(state.task(caller)[field::ENTRY]);
             state.members(Line::Callers).iter().any(waits).then_some(Rule::OpenEntryWithoutCaller)
         }
         _ => None,
@@ -203,16 +229,18 @@ pub fn write(state: &Supervisor) -> Vec<u8> {
     bytes.push(state.tasks.len() as u8);
     for number in 1..=state.tasks.len() as u8 {
         let task = state.task(number);
-        let (place, first, second) = match task.place {
-            Place::Ready => (tag::READY, 0, 0),
-            Place::Delayed => (tag::DELAYED, 0, 0),
-            Place::Queued { target, entry } => (tag::QUEUED, target, entry),
-            Place::Held { holder, entry } => (tag::HELD, holder, entry),
-            Place::Accepting { open } => (tag::ACCEPTING, open, 0),
-            Place::Completed => (tag::COMPLETED, 0, 0),
+        let place = match task.place {
+            Place::Ready => [tag::READY, 0, 0, 0],
+            Place::Delayed => [tag::DELAYED, 0, 0, 0],
+            Place::Queued { target, entry } => [tag::QUEUED, target, entry, 0],
+            Place::Held { holder, entry, kept } => [tag::HELD, holder, entry, kept],
+            Place::Accepting { open } => [tag::ACCEPTING, open, 0, 0],
+            Place::Completed => [tag::COMPLETED, 0, 0, 0],
         };
         let timer = state.timer(number);
-        bytes.extend([task.priority, task.queues.len() as u8, place, first, second, u8::from(timer.is_some())]);
+        bytes.extend([task.priority, task.current, task.queues.len() as u8]);
+        bytes.extend(place);
+        bytes.push(u8::from(timer.is_some()));
         bytes.extend(timer.map_or(0, |timer| timer.due).to_be_bytes());
     }
     bytes.resize(LINES, 0);
@@ -237,16 +265,17 @@ pub fn read(flat: Flat) -> Supervisor {
     let mut state = Supervisor::empty(flat.clock());
     for task in flat.tasks() {
         let f = flat.task(task);
-        let place = match f[2] {
+        let (first, entry) = (f[field::FIRST], f[field::ENTRY]);
+        let place = match f[field::TAG] {
             tag::READY => Place::Ready,
             tag::DELAYED => Place::Delayed,
-            tag::QUEUED => Place::Queued { target: f[3], entry: f[4] },
-            tag::HELD => Place::Held { holder: f[3], entry: f[4] },
-            tag::ACCEPTING => Place::Accepting { open: f[3] },
+            tag::QUEUED => Place::Queued { target: first, entry },
+            tag::HELD => Place::Held { holder: first, entry, kept: f[field::KEPT] },
+            tag::ACCEPTING => Place::Accepting { open: first },
             _ => Place::Completed,
         };
-        let queues = vec![VecDeque::new(); f[1] as usize];
-        state.tasks.push(Task { priority: f[0], place, since: 0, queues, held: Vec::new() });
+        let read = Task::new(f[field::PRIORITY], f[field::ENTRIES], place);
+        state.tasks.push(Task { current: f[field::CURRENT], ..read });
     }
     for line in ALL_LINES {
         flat.members(line).iter().for_each(|&task| enter(&mut state, flat, line, task));
@@ -258,13 +287,13 @@ pub fn read(flat: Flat) -> Supervisor {
 fn enter(state: &mut Supervisor, flat: Flat, line: Line, task: u8) {
     let f = flat.task(task);
     if line == Line::Delays {
-        return state.delays.push(Timer { task, due: number(&f[6..]) });
+        return state.delays.push(Timer { task, due: number(&f[field::DUE..]) });
     }
     state.moves += 1;
     state.task_mut(task).since = state.moves;
     match line {
-        Line::Ready => state.ready[f[0] as usize - 1].push_back(task),
-        Line::Callers => state.task_mut(f[3]).queues[f[4] as usize - 1].push_back(task),
-        _ => state.task_mut(f[3]).held.push(task),
+        Line::Ready => state.ready[f[field::CURRENT] as usize - 1].push_back(task),
+        Line::Callers => state.task_mut(f[field::FIRST]).queues[f[field::ENTRY] as usize - 1].push_back(task),
+        _ => state.task_mut(f[field::FIRST]).held.push(task),
     }
 }

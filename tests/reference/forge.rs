@@ -9,10 +9,12 @@ use crate::random::Random;
 #[derive(Clone, Copy, Default)]
 struct Part {
     priority: u8,
+    current: u8,
     entries: u8,
     tag: u8,
     first: u8,
-    second: u8,
+    entry: u8,
+    kept: u8,
     ticks: Option<u32>,
 }
 
@@ -27,6 +29,7 @@ pub fn state(random: &mut Random) -> Vec<u8> {
         parts[i] = chosen;
     }
     close_called_entries(&mut parts);
+    keep_priorities(random, &mut parts);
     bytes(random, clock, &parts)
 }
 
@@ -35,7 +38,7 @@ fn part(random: &mut Random) -> Part {
     let (priority, entries) = (random.between(1, 15) as u8, random.between(0, 8) as u8);
     let tag = random.one_of(&[tag::READY, tag::READY, tag::DELAYED, tag::COMPLETED]);
     let ticks = (tag == tag::DELAYED).then(|| some_ticks(random));
-    Part { priority, entries, tag, ticks, ..Part::default() }
+    Part { priority, current: priority, entries, tag, ticks, ..Part::default() }
 }
 
 fn some_ticks(random: &mut Random) -> u32 {
@@ -66,9 +69,9 @@ fn place(random: &mut Random, parts: &[Part], i: usize, busiest: u8) -> Part {
         return Part { tag, first: open, ticks, ..part };
     }
     let first = random.one_of(&partners);
-    let second = random.between(1, parts[first as usize - 1].entries as i64) as u8;
+    let entry = random.between(1, parts[first as usize - 1].entries as i64) as u8;
     let ticks = if tag == tag::QUEUED { timed } else { None };
-    Part { tag, first, second, ticks, ..part }
+    Part { tag, first, entry, ticks, ..part }
 }
 
 /// An acceptor's open entries have no caller; one that loses its last open entry becomes ready.
@@ -78,10 +81,24 @@ fn close_called_entries(parts: &mut [Part]) {
             continue;
         }
         let waits = |part: &&Part| part.tag == tag::QUEUED && part.first as usize == i + 1;
-        let called = parts.iter().filter(waits).fold(0, |set, part| set | 1 << (part.second - 1));
+        let called = parts.iter().filter(waits).fold(0, |set, part| set | 1 << (part.entry - 1));
         parts[i].first &= !called;
         if parts[i].first == 0 && parts[i].ticks.is_none() {
             parts[i].tag = tag::READY;
+        }
+    }
+}
+
+/// Some tasks have another current priority than their own; what a holder had before is no more than it has now.
+fn keep_priorities(random: &mut Random, parts: &mut [Part]) {
+    for part in parts.iter_mut() {
+        if random.once_in(4) {
+            part.current = random.between(1, 15) as u8;
+        }
+    }
+    for i in 0..parts.len() {
+        if parts[i].tag == tag::HELD {
+            parts[i].kept = random.between(1, parts[parts[i].first as usize - 1].current as i64) as u8;
         }
     }
 }
@@ -91,7 +108,8 @@ fn bytes(random: &mut Random, clock: u32, parts: &[Part]) -> Vec<u8> {
     bytes.push(parts.len() as u8);
     for part in parts {
         let due = part.ticks.map_or(0, |ticks| clock.wrapping_add(ticks));
-        bytes.extend([part.priority, part.entries, part.tag, part.first, part.second, u8::from(part.ticks.is_some())]);
+        bytes.extend([part.priority, part.current, part.entries, part.tag, part.first, part.entry, part.kept]);
+        bytes.push(u8::from(part.ticks.is_some()));
         bytes.extend(due.to_be_bytes());
     }
     debug_assert_eq!(bytes.len(), FIRST_TASK + parts.len() * TASK);

@@ -24,7 +24,8 @@ struct Theme {
 const PLAIN: Theme =
     Theme { weights: &[], tasks: (3, 10), priorities: (1, 15), entries: (1, 3), low_first: false, short: false };
 
-const THEMES: [Theme; 10] = [MIXED, MEETINGS, SPOILT, NESTED, TIMES, CROWD, SPOILT, ENDINGS, MISTAKES, LEVELS];
+const THEMES: [Theme; 11] =
+    [MIXED, MEETINGS, SPOILT, NESTED, TIMES, CROWD, SPOILT, ENDINGS, MISTAKES, LEVELS, INVERSION];
 
 const MIXED: Theme = Theme {
     weights: &[
@@ -205,6 +206,28 @@ const LEVELS: Theme = Theme {
     tasks: (3, 24),
     priorities: (14, 15),
     entries: (0, 2),
+    ..PLAIN
+};
+
+/// Low acceptors serve high callers, and others come between.
+const INVERSION: Theme = Theme {
+    weights: &[
+        (Aim::Create, 6),
+        (Aim::Delay, 3),
+        (Aim::DelayNone, 6),
+        (Aim::CallAcceptor, 12),
+        (Aim::CallHolder, 6),
+        (Aim::CallQueue, 10),
+        (Aim::SelectCaller, 20),
+        (Aim::SelectWait, 8),
+        (Aim::End, 10),
+        (Aim::Finish, 1),
+        (Aim::Tick, 10),
+    ],
+    tasks: (4, 12),
+    priorities: (1, 9),
+    entries: (1, 3),
+    low_first: true,
     ..PLAIN
 };
 

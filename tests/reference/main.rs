@@ -1,4 +1,4 @@
-//! The reference: document 01, ADVANCE and the debouncer of document 02, in plain Rust, apart from the rules and the proofs, to hold the programs against.
+//! The reference: document 01 and requests of document 02, in plain Rust, apart from the rules and the proofs, to hold the programs against.
 
 mod advances;
 mod aims;
@@ -19,6 +19,7 @@ mod logs;
 mod numbers;
 mod promises;
 mod random;
+mod ranks;
 mod replies;
 mod shrink;
 mod spoil;
@@ -44,7 +45,7 @@ const USAGE: &str = "the reference of the supervisor; it reads standard input wh
   shrink FILE COMMAND...     where the command differs from replay on the file, prints a small log that shows it
   edges                      checks the lines that a file of logs in words says are printed
   assemble                   writes a file of logs in words as a sequence of logs
-  damage SEED N              writes N states of 439 bytes, sound ones and damaged ones
+  damage SEED N              writes N states in bytes, sound ones and damaged ones
   verdicts                   prints for each state whether it is sound
   tally-states               prints how many states break each rule; fails if a rule is never broken
 

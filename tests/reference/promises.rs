@@ -166,7 +166,7 @@ impl Ledger {
             demand(waits.ticks_left != Some(0), "no wait outlives its time")?;
             demand(waits.ticks_left.is_some() == after.timer(task).is_some(), "a time runs while its wait does")?;
             let above = after.task(task).place == Place::Ready
-                && (a.next == 0 || after.task(task).priority > after.task(a.next).priority);
+                && (a.next == 0 || after.task(task).current > after.task(a.next).current);
             demand(!above, "the highest ready level runs")?;
         }
         Ok(())

@@ -2,10 +2,11 @@
 
 use crate::flat::{self, Flat, Rule, STATE};
 
-const RULES: [Rule; 14] = [
+const RULES: [Rule; 15] = [
     Rule::Created,
     Rule::UnusedPlaces,
     Rule::PriorityAndEntries,
+    Rule::CurrentPriority,
     Rule::Place,
     Rule::Timer,
     Rule::Lines,

@@ -3,7 +3,7 @@
 use crate::calls::{Call, CallMode, SelectMode};
 use crate::numbers::{refusal, result, ENTRIES, LEVELS, ROOM, TASKS};
 use crate::supervisor::{Answer, Place, Supervisor, Task, Timer};
-use std::collections::{BTreeSet, VecDeque};
+use std::collections::BTreeSet;
 
 /// The items of the ended waits, written one behind the other to the lent room.
 struct Ended<'a> {
@@ -101,16 +101,16 @@ impl Supervisor {
         task.since = since;
     }
 
-    /// The task joins the tail of its level.
+    /// The task joins the tail of its level, which is that of its current priority.
     fn make_ready(&mut self, task: u8) {
         self.settle(task, Place::Ready);
-        let level = self.task(task).priority as usize - 1;
+        let level = self.task(task).current as usize - 1;
         self.ready[level].push_back(task);
     }
 
     /// The running task leaves the head of its level.
     fn leave_ready(&mut self, running: u8, place: Place) {
-        let level = self.task(running).priority as usize - 1;
+        let level = self.task(running).current as usize - 1;
         self.ready[level].pop_front();
         self.settle(running, place);
     }
@@ -129,14 +129,36 @@ impl Supervisor {
         self.delays.retain(|timer| timer.task != task);
     }
 
+    /// A rendezvous begins: the holder's current priority becomes the higher of its own and the caller's.
     fn hold(&mut self, holder: u8, caller: u8, entry: u8) {
-        self.settle(caller, Place::Held { holder, entry });
-        self.task_mut(holder).held.push(caller);
+        let kept = self.task(holder).current;
+        self.settle(caller, Place::Held { holder, entry, kept });
+        let current = kept.max(self.task(caller).current);
+        let holder = self.task_mut(holder);
+        holder.held.push(caller);
+        holder.current = current;
+    }
+
+    /// The running task's current priority was another: it is the first of its level now, alone there if it was raised.
+    fn change_level(&mut self, running: u8, before: u8) {
+        self.ready[before as usize - 1].pop_front();
+        let level = self.task(running).current as usize - 1;
+        self.ready[level].push_front(running);
+    }
+
+    /// A rendezvous has ended: the holder's current priority is what it was before. Lowered, it goes to the head of its old level.
+    fn put_back(&mut self, running: u8, kept: u8) {
+        let before = self.task(running).current;
+        self.task_mut(running).current = kept;
+        self.change_level(running, before);
+        if kept < before {
+            self.moves += 1;
+            self.task_mut(running).since = -self.moves;
+        }
     }
 
     fn create(&mut self, priority: u8, entries: u8) -> Outcome {
-        let queues = vec![VecDeque::new(); entries as usize];
-        self.tasks.push(Task { priority, place: Place::Ready, since: 0, queues, held: Vec::new() });
+        self.tasks.push(Task::new(priority, entries, Place::Ready));
         self.make_ready(self.tasks.len() as u8);
         (result::DONE, 0, 0)
     }
@@ -157,10 +179,10 @@ impl Supervisor {
             Place::Completed => return (result::TASKING_ERROR, entry, target),
             Place::Accepting { open } if open & (1 << (entry - 1)) != 0 => {
                 self.drop_timer(target);
-                self.make_ready(target);
-                ended.list(target, result::ACCEPTED, entry, running);
                 self.leave_ready(running, Place::Ready);
                 self.hold(target, running, entry);
+                self.make_ready(target);
+                ended.list(target, result::ACCEPTED, entry, running);
                 return (result::WAITS, 0, 0);
             }
             _ => {}
@@ -183,7 +205,9 @@ impl Supervisor {
             }
             if let Some(caller) = self.task_mut(running).queues[entry as usize - 1].pop_front() {
                 self.drop_timer(caller);
+                let before = self.task(running).current;
                 self.hold(running, caller, entry);
+                self.change_level(running, before);
                 return (result::ACCEPTED, entry, caller);
             }
         }
@@ -200,8 +224,9 @@ impl Supervisor {
 
     fn end(&mut self, running: u8, ended: &mut Ended) -> Outcome {
         if let Some(caller) = self.task_mut(running).held.pop() {
-            if let Place::Held { entry, .. } = self.task(caller).place {
+            if let Place::Held { entry, kept, .. } = self.task(caller).place {
                 ended.list(caller, result::SERVED, entry, running);
+                self.put_back(running, kept);
             }
             self.make_ready(caller);
         }

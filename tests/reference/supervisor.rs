@@ -8,22 +8,43 @@ use std::collections::VecDeque;
 pub enum Place {
     Ready,
     Delayed,
-    Queued { target: u8, entry: u8 },
-    Held { holder: u8, entry: u8 },
-    Accepting { open: u8 },
+    Queued {
+        target: u8,
+        entry: u8,
+    },
+    /// In a rendezvous, with what the holder's current priority was before it.
+    Held {
+        holder: u8,
+        entry: u8,
+        kept: u8,
+    },
+    Accepting {
+        open: u8,
+    },
     Completed,
 }
 
 #[derive(Clone, Debug)]
 pub struct Task {
+    /// The one it was created with.
     pub priority: u8,
+    /// The one it has now, which a rendezvous may raise.
+    pub current: u8,
     pub place: Place,
-    /// When it came to its place, as a count of such moves; only the flat form of the state needs it.
-    pub since: u64,
+    /// When it came to its place, as a count of such moves, below 0 for one that was put to the head; only the flat form of the state needs it.
+    pub since: i64,
     /// Its entry queues, entry 1 at 0.
     pub queues: Vec<VecDeque<u8>>,
     /// The callers it holds, the one held last at the end.
     pub held: Vec<u8>,
+}
+
+impl Task {
+    /// A task that calls nobody and is called by nobody.
+    pub fn new(priority: u8, entries: u8, place: Place) -> Task {
+        let queues = vec![VecDeque::new(); entries as usize];
+        Task { priority, current: priority, place, since: 0, queues, held: Vec::new() }
+    }
 }
 
 #[derive(Clone, Copy, Debug, PartialEq, Eq)]
@@ -39,7 +60,7 @@ pub struct Supervisor {
     /// The ready queues, level 1 at 0.
     pub ready: Vec<VecDeque<u8>>,
     pub delays: Vec<Timer>,
-    pub moves: u64,
+    pub moves: i64,
 }
 
 /// What a step answers, without the items in the lent room.
@@ -124,7 +145,11 @@ impl Supervisor {
     fn tasks_sound(&self) -> bool {
         self.tasks.iter().all(|task| {
             let idle = task.held.is_empty() && task.queues.iter().all(|queue| queue.is_empty());
-            (1..=LEVELS as u8).contains(&task.priority)
+            let kept = match task.place {
+                Place::Held { kept, .. } => kept,
+                _ => 1,
+            };
+            [task.priority, task.current, kept].iter().all(|level| (1..=LEVELS as u8).contains(level))
                 && task.queues.len() <= 8
                 && (task.place != Place::Completed || idle)
         })
@@ -142,7 +167,7 @@ impl Supervisor {
     fn ready_sound(&self, seen: &mut [usize]) -> bool {
         for (level, queue) in self.ready.iter().enumerate() {
             for &task in queue {
-                if !self.stands(task, Place::Ready, seen) || self.task(task).priority as usize != level + 1 {
+                if !self.stands(task, Place::Ready, seen) || self.task(task).current as usize != level + 1 {
                     return false;
                 }
             }
@@ -172,7 +197,7 @@ impl Supervisor {
         }
         match self.task(caller).place {
             Place::Held { entry, .. } if entry == 0 || entry as usize > self.task(holder).queues.len() => false,
-            Place::Held { entry, .. } => self.stands(caller, Place::Held { holder, entry }, seen),
+            Place::Held { entry, kept, .. } => self.stands(caller, Place::Held { holder, entry, kept }, seen),
             _ => false,
         }
     }

@@ -4,10 +4,11 @@ use crate::advances::{self, in_the_middle, Stretch};
 use crate::calls::{self, Call, CallMode, Fault, Read, SelectMode};
 use crate::logs::Log;
 use crate::numbers::{refusal, result, ROOM, TASKS};
+use crate::ranks::{self, Move};
 use crate::supervisor::{Answer, Place, Supervisor};
 use std::collections::BTreeMap;
 
-/// Every event that must occur, in the order of printing; those of ADVANCE come behind.
+/// Every event that must occur, in the order of printing; those of ADVANCE and of priorities come behind.
 const EVENTS: &[&str] = &[
     "CREATE done",
     "CREATE that preempts",
@@ -104,7 +105,8 @@ const EVENTS: &[&str] = &[
 ];
 
 fn events() -> impl Iterator<Item = &'static str> {
-    EVENTS.iter().copied().chain(advances::EVENTS.map(|(event, _)| event))
+    let (advances, ranks) = (advances::EVENTS.map(|(event, _)| event), ranks::EVENTS.map(|(event, _)| event));
+    EVENTS.iter().copied().chain(advances).chain(ranks)
 }
 
 pub struct Tally {
@@ -197,6 +199,7 @@ impl Tally {
         for item in &seen.items {
             self.hit(reason(item[1]), true);
         }
+        self.ranks(seen);
         self.hit("nobody ready afterwards", seen.answer.next == 0);
     }
 
@@ -312,6 +315,15 @@ impl Tally {
         self.wraps += usize::from(stretch.round());
         for (event, occurs) in advances::EVENTS {
             self.hit(event, occurs(stretch));
+        }
+    }
+
+    fn ranks(&mut self, seen: &Seen) {
+        let &Seen { call, before, after, answer, running, .. } = seen;
+        let ended = seen.items.iter().map(|item| item[0]).collect();
+        let moved = &Move { call, before, after, answer, ended, running };
+        for (event, occurs) in ranks::EVENTS {
+            self.hit(event, occurs(moved));
         }
     }
 
