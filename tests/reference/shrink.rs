@@ -2,6 +2,8 @@
 
 use crate::calls::{self, Call, CallMode, Read, SelectMode};
 use crate::logs::{self, Log, HEADER};
+use crate::numbers::ROOM;
+use crate::supervisor::Supervisor;
 use crate::words;
 use std::io::{Read as _, Write};
 use std::process::{Command, Stdio};
@@ -72,21 +74,39 @@ impl Pieces {
         less
     }
 
-    /// Without the CREATE at that place, the tasks made later numbered anew.
-    fn without_task(&self, at: usize) -> Option<Pieces> {
+    /// The task that runs at each call.
+    fn runners(&self) -> Vec<u8> {
+        let mut state = Supervisor::empty(self.clock);
+        let mut before = |call: &Call| {
+            let running = state.running();
+            state.step(call, &mut [0; ROOM]);
+            running
+        };
+        self.calls.iter().map(|call| before(call)).collect()
+    }
+
+    /// Without the CREATE at that place, the tasks made later numbered anew; and, as another, without the calls that the task makes or
+    /// that name it.
+    fn without_task(&self, at: usize) -> Vec<Pieces> {
         let made = |call: &&Call| matches!(call, Call::Create { .. });
         if !self.calls.get(at).is_some_and(|call| made(&call)) {
-            return None;
+            return Vec::new();
         }
         let number = self.calls[..at].iter().filter(made).count() as u8 + 1;
-        let mut less = self.without(at, 1);
-        for call in &mut less.calls {
+        let from_outside = |call: &Call| matches!(call, Call::Create { .. } | Call::Tick | Call::Advance(_));
+        let names = |call: &Call| matches!(call, Call::Call { target, .. } if *target == number);
+        let own = |(call, runs): (&Call, u8)| names(call) || runs == number && !from_outside(call);
+        let mut alone = self.clone();
+        let own: Vec<bool> = self.calls.iter().zip(self.runners()).map(own).collect();
+        alone.calls = (0..own.len()).filter(|&i| i != at && !own[i]).map(|i| self.calls[i]).collect();
+        let mut less = vec![self.without(at, 1), alone];
+        for call in less.iter_mut().flat_map(|less| &mut less.calls) {
             match call {
                 Call::Call { target, .. } if *target > number => *target -= 1,
                 _ => {}
             }
         }
-        Some(less)
+        less
     }
 
     /// The same with simpler numbers at one place.
@@ -149,7 +169,7 @@ fn smaller(command: &[&str], start: Pieces) -> Result<Pieces, String> {
         let mut candidates: Vec<Pieces> =
             (0..small.calls.len()).step_by(size).map(|from| small.without(from, size)).collect();
         if size == 1 {
-            candidates.extend((0..small.calls.len()).filter_map(|at| small.without_task(at)));
+            candidates.extend((0..small.calls.len()).flat_map(|at| small.without_task(at)));
             candidates.extend((0..small.calls.len()).flat_map(|at| small.simpler(at)));
         }
         match still_differs(command, &candidates)? {
