@@ -15,8 +15,7 @@ use Rattle.calls.specs.Record.{fourFrom}
 use Rattle.stream.specs.Windows.{movedTo, endIn, startIn, unreadIn, Grown}
 use Rattle.stream.specs.declared.window.Window.{Window}
 use Rattle.stream.proofs.Growing.{unread-length, unread-behind}
-use Rattle.session.specs.Turn.{turnOf}
-use Rattle.session.specs.declared.turns.Session.{Session}
+use Rattle.session.specs.Turn.{Engine, turnOf}
 use Rattle.session.proofs.Pieces.{turn-within}
 use Rattle.logs.specs.declared.Log.{Log}
 use Rattle.logs.specs.declared.Rest.{Rest}
@@ -87,13 +86,13 @@ unread-taken w b k h =
         rw (place, none, start)
 
 -- what stands unread behind a turn is what stood behind the bytes that it took: none is lost, and none comes twice
-pub taken-once : {l r : Log} {place : ℕ} {onward : Bool} {out : List ℕ} (b : List ℕ) (s : Session) (last : Bool) (room : List ℕ)
-    → Moved l (turnOf s (bytesIn l b) last room .count) place onward out r
-    → unreadIn (r .flow .window) b ≡ drop (turnOf s (bytesIn l b) last room .count) (unreadIn (l .flow .window) b)
-taken-once {l} b s last room m =
+pub taken-once : {S : Type 0} (g : Engine S) {l r : Log} {place : ℕ} {onward : Bool} {out : List ℕ} (b : List ℕ) (s : S) (last : Bool) (room : List ℕ)
+    → Moved l (turnOf g s (bytesIn l b) last room .count) place onward out r
+    → unreadIn (r .flow .window) b ≡ drop (turnOf g s (bytesIn l b) last room .count) (unreadIn (l .flow .window) b)
+taken-once g {l} b s last room m =
     let u = unreadIn (l .flow .window) b in
-    let few = turn-within s room (bytesIn l b) last in
-    rw (m .window) (unread-taken (l .flow .window) b (turnOf s (bytesIn l b) last room .count) (omega (arith, length-take (l .left) u)))
+    let few = turn-within g s room (bytesIn l b) last in
+    rw (m .window) (unread-taken (l .flow .window) b (turnOf g s (bytesIn l b) last room .count) (omega (arith, length-take (l .left) u)))
 
 -- ---- the rest of a log
 

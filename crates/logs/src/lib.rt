@@ -5,11 +5,14 @@ ghost use mathlib.Core.Bool.{true};
 ghost use Rattle.text.specs.Text.{Uncut};
 ghost use Rattle.report.specs.Lines.{header, longestLine};
 ghost use Rattle.stream.specs.Outputs.{spare, Free};
-ghost use Rattle.session.specs.Turn.{turnOf, turnedOf};
+ghost use Rattle.session.specs.Turn.{first, second, turnOf, turnedOf, secondTurnedOf};
 ghost use Rattle.logs.specs.Logs.{partOf, bytesIn, isLast, begunOf, placeBehind, Moved, Supplied, Onward};
 ghost use Rattle.logs.specs.Rests.{droppedOf, Skipped, numberAt, headOf, Headed};
 use calls::word;
+use libc::STDERR_FILENO;
 use report::put_header;
+use session::seconds::SecondSession;
+use session::seconds::SecondTurned;
 use session::turns::Next;
 use session::turns::Session;
 use session::turns::Turned;
@@ -133,14 +136,33 @@ fn behind(l: Log, next: Next, count: usize, place: usize, buf: &mut [u8], out: &
 // One turn of the session, on the bytes of the log that stand in the window. Where there is room for a line, its text is printed whole.
 fn run_turn(l: Log, s: Session, buf: &[u8], room: &mut [u8], out: &mut [u8]) -> Turned
     requires { ⌜ Free longestLine (now out) (l .flow .waits) ⌝ }
-    ensures { λ r. ⌜ r ≡ turnedOf (turnOf s (bytesIn l (now (buf .entry))) (isLast l (now (buf .entry))) (now (room .entry))) (now (out .entry)) (l .flow .waits) ⌝ }
-    ensures { λ r. ⌜ now (room .exit) ≡ turnOf s (bytesIn l (now (buf .entry))) (isLast l (now (buf .entry))) (now (room .entry)) .room ⌝ }
-    ensures { λ r. ⌜ Uncut (now (out .entry)) (l .flow .waits) (turnOf s (bytesIn l (now (buf .entry))) (isLast l (now (buf .entry))) (now (room .entry)) .text) (now (out .exit)) ⌝ }
+    ensures { λ r. ⌜ r ≡ turnedOf (turnOf first s (bytesIn l (now (buf .entry))) (isLast l (now (buf .entry))) (now (room .entry))) (now (out .entry)) (l .flow .waits) ⌝ }
+    ensures { λ r. ⌜ now (room .exit) ≡ turnOf first s (bytesIn l (now (buf .entry))) (isLast l (now (buf .entry))) (now (room .entry)) .room ⌝ }
+    ensures { λ r. ⌜ Uncut (now (out .entry)) (l .flow .waits) (turnOf first s (bytesIn l (now (buf .entry))) (isLast l (now (buf .entry))) (now (room .entry)) .text) (now (out .exit)) ⌝ }
 {
     let p = part(l.flow.window, l.left, buf.len());
     let at = p.at;
     let end = p.end;
     turn(s, &buf[at..end], p.last, room, out, l.flow.waits)
+}
+
+// The same with the second engine.
+fn run_second_turn(
+    l: Log,
+    s: SecondSession,
+    buf: &[u8],
+    room: &mut [u8],
+    out: &mut [u8],
+) -> SecondTurned
+    requires { ⌜ Free longestLine (now out) (l .flow .waits) ⌝ }
+    ensures { λ r. ⌜ r ≡ secondTurnedOf (turnOf second s (bytesIn l (now (buf .entry))) (isLast l (now (buf .entry))) (now (room .entry))) (now (out .entry)) (l .flow .waits) ⌝ }
+    ensures { λ r. ⌜ now (room .exit) ≡ turnOf second s (bytesIn l (now (buf .entry))) (isLast l (now (buf .entry))) (now (room .entry)) .room ⌝ }
+    ensures { λ r. ⌜ Uncut (now (out .entry)) (l .flow .waits) (turnOf second s (bytesIn l (now (buf .entry))) (isLast l (now (buf .entry))) (now (room .entry)) .text) (now (out .exit)) ⌝ }
+{
+    let p = part(l.flow.window, l.left, buf.len());
+    let at = p.at;
+    let end = p.end;
+    session::seconds::turn(s, &buf[at..end], p.last, room, out, l.flow.waits)
 }
 
 // A log to its end. The log and its session are two variables: of a struct of both each turn would copy every field.
@@ -164,8 +186,67 @@ fn run_log(l: Log, buf: &mut [u8], out: &mut [u8]) -> Log
     log
 }
 
-// The log that standard input is, from an empty supervisor with this clock.
-pub fn run_input(clock: u32) {
+// The same with the second engine.
+fn run_second_log(l: Log, buf: &mut [u8], out: &mut [u8]) -> Log
+    requires { ⌜ l .goes ≡ true ⌝ }
+    requires { ⌜ Free spare (now out) (l .flow .waits) ⌝ }
+    ensures { λ r. ⌜ Free spare (now (out .exit)) (r .flow .waits) ⌝ }
+{
+    let mut room = [0u8; 124];
+    let mut log = started(l, out);
+    let state = second::empty(l.clock);
+    let mut s = SecondSession { state, step: 1 };
+    let mut turns = u64::MAX;
+    while turns > 0 && log.goes {
+        let t = run_second_turn(log, s, buf, &mut room, out);
+        let next = t.next;
+        s = t.session;
+        log = behind(log, next, t.count, t.place, buf, out);
+        turns -= 1;
+    }
+    log
+}
+
+// A log to its end, with the second engine or the first.
+fn run_with(l: Log, second: bool, buf: &mut [u8], out: &mut [u8]) -> Log
+    requires { ⌜ l .goes ≡ true ⌝ }
+    requires { ⌜ Free spare (now out) (l .flow .waits) ⌝ }
+    ensures { λ r. ⌜ Free spare (now (out .exit)) (r .flow .waits) ⌝ }
+{
+    if second {
+        return run_second_log(l, buf, out);
+    }
+    run_log(l, buf, out)
+}
+
+// Whether the bytes are the word `second`.
+fn is_word(word: &[u8; 7], n: usize) -> bool {
+    (n == 6)
+        & (word[0] == b's')
+        & (word[1] == b'e')
+        & (word[2] == b'c')
+        & (word[3] == b'o')
+        & (word[4] == b'n')
+        & (word[5] == b'd')
+}
+
+// Whether the only word behind the program's name is `second`, of so many words with the name.
+fn is_second(count: usize) -> bool {
+    let mut word = [0u8; 7];
+    let n = os::arg(1, &mut word);
+    (count == 2) & is_word(&word, n)
+}
+
+// Tells which words there are.
+fn usage() {
+    io::write_all(
+        STDERR_FILENO,
+        b"usage: stepper or replay, with no word or the word second, < LOG\n",
+    );
+}
+
+// The log that standard input is, from an empty supervisor with this clock, with the second engine or the first.
+fn run_input_with(clock: u32, second: bool) {
     let mut buf = io::large_buffer();
     let mut out = io::large_buffer();
     let flow = begun();
@@ -175,8 +256,19 @@ pub fn run_input(clock: u32) {
         left: ENDLESS,
         goes: true,
     };
-    let done = run_log(l, &mut buf, &mut out);
+    let done = run_with(l, second, &mut buf, &mut out);
     flushed(&out, done.flow.waits);
+}
+
+// The same, with the engine that the program's word chooses.
+pub fn run_input(clock: u32) {
+    let count = os::arg_count();
+    let second = is_second(count);
+    if second | (count < 2) {
+        run_input_with(clock, second);
+        return;
+    }
+    usage();
 }
 
 // What is skipped of a log: the window on the input, the bytes that the log still has, and whether more of them may come.
@@ -271,26 +363,37 @@ fn next_log(w: Window, f: Flow, buf: &mut [u8]) -> Log
 }
 
 // Runs a log, and gives the next one. The rest of a log that stopped is skipped.
-fn run_next(l: Log, buf: &mut [u8], out: &mut [u8]) -> Log
+fn run_next(l: Log, second: bool, buf: &mut [u8], out: &mut [u8]) -> Log
     requires { ⌜ l .goes ≡ true ⌝ }
     requires { ⌜ Free spare (now out) (l .flow .waits) ⌝ }
     ensures { λ r. ⌜ Free spare (now (out .exit)) (r .flow .waits) ⌝ }
 {
-    let done = run_log(l, buf, out);
+    let done = run_with(l, second, buf, out);
     let window = skipped(done.flow.window, done.left, buf);
     next_log(window, done.flow, buf)
 }
 
-// All logs of standard input, each from an empty supervisor with its own clock.
-pub fn run_logs() {
+// All logs of standard input, each from an empty supervisor with its own clock, with the second engine or the first.
+fn run_logs_with(second: bool) {
     let mut buf = io::large_buffer();
     let mut out = io::large_buffer();
     let f = begun();
     let mut l = next_log(f.window, f, &mut buf);
     let mut turns = u64::MAX;
     while turns > 0 && l.goes {
-        l = run_next(l, &mut buf, &mut out);
+        l = run_next(l, second, &mut buf, &mut out);
         turns -= 1;
     }
     flushed(&out, l.flow.waits);
+}
+
+// The same, with the engine that the program's word chooses.
+pub fn run_logs() {
+    let count = os::arg_count();
+    let second = is_second(count);
+    if second | (count < 2) {
+        run_logs_with(second);
+        return;
+    }
+    usage();
 }

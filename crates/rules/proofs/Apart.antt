@@ -1,27 +1,26 @@
 -- The callers apart from the rest of a state: a step looks at no calls but those to the running task, and the line of callers afterwards
 -- is told by the call and what it answers.
 -- Assumes nothing.
-use Prim.Native.Nat.{ℕ, zero, suc, _+_, _<_, _≤_}
-use mathlib.Core.Path.{_≡_, refl, sym, _∙_, ap, subst}
+use Prim.Native.Nat.{ℕ, zero, suc, _+_}
+use mathlib.Core.Path.{_≡_, refl, sym, _∙_, ap}
 use mathlib.Core.Bool.{Bool, true, false, not, _&&_}
 use mathlib.Core.List.{List, [], _∷_, _++_, map, append-nil}
 use native.Mathlib.Omega.{arith}
 use lib.IntN.{ℤ}
 use lib.ListN.{length}
 use lib.Dec.{eqb, ltb, leb}
-use borrow.Author.Tests.{eq-eqb, ne-eqb}
+use borrow.Author.Tests.{ne-eqb}
 use Prim.Native.Nat.{_^_}
 use Rattle.lists.specs.Lists.{if_then_else_, bit, filter, remove, count, first, last}
-use Rattle.lists.proofs.Tests.{bit-le}
-use Rattle.lists.proofs.ListLaws.{clash, by-bool, by-test, by-eq, count-append, count-filter-yes, count-filter-no, count-filter-le}
+use Rattle.lists.proofs.ListLaws.{clash, by-test, count-filter-le}
 use Rattle.lists.proofs.MarkLaws.{filter-same, filter-all, filter-filter, remove-absent, out, out-cons}
-use Rattle.rules.specs.State.{State, nth, placeOf, taskOf, created, isTask, isReady, isQueued, isCompleted, accepts, partnerOf, entryOf, opens, waitsOn, queue, heldBy, running, move, wake, wakeAll, meet, setClock, after, waiting, meeting, offer}
-use Rattle.rules.specs.Sound.{sound, inRange}
-use Rattle.rules.specs.Step.{Outcome, refused, took, create, delayFor, enqueue, timedCall, callBusy, call, openFrom, openEntry, selectDelay, selectNone, selectAt, select, endLast, end, queuedFrom, queuedOn, finish, failed, dueAt, endsAt, tick, tickTo, advanced, advanceEnds, readings, ofRunning, takeCall, ticks, item, DONE, expired}
+use Rattle.rules.specs.State.{State, placeOf, taskOf, created, isTask, isQueued, isCompleted, accepts, partnerOf, entryOf, opens, waitsOn, queue, heldBy, running, move, wake, wakeAll, meet, setClock, after}
+use Rattle.rules.specs.Sound.{inRange}
+use Rattle.rules.specs.Step.{Outcome, took, create, delayFor, timedCall, callBusy, call, openFrom, openEntry, selectDelay, selectNone, selectAt, select, endLast, end, queuedFrom, queuedOn, finish, failed, dueAt, endsAt, tick, tickTo, advanced, advanceEnds, readings, ofRunning, takeCall, ticks, item, DONE, expired}
 use Rattle.rules.specs.Callers.{calling, callersOf, withCallers, core, queuedIn, coreOf, asks, Told, CallersApart}
 use Rattle.rules.specs.declared.Item.{Item}
 use Rattle.rules.specs.declared.Timer.{Timer}
-use Rattle.rules.specs.declared.Timer.the-variants.{Off, Due}
+use Rattle.rules.specs.declared.Timer.the-variants.{Off}
 use Rattle.rules.specs.declared.Place.{Place}
 use Rattle.rules.specs.declared.Place.the-variants.{Blank, Ready, Delayed, Queued, Held, Accepting, Completed}
 use Rattle.calls.specs.declared.CallMode.{CallMode}
@@ -33,11 +32,9 @@ use Rattle.calls.specs.declared.Call as C
 use Rattle.calls.specs.declared.Call.the-variants.{Create, Delay, Call, Select, End, Finish, Tick, Advance}
 use Rattle.rules.proofs.Invariant.{Sound}
 use Rattle.rules.specs.Runs.{isWaiting}
-use Rattle.rules.specs.declared.Task.{Task}
-use Rattle.rules.proofs.Members.{runs, nth-beyond}
+use Rattle.rules.proofs.Members.{runs}
 use Rattle.rules.proofs.Fate.{Fate, untouched, awake, began, began-held, taken, ran-out, accepted, served, given-up}
 use Rattle.rules.proofs.SoundTest.{sound-props}
-use Rattle.rules.proofs.StepSound.{Kept, call-sound}
 
 -- ── an entry's queue is a part of the calls to its task ──
 

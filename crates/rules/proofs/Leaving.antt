@@ -2,26 +2,23 @@
 -- Assumes nothing.
 use Prim.Native.Nat.{ℕ, zero, suc, _+_, _<_, _^_}
 use mathlib.Core.Path.{_≡_, refl, sym, _∙_, ap}
-use mathlib.Core.Bool.{Bool, true, false, not, _&&_, and-true, and-false}
+use mathlib.Core.Bool.{Bool, true, not, _&&_, and-true, and-false}
 use mathlib.Core.List.{List, [], _∷_, _++_, map}
 use native.Mathlib.Omega.{arith}
 use lib.ListN.{length}
 use lib.Dec.{eqb, ltb, leb}
-use borrow.Author.Tests.{eq-eqb, ne-eqb, eqb-true, lt-ltb}
-use Rattle.lists.specs.Lists.{if_then_else_, bit, filter, count, first, last}
+use borrow.Author.Tests.{eq-eqb, ne-eqb, eqb-true}
+use Rattle.lists.specs.Lists.{bit, filter, count, first, last}
 use Rattle.lists.proofs.Tests.{and-first, and-second}
-use Rattle.lists.proofs.ListLaws.{clash, by-bool, by-test, by-eq, by-member, count-append, count-filter-yes, count-filter-no}
+use Rattle.lists.proofs.ListLaws.{clash, by-bool, by-test, by-eq, by-member, count-append, count-filter-yes}
 use Rattle.lists.proofs.MarkLaws.{filter-same, filter-all, filter-filter, filter-append, out}
-use Rattle.rules.specs.State.{State, placeOf, taskOf, created, isTask, isQueued, isHeld, isCompleted, accepts, partnerOf, heldBy, queue, running, wakeAll, after}
+use Rattle.rules.specs.State.{State, placeOf, taskOf, created, isTask, isQueued, isCompleted, accepts, partnerOf, heldBy, queue, running, wakeAll, after}
 use Rattle.rules.specs.Sound.{inRange}
-use Rattle.rules.specs.Step.{Outcome, refused, took, create, delayFor, timedCall, callBusy, call, openEntry, selectDelay, selectNone, selectAt, select, endLast, end, queuedOn, finish, failed, expired, dueAt, endsAt, tickTo, advanced, advanceEnds, ofRunning, takeCall, ticks, WAITS}
-use Rattle.rules.specs.Callers.{calling, callersOf, queuedIn, goneBy, leftBy, comesBy, Told}
+use Rattle.rules.specs.Step.{Outcome, refused, took, delayFor, timedCall, callBusy, call, openEntry, selectDelay, selectNone, selectAt, select, endLast, end, queuedOn, finish, failed, expired, dueAt, endsAt, tickTo, advanceEnds, ofRunning, takeCall, ticks, WAITS}
+use Rattle.rules.specs.Callers.{calling, callersOf, queuedIn, goneBy, leftBy, comesBy}
 use Rattle.rules.specs.Runs.{target}
 use Rattle.rules.specs.declared.Item.{Item}
-use Rattle.rules.specs.declared.Offer.{Offer}
-use Rattle.rules.specs.declared.Meeting.{Meeting}
 use Rattle.rules.specs.declared.Place.{Place}
-use Rattle.rules.specs.declared.Place.the-variants.{Held, Accepting}
 use Rattle.rules.specs.declared.Task.{Task}
 use Rattle.calls.specs.declared.CallMode.{CallMode}
 use Rattle.calls.specs.declared.CallMode.the-variants.{Simple, Timed, Conditional}

@@ -1,8 +1,8 @@
 -- Alike states stay alike, and the rows of a struct of the second engine are the queues of its state.
 -- Assumes nothing.
 use Prim.Native.Nat.{ℕ, zero, suc, _+_, _<_, _≤_}
-use mathlib.Core.Path.{_≡_, refl, sym, _∙_, ap, subst}
-use mathlib.Core.Bool.{Bool, true, false, not, _&&_, and-true, and-false}
+use mathlib.Core.Path.{_≡_, refl, sym, _∙_, ap}
+use mathlib.Core.Bool.{Bool, true, false, _&&_, and-false}
 use mathlib.Core.List.{List, [], _∷_, _++_, append-nil}
 use native.Mathlib.Omega.{arith}
 use lib.ListN.{length}
@@ -10,35 +10,30 @@ use lib.Dec.{eqb, ltb, leb}
 use borrow.Author.Tests.{eq-eqb, ne-eqb, eqb-true, leb-true, leb-false}
 use Rattle.lists.specs.Line.{line, pad, tidy}
 use Rattle.lists.specs.Lists.{if_then_else_, bit, filter, count, every}
-use Rattle.lists.proofs.LineLaws.{line-pad, line-picked, length-pad, pad-tidy}
+use Rattle.lists.proofs.LineLaws.{line-pad, line-picked, length-pad}
 use Rattle.lists.proofs.Tests.{and-first, and-second, and-both}
-use Rattle.lists.proofs.ListLaws.{clash, by-bool, by-eq, by-member, every-at, every-of, count-append, count-filter-yes, count-filter-no, count-filter-le}
+use Rattle.lists.proofs.ListLaws.{clash, by-bool, every-at, every-of, count-append, count-filter-yes, count-filter-no, count-filter-le}
 use Rattle.lists.proofs.MarkLaws.{filter-append, out}
-use Rattle.rules.specs.State.{State, nth, blank, empty, taskOf, placeOf, isQueued, partnerOf, running}
+use Rattle.rules.specs.State.{State, empty, taskOf, placeOf, isQueued, partnerOf, running}
 use Rattle.rules.specs.Sound.{sound}
-use Rattle.rules.specs.Step.{Outcome, refused, took, Refusal, BAD-FIELD, SHORT-ROOM, number, none, takeCall}
+use Rattle.rules.specs.Step.{Outcome, refused, took, Refusal, BAD-FIELD, SHORT-ROOM, none, takeCall}
 use Rattle.rules.specs.Callers.{calling, callersOf, withCallers, core, queuedIn, coreOf, Alike, goneBy, comesBy, Told}
-use Rattle.rules.specs.Whole.{viewCore, packCore, pack, packedCore, StepOf, Whole, decline, doneBy, stepWhole}
+use Rattle.rules.specs.Whole.{decline, doneBy}
 use Rattle.rules.specs.Second.{gathered, rowsFrom, viewSecond, packSecond, rowsRight, soundSecond, stepSecond}
-use Rattle.rules.specs.Runs.{Ask}
 use Rattle.rules.specs.declared.Item.{Item}
 use Rattle.rules.specs.declared.Task.{Task}
-use Rattle.rules.specs.declared.Waiting.{Waiting}
 use Rattle.rules.specs.declared.Row.{Row}
-use Rattle.rules.specs.declared.Second.{Second}
 use Rattle.rules.specs.declared.Place.{Place}
 use Rattle.rules.specs.declared.Place.the-variants.{Blank, Ready, Delayed, Queued, Held, Accepting, Completed}
 use Rattle.calls.specs.declared.Call as C
 use Rattle.rules.proofs.Invariant.{Sound, Calls}
-use Rattle.rules.proofs.Members.{in-filter, bit-true, nth-beyond, queued-good}
+use Rattle.rules.proofs.Members.{in-filter, nth-beyond, queued-good}
 use Rattle.rules.proofs.Fate.{FateOf, fate}
 use Rattle.rules.proofs.StepSound.{Kept, call-sound}
 use Rattle.rules.proofs.SoundTest.{sound-test}
-use Rattle.rules.proofs.StateRuns.{stepped}
-use Rattle.rules.proofs.OverRuns.{empty-sound}
-use Rattle.rules.proofs.EveryStruct.{step-taken}
 use Rattle.rules.proofs.WholeLaws.{view-core, packed-core, callers-fit, no-zero, behind}
-use Rattle.rules.proofs.Apart.{running-core, same-step, same-wait, tells}
+use Rattle.rules.proofs.AtOnce.{filter-none}
+use Rattle.rules.proofs.Apart.{same-step, same-wait, tells}
 use Rattle.rules.proofs.Leaving.{queue-told}
 
 -- ── alike states give alike outcomes ──
@@ -110,11 +105,7 @@ rowAt [] k = []
 rowAt (r ∷ rs) zero = line (r .line)
 rowAt (r ∷ rs) (suc k) = rowAt rs k
 
-pub filter-no : (f : ℕ → Bool) (l : List ℕ) → ((x : ℕ) → 0 < count x l → f x ≡ false) → filter f l ≡ []
-filter-no f [] h = refl
-filter-no f (x ∷ xs) h = rw (h x (rw (eq-eqb x x refl) (omega arith))) (filter-no f xs (λ y k. h y (omega arith)))
-
-pub filter-yes : (f : ℕ → Bool) (l : List ℕ) → ((x : ℕ) → 0 < count x l → f x ≡ true) → filter f l ≡ l
+filter-yes : (f : ℕ → Bool) (l : List ℕ) → ((x : ℕ) → 0 < count x l → f x ≡ true) → filter f l ≡ l
 filter-yes f [] h = refl
 filter-yes f (x ∷ xs) h = rw (h x (rw (eq-eqb x x refl) (omega arith))) (ap (_∷_ x) (filter-yes f xs (λ y k. h y (omega arith))))
 
@@ -137,7 +128,7 @@ module _ (s : State) where
   row-below [] g k e h = refl
   row-below (r ∷ rs) g k e h =
       filter-append (calling s k) (line (r .line)) (gathered rs)
-      ∙ (λ i. filter-no (calling s k) (line (r .line)) (λ x j. one-call s g k x (row-calls g r rs e x j) (λ z. omega arith)) i ++ row-below rs (suc g) k (rows-rest g r rs e) (omega arith) i)
+      ∙ (λ i. filter-none (calling s k) (line (r .line)) (λ x j. one-call s g k x (row-calls g r rs e x j) (λ z. omega arith)) i ++ row-below rs (suc g) k (rows-rest g r rs e) (omega arith) i)
 
   pub row-is : (rs : List Row) (g k : ℕ) → rowsRight s g rs ≡ true → filter (calling s (g + k)) (gathered rs) ≡ rowAt rs k
   row-is [] g k e = refl
@@ -149,7 +140,7 @@ module _ (s : State) where
       ∙ append-nil (line (r .line))
   row-is (r ∷ rs) g (suc k) e =
       filter-append (calling s (g + suc k)) (line (r .line)) (gathered rs)
-      ∙ (λ i. filter-no (calling s (g + suc k)) (line (r .line)) (λ x j. one-call s g (g + suc k) x (row-calls g r rs e x j) (λ z. omega arith)) i ++ filter (calling s (g + suc k)) (gathered rs))
+      ∙ (λ i. filter-none (calling s (g + suc k)) (line (r .line)) (λ x j. one-call s g (g + suc k) x (row-calls g r rs e x j) (λ z. omega arith)) i ++ filter (calling s (g + suc k)) (gathered rs))
       ∙ ap (λ (m : ℕ). filter (calling s m) (gathered rs)) (omega arith)
       ∙ row-is rs (suc g) k (rows-rest g r rs e)
 
@@ -207,7 +198,7 @@ module _ (u : State) (h : Sound u) where
       go Completed z = clash e (rw z)
 
   none-there : (g : ℕ) → ((0 < g) × (g ≤ 31) → ⊥) → callersOf u g ≡ []
-  none-there g n = filter-no (calling u g) (u .callers) (λ x j. by-bool (calling u g x) (λ e. absurd (n (called-there x g e))) (λ e. e))
+  none-there g n = filter-none (calling u g) (u .callers) (λ x j. by-bool (calling u g x) (λ e. absurd (n (called-there x g e))) (λ e. e))
 
   pub regrouped-queue : (g : ℕ) → callersOf regrouped g ≡ callersOf u g
   regrouped-queue zero = row-below u (rowsFrom u 31 1) 1 0 (rows-right 31 1) (omega arith) ∙ sym (none-there 0 (λ i. omega (arith, i .0)))

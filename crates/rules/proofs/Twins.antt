@@ -2,26 +2,21 @@
 -- Assumes nothing.
 use Prim.Native.Nat.{ℕ, _<_}
 use mathlib.Core.Path.{_≡_, refl, sym, _∙_, ap, subst}
-use mathlib.Core.Bool.{Bool, true, false, not, _&&_}
-use mathlib.Core.List.{List, [], _∷_, map}
+use mathlib.Core.Bool.{true, false}
+use mathlib.Core.List.{List, []}
 use lib.ListN.{length}
 use lib.Dec.{ltb}
 use Rattle.lists.specs.Lists.{filter}
 use Rattle.lists.proofs.ListLaws.{by-bool}
-use Rattle.rules.specs.State.{State, empty, placeOf, isTask, isCompleted, waitsOn, queue, running}
-use Rattle.rules.specs.Step.{Outcome, refused, took, Refusal, SHORT-ROOM, none, number, takeCall, roomAfter}
+use Rattle.rules.specs.State.{State, empty, waitsOn, queue, running}
+use Rattle.rules.specs.Step.{Outcome, refused, took, Refusal, SHORT-ROOM, takeCall}
 use Rattle.rules.specs.Callers.{Alike}
 use Rattle.rules.specs.Whole.{view, pack, soundWhole, StepOf, Whole, decline, doneBy, answerOf, stepWhole}
 use Rattle.rules.specs.Questions.{countBy, callableBy, runningBy, countWhole, callableWhole, runningWhole}
-use Rattle.rules.specs.Uses.{Use, Chain}
-use Rattle.rules.specs.Second.{viewSecond, packSecond, soundSecond, stepSecond, startSecond, countSecond, callableSecond, runningSecond, SecondUse, SecondChain, Reply, Question, askedOf, repliedOf, secondAsked, secondReplied}
+use Rattle.rules.specs.Second.{viewSecond, packSecond, soundSecond, stepSecond, startSecond, countSecond, callableSecond, runningSecond}
 use Rattle.rules.specs.Runs.{start}
-use Rattle.rules.specs.declared.Answer.{Answer}
-use Rattle.rules.specs.declared.Item.{Item}
-use Rattle.rules.specs.declared.Stepped.{Stepped}
 use Rattle.rules.specs.declared.Supervisor.{Supervisor}
 use Rattle.rules.specs.declared.Second.{Second}
-use Rattle.rules.specs.declared.SecondStepped.{SecondStepped}
 use Rattle.calls.specs.declared.Call as C
 use Rattle.rules.proofs.Invariant.{Sound}
 use Rattle.rules.proofs.StepSound.{Kept, call-sound}

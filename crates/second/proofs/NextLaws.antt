@@ -15,13 +15,12 @@ use Rattle.lists.specs.Marks.{noMarks, markOf, marked, withMark}
 use Rattle.lists.proofs.LineLaws.{tidy-pad}
 use Rattle.lists.proofs.ListLaws.{by-bool, by-eq, count-append}
 use Rattle.lists.proofs.MarkLaws.{filter-same, out, unmarked}
-use Rattle.rules.specs.State.{State, placeOf, isQueued, partnerOf}
+use Rattle.rules.specs.State.{State}
 use Rattle.rules.specs.Step.{took}
 use Rattle.rules.specs.Callers.{calling, callersOf, queuedIn, goneBy, leftBy, comesBy, toldBy}
 use Rattle.rules.specs.Runs.{target}
 use Rattle.rules.specs.Second.{rowsFrom}
 use Rattle.rules.specs.declared.Item.{Item}
-use Rattle.rules.specs.declared.Place.{Place}
 use Rattle.rules.specs.declared.Row.{Row}
 use Rattle.rules.proofs.Apart.{same-wait}
 use Rattle.rules.proofs.Fate.{Fate}
@@ -29,7 +28,7 @@ use Rattle.rules.proofs.Invariant.{Sound}
 use Rattle.rules.proofs.Leaving.{NamedIn, queue-told, joins, named-stay}
 use Rattle.rules.proofs.Members.{in-filter, bit-true}
 use Rattle.rules.proofs.SecondLaws.{comer}
-use Rattle.steps.specs.Change.{one, lineBy}
+use Rattle.steps.specs.Change.{one}
 use Rattle.steps.proofs.ChangeLaws.{small}
 use Rattle.second.specs.Rows.{noRow, nextRow, nextRows}
 

@@ -15,7 +15,7 @@ use denote.Shadow.{shadow}
 use mir.Val.{Val}
 use borrow.Author.Tests.{lt-ltb, leb-false, ne-eqb}
 use Rattle.lists.specs.Line.{line, pad, padTo, tidy}
-use Rattle.lists.specs.Lists.{if_then_else_, filter, every}
+use Rattle.lists.specs.Lists.{filter, every}
 use Rattle.lists.specs.Marks.{noMarks, markOf}
 use Rattle.lists.proofs.ListLaws.{by-bool}
 use Rattle.lists.proofs.MarkLaws.{filter-same, filter-filter, none-marked}

@@ -1,7 +1,7 @@
 -- The step of the second engine, in a sound state: the shared step, with the row of the running task, and the rows afterwards; and the questions.
 -- Assumes nothing.
 use Prim.Native.Nat.{ℕ, _+_, _<_}
-use mathlib.Core.Path.{_≡_, refl, sym, ap, subst, _∙_}
+use mathlib.Core.Path.{_≡_, sym, ap, subst, _∙_}
 use mathlib.Core.Bool.{Bool, true, false, not, _&&_}
 use mathlib.Core.List.{List, [], _++_}
 use native.Mathlib.Omega.{arith}
@@ -10,7 +10,7 @@ use lib.ListN.{length, getD}
 use lib.Seq.{length-take-le}
 use Rattle.calls.specs.declared.Call as C
 use Rattle.lists.specs.Line.{line, pad}
-use Rattle.lists.specs.Lists.{if_then_else_, filter}
+use Rattle.lists.specs.Lists.{filter}
 use Rattle.lists.specs.Marks.{noMarks, marked}
 use Rattle.lists.proofs.Tests.{and-first, and-second, if-true}
 use Rattle.rules.specs.State.{State, created, taskOf, isCompleted, queue, waitsOn, running}

@@ -2,7 +2,7 @@
 -- Assumes nothing.
 use Prim.Native.Nat.{ℕ, suc, _-_, _<_}
 use mathlib.Core.Path.{_≡_}
-use mathlib.Core.Bool.{Bool, true, not, _||_}
+use mathlib.Core.Bool.{Bool, not, _||_}
 use mathlib.Core.List.{List, [], _∷_}
 use lib.Dec.{eqb}
 use lib.ListN.{length, getD}
@@ -11,7 +11,6 @@ use Rattle.lists.specs.Line.{pad}
 use Rattle.lists.specs.Lists.{if_then_else_}
 use Rattle.lists.specs.Marks.{markOf}
 use Rattle.rules.specs.Callers.{asks}
-use Rattle.rules.specs.Second.{soundSecond}
 use Rattle.rules.specs.State.{running}
 use Rattle.rules.specs.Whole.{TypedCore, viewCore}
 use Rattle.rules.specs.declared.Core.{Core}

@@ -5,7 +5,7 @@ ghost use lib.ListN.{length};
 ghost use Rattle.calls.specs.Reading.{refusalOf};
 ghost use Rattle.report.specs.Lines.{longestLine};
 ghost use Rattle.text.specs.Text.{putAt};
-ghost use Rattle.session.specs.Turn.{turnOf, turnedOf, took, leaves};
+ghost use Rattle.session.specs.Turn.{first, turnOf, turnedOf, took, leaves};
 use calls::Call;
 use calls::Read;
 use calls::numbers::BAD_RECORD;
@@ -36,10 +36,10 @@ pub struct Turned {
 
 // A call is taken, and its line printed.
 fn taken(s: Session, call: Call, count: usize, room: &mut [u8], out: &mut [u8], at: usize) -> Turned
-    ensures { λ r. ⌜ r ≡ turnedOf (took s call count (now (room .entry))) (now (out .entry)) at ⌝ }
-    ensures { λ r. ⌜ now (room .exit) ≡ took s call count (now (room .entry)) .room ⌝ }
-    ensures { λ r. ⌜ now (out .exit) ≡ putAt (now (out .entry)) at (took s call count (now (room .entry)) .text) ⌝ }
-    ensures { λ r. ⌜ length (took s call count (now (room .entry)) .text) ≤ longestLine ⌝ }
+    ensures { λ r. ⌜ r ≡ turnedOf (took first s call count (now (room .entry))) (now (out .entry)) at ⌝ }
+    ensures { λ r. ⌜ now (room .exit) ≡ took first s call count (now (room .entry)) .room ⌝ }
+    ensures { λ r. ⌜ now (out .exit) ≡ putAt (now (out .entry)) at (took first s call count (now (room .entry)) .text) ⌝ }
+    ensures { λ r. ⌜ length (took first s call count (now (room .entry)) .text) ≤ longestLine ⌝ }
 {
     let stepped = supervisor::step(s.state, call, room);
     let answer = stepped.answer;
@@ -58,7 +58,7 @@ fn taken(s: Session, call: Call, count: usize, room: &mut [u8], out: &mut [u8], 
 }
 
 // The refusal number of what was read, 0 for a record.
-fn refusal_of(got: Read) -> u8
+pub(crate) fn refusal_of(got: Read) -> u8
     ensures { λ r. ⌜ r ≡ refusalOf got ⌝ }
 {
     match got {
@@ -78,9 +78,9 @@ fn refused(
     out: &mut [u8],
     at: usize,
 ) -> Turned
-    ensures { λ r. ⌜ r ≡ turnedOf (leaves s n many last (now (room .entry))) (now (out .entry)) at ⌝ }
-    ensures { λ r. ⌜ now (out .exit) ≡ putAt (now (out .entry)) at (leaves s n many last (now (room .entry)) .text) ⌝ }
-    ensures { λ r. ⌜ length (leaves s n many last (now (room .entry)) .text) ≤ longestLine ⌝ }
+    ensures { λ r. ⌜ r ≡ turnedOf (leaves first s n many last (now (room .entry))) (now (out .entry)) at ⌝ }
+    ensures { λ r. ⌜ now (out .exit) ≡ putAt (now (out .entry)) at (leaves first s n many last (now (room .entry)) .text) ⌝ }
+    ensures { λ r. ⌜ length (leaves first s n many last (now (room .entry)) .text) ≤ longestLine ⌝ }
 {
     if !last & (many < 10) {
         return Turned {
@@ -118,10 +118,10 @@ pub fn turn(
     out: &mut [u8],
     at: usize,
 ) -> Turned
-    ensures { λ r. ⌜ r ≡ turnedOf (turnOf s (now (input .entry)) last (now (room .entry))) (now (out .entry)) at ⌝ }
-    ensures { λ r. ⌜ now (room .exit) ≡ turnOf s (now (input .entry)) last (now (room .entry)) .room ⌝ }
-    ensures { λ r. ⌜ now (out .exit) ≡ putAt (now (out .entry)) at (turnOf s (now (input .entry)) last (now (room .entry)) .text) ⌝ }
-    ensures { λ r. ⌜ length (turnOf s (now (input .entry)) last (now (room .entry)) .text) ≤ longestLine ⌝ }
+    ensures { λ r. ⌜ r ≡ turnedOf (turnOf first s (now (input .entry)) last (now (room .entry))) (now (out .entry)) at ⌝ }
+    ensures { λ r. ⌜ now (room .exit) ≡ turnOf first s (now (input .entry)) last (now (room .entry)) .room ⌝ }
+    ensures { λ r. ⌜ now (out .exit) ≡ putAt (now (out .entry)) at (turnOf first s (now (input .entry)) last (now (room .entry)) .text) ⌝ }
+    ensures { λ r. ⌜ length (turnOf first s (now (input .entry)) last (now (room .entry)) .text) ≤ longestLine ⌝ }
 {
     let got = calls::read_record(input);
     let Read::Record { call, count } = got else {

@@ -2,7 +2,7 @@
 -- Assumes nothing.
 use Prim.Native.Nat.{ℕ, zero, suc, _+_, _≤_, _<_}
 use mathlib.Core.Path.{_≡_, refl, sym, ap, _∙_}
-use mathlib.Core.Bool.{Bool, true, false, _&&_, and-true, and-false, and-assoc, and-comm}
+use mathlib.Core.Bool.{Bool, true, false, _&&_, and-true, and-false, and-assoc}
 use mathlib.Core.List.{List, [], _∷_, _++_}
 use native.Mathlib.Omega.{arith}
 use lib.Dec.{eqb, ltb, leb}
@@ -31,7 +31,7 @@ use Rattle.soundness.specs.Check.{Callers, belongs, markedIn, checkedOf}
 use Rattle.soundness.specs.declared.Checked.{Checked}
 use Rattle.soundness.proofs.TaskLaws.{named}
 use Rattle.soundness.proofs.LineLaws.{emptied, emptied-wanted}
-use Rattle.soundness.proofs.WholeLaws.{callersRight, core-is}
+use Rattle.soundness.proofs.WholeLaws.{and-swap, callersRight, core-is}
 
 -- the walk over a list, and what is asked of the word that is left
 abbrev along : Marks → List ℕ → (Marks → Bool) → Bool
@@ -42,13 +42,9 @@ along-same : (m : Marks) (l : List ℕ) (K L : Marks → Bool) → ((n : Marks) 
 along-same m [] K L h = h m
 along-same m (x ∷ xs) K L h = ap (λ (b : Bool). hasMark m x && b) (along-same (withoutMark m x) xs K L h)
 
-swap : (a b c : Bool) → (a && (b && c)) ≡ (b && (a && c))
-swap true b c = refl
-swap false b c = sym (and-false b)
-
 along-and : (b : Bool) (m : Marks) (l : List ℕ) (K : Marks → Bool) → along m l (λ n. b && K n) ≡ (b && along m l K)
 along-and b m [] K = refl
-along-and b m (x ∷ xs) K = ap (λ (c : Bool). hasMark m x && c) (along-and b (withoutMark m x) xs K) ∙ swap (hasMark m x) b (along (withoutMark m x) xs K)
+along-and b m (x ∷ xs) K = ap (λ (c : Bool). hasMark m x && c) (along-and b (withoutMark m x) xs K) ∙ and-swap (hasMark m x) b (along (withoutMark m x) xs K)
 
 along-all : (m : Marks) (l k : List ℕ) → along m l (λ n. emptied n k) ≡ emptied m (l ++ k)
 along-all m [] k = refl
@@ -89,7 +85,7 @@ module _ (T : List ℕ) where
       (along-same m l (λ n. metAll T (suc g) b n rs) (λ n. b && (rowsTo (suc g) rs && emptied n (gathered rs))) (λ n. rows-step (suc g) b n rs)
       ∙ along-and b m l (λ n. rowsTo (suc g) rs && emptied n (gathered rs))
       ∙ ap (λ (x : Bool). b && x) (along-and (rowsTo (suc g) rs) m l (λ n. emptied n (gathered rs)) ∙ ap (λ (x : Bool). rowsTo (suc g) rs && x) (along-all m l (gathered rs))))
-      ∙ swap R b (rowsTo (suc g) rs && emptied m (l ++ gathered rs))
+      ∙ and-swap R b (rowsTo (suc g) rs && emptied m (l ++ gathered rs))
       ∙ ap (λ (x : Bool). b && x) (sym (and-assoc R (rowsTo (suc g) rs) (emptied m (l ++ gathered rs))))
 
 -- ── the loops ──

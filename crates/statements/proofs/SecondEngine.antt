@@ -2,14 +2,14 @@
 -- Assumes nothing.
 use Prim.Native.Nat.{ℕ, _<_, _≤_}
 use mathlib.Core.Path.{_≡_, refl, sym, _∙_, ap, subst}
-use mathlib.Core.Bool.{Bool, true, false}
+use mathlib.Core.Bool.{false}
 use mathlib.Core.List.{List, [], _∷_, map}
 use native.Mathlib.Omega.{arith}
 use lib.Dec.{ltb}
 use lib.ListN.{length}
 use borrow.Author.Tests.{le-ltb, lt-ltb}
 use Rattle.lists.proofs.ListLaws.{by-bool}
-use Rattle.rules.specs.Step.{Outcome, refused, took, Refusal, SHORT-ROOM, BAD-STATE, number, takeCall, roomAfter}
+use Rattle.rules.specs.Step.{Outcome, refused, took, takeCall, roomAfter}
 use Rattle.rules.specs.Whole.{StepOf, doneBy, answerOf, stepWhole}
 use Rattle.rules.specs.Uses.{Use, Chain}
 use Rattle.rules.specs.Runs.{start}

@@ -1,6 +1,6 @@
 -- Who is gone, and who comes: what is read off what a call gave is what the rules say of the callers.
 -- Assumes nothing.
-use Prim.Native.Nat.{ℕ, zero, suc, _+_, _-_, _*_, _≤_, _<_}
+use Prim.Native.Nat.{ℕ, suc, _+_, _-_, _*_, _≤_, _<_}
 use mathlib.Core.Path.{_≡_, refl, sym, ap, _∙_}
 use mathlib.Core.Bool.{Bool, true, false, _&&_}
 use mathlib.Core.List.{List, [], _∷_, _++_, map, append-nil}
@@ -11,15 +11,15 @@ use lib.Seq.{getD-drop, drop-drop}
 use borrow.Author.Tests.{ltb-true, ltb-false}
 use Rattle.calls.specs.Record.{byte}
 use Rattle.calls.specs.declared.Call as C
-use Rattle.lists.specs.Line.{line, pad, tidy}
+use Rattle.lists.specs.Line.{line, pad}
 use Rattle.lists.specs.Lists.{if_then_else_, bit, filter, count}
 use Rattle.lists.specs.Marks.{noMarks, markOf, marked, withMark}
 use Rattle.lists.proofs.LineLaws.{line-picked}
 use Rattle.lists.proofs.ListLaws.{by-bool}
 use Rattle.lists.proofs.MarkLaws.{filter-same, filter-all, none-marked, out, unmarked}
 use Rattle.rules.specs.State.{State, isQueued}
-use Rattle.rules.specs.Step.{Outcome, refused, took, number, roomAfter}
-use Rattle.rules.specs.Callers.{acceptedIn, goneBy, comesBy, toldBy, Told}
+use Rattle.rules.specs.Step.{Outcome, refused, took, roomAfter}
+use Rattle.rules.specs.Callers.{acceptedIn, goneBy, comesBy, Told}
 use Rattle.rules.specs.declared.Core.{Core}
 use Rattle.rules.specs.declared.Item.{Item}
 use Rattle.rules.specs.declared.Task.{Task}

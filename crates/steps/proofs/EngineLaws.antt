@@ -2,17 +2,13 @@
 -- Assumes nothing.
 use Prim.Native.Nat.{ℕ}
 use mathlib.Core.Path.{_≡_, refl, sym, ap, _∙_}
-use mathlib.Core.List.{List, [], append-nil}
-use lib.ListN.{length}
-use Rattle.lists.specs.Lists.{if_then_else_, filter}
+use mathlib.Core.List.{[]}
 use Rattle.rules.specs.State.{State, running}
-use Rattle.rules.specs.Step.{Outcome, refused, took, takeCall, roomAfter}
+use Rattle.rules.specs.Step.{Outcome, refused, took}
 use Rattle.rules.specs.Callers.{core}
-use Rattle.rules.specs.Whole.{viewCore, packCore, StepOf, doneBy, answerOf}
-use Rattle.rules.specs.declared.Answer.{Answer}
+use Rattle.rules.specs.Whole.{viewCore, doneBy, answerOf}
 use Rattle.rules.specs.declared.Core.{Core}
 use Rattle.rules.proofs.Apart.{running-core}
-use Rattle.rules.proofs.Invariant.{Sound}
 use Rattle.rules.proofs.StepSound.{Kept}
 use Rattle.rules.proofs.WholeLaws.{view-core}
 use Rattle.steps.specs.Taken.{takenOf, endedBy, answerBy}

@@ -1,6 +1,6 @@
 -- The whole step, and the questions.
 -- Assumes nothing.
-use Prim.Native.Nat.{ℕ, _<_}
+use Prim.Native.Nat.{ℕ}
 use mathlib.Core.Path.{_≡_, refl, sym, ap, _∙_}
 use mathlib.Core.Bool.{Bool, true, false, not, _&&_}
 use mathlib.Core.List.{List, _++_}
@@ -9,13 +9,12 @@ use lib.Dec.{ltb, leb}
 use lib.ListN.{length}
 use lib.Seq.{length-take-le}
 use Rattle.lists.specs.Line.{line}
-use Rattle.lists.specs.Lists.{if_then_else_}
 use Rattle.lists.specs.Marks.{noMarks, marked}
 use Rattle.lists.proofs.LineLaws.{tidy-pad}
-use Rattle.rules.specs.State.{State, created, taskOf, running, isCompleted}
+use Rattle.rules.specs.State.{created, taskOf, isCompleted}
 use Rattle.rules.specs.Step.{Outcome, refused, took, takeCall, roomAfter, SHORT-ROOM, BAD-STATE}
 use Rattle.rules.specs.Callers.{acceptedIn}
-use Rattle.rules.specs.Whole.{Typed, viewCore, view, Whole, soundWhole, decline, done, stepWhole, answerOf, steppedOf}
+use Rattle.rules.specs.Whole.{Typed, view, Whole, soundWhole, decline, done, stepWhole, steppedOf}
 use Rattle.rules.specs.declared.Task.{Task}
 use Rattle.rules.specs.declared.Supervisor.{Supervisor}
 use Rattle.rules.proofs.Apart.{tells}

@@ -7,17 +7,16 @@ use mathlib.Core.List.{List, _∷_, _++_}
 use native.Mathlib.Numerals.{unary-clauses}
 use native.Mathlib.Omega.{arith}
 use lib.Dec.{eqb, ltb, leb}
-use lib.ListN.{length, getD, set, take, length-take, length-set}
-use lib.Seq.{getD-take, set-out, set-getD, getD-set-same, getD-set-other}
+use lib.ListN.{length, getD, set, take, length-take}
+use lib.Seq.{getD-take, set-out, set-getD}
 use borrow.Author.Tests.{ltb-true, ltb-false, leb-true, leb-false, lt-ltb, le-leb}
 use Rattle.lists.specs.Line.{line, pad}
 use Rattle.lists.proofs.ListLaws.{by-bool, by-eq, clash}
 use Rattle.lists.proofs.LineLaws.{left-over, line-picked}
 use Rattle.lists.proofs.MarkLaws.{insert-by}
-use Rattle.lists.specs.Lists.{if_then_else_, bit, remove, rejoin}
+use Rattle.lists.specs.Lists.{if_then_else_, remove, rejoin}
 use Rattle.lists.specs.Marks.{noMarks, markOf, marked, withMark, insertBy}
 use Rattle.rules.specs.State.{blank, nth, setNth, taskOf, isReady, isHeld, keptOf, retime, ticksLeft, placed, ranked, higher, meeting}
-use Rattle.rules.specs.Callers.{queuedIn}
 use Rattle.rules.specs.Whole.{viewCore}
 use Rattle.rules.specs.declared.Core.{Core}
 use Rattle.rules.specs.declared.Place.{Place}

@@ -10,8 +10,8 @@ use Rattle.logs.proofs.run_next.Tie as tie
 returns : tie.Need-returns
 unfolding headOf
 returns c =
-    let d = c .before .before .before .before .before .before .before .before .before .before .before .before .run-log in
-    subst (Free spare (d .last .1 .1 .0)) (sym (ap (λ (l : Log). l .flow .waits) (c .before .before .next-log .ensures .head))) (d .ensures)
+    let d = c .before .before .before .before .before .before .before .before .before .before .before .before .run-with in
+    subst (Free spare (d .last .1 .1 .1 .0)) (sym (ap (λ (l : Log). l .flow .waits) (c .before .before .next-log .ensures .head))) (d .ensures)
 
 pub run-next-spec : {M : Type 1} → statement M
 run-next-spec =

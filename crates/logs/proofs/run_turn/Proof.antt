@@ -6,7 +6,7 @@ use borrow.Author.Needs.{needs}
 use denote.Ref.{now}
 use Rattle.stream.specs.declared.window.Window.{Window}
 use Rattle.text.proofs.Puts.{put-whole}
-use Rattle.session.specs.Turn.{turnOf}
+use Rattle.session.specs.Turn.{first, turnOf}
 use Rattle.logs.specs.Logs.{bytesIn, isLast}
 use Rattle.logs.proofs.LogLaws.{part-bytes, part-last}
 use Rattle.logs.proofs.run_turn.Statement.{statement}
@@ -21,7 +21,7 @@ returns c =
     let given : take (p .end - p .at) (drop (p .at) b) ≡ bytesIn (a .l) b = rw (s .part .ensures .0) (part-bytes (a .l) b) in
     let last : p .last ≡ isLast (a .l) b = rw (s .part .ensures .0) (part-last (a .l) b) in
     let t = c .before .before .before .before .turn .ensures in
-    let text = turnOf (a .s) (take (p .end - p .at) (drop (p .at) b)) (p .last) (a .room .now) .text in
+    let text = turnOf first (a .s) (take (p .end - p .at) (drop (p .at) b)) (p .last) (a .room .now) .text in
     let whole = put-whole (a .out .now) (a .l .flow .waits) text _ (t .1 .1 .0) (omega (arith, t .1 .1 .1, s .before .before .before .before .pre)) in
     rw (← given, ← last) (t .0, (t .1 .0, whole))
 

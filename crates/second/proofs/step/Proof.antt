@@ -1,6 +1,6 @@
 use native.Mathlib.Omega.{arith}
 use borrow.Author.Needs.{needs}
-use Prim.Native.Nat.{ℕ, _<_}
+use Prim.Native.Nat.{_<_}
 use mathlib.Core.Path.{_≡_, refl, sym, _∙_, ap}
 use mathlib.Core.Bool.{true, false}
 use lib.ListN.{length}
@@ -13,7 +13,6 @@ use Rattle.rules.specs.Step.{takeCall, roomAfter}
 use Rattle.rules.specs.Whole.{StepOf, doneBy, answerOf}
 use Rattle.rules.specs.declared.Second.{Second}
 use Rattle.rules.proofs.StepSound.{call-sound}
-use Rattle.steps.specs.Taken.{takenOf, endedBy}
 use Rattle.steps.proofs.EngineLaws.{answer-is, ended-is}
 use Rattle.second.specs.Rows.{TypedSecond}
 use Rattle.second.proofs.RowLaws.{rows-long}

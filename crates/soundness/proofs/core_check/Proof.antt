@@ -1,9 +1,6 @@
 use native.Mathlib.Omega.{arith}
 use borrow.Author.Needs.{needs}
-use borrow.Author.Tests.{le-leb, lt-leb}
-use mathlib.Core.Bool.{_&&_}
-use mathlib.Core.Path.{_≡_, sym, ap, _∙_}
-use Rattle.soundness.specs.Check.{checkedOf}
+use borrow.Author.Tests.{lt-leb}
 use Rattle.soundness.proofs.WholeLaws.{checked-is}
 use Rattle.soundness.proofs.core_check.Statement.{statement}
 use Rattle.soundness.proofs.core_check.Tie as tie

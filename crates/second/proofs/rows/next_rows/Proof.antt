@@ -2,13 +2,13 @@
 use native.Mathlib.Omega.{arith}
 use borrow.Author.Needs.{needs}
 use Prim.Native.Nat.{_+_, _-_, _≤_}
-use mathlib.Core.Path.{_≡_, refl, sym, ap, _∙_}
+use mathlib.Core.Path.{_≡_, refl, sym, _∙_}
 use mathlib.Core.List.{_++_}
-use lib.ListN.{length, take, drop, getD, length-set}
+use lib.ListN.{length, take, drop, length-set}
 use Rattle.lists.proofs.Tests.{ways}
 use Rattle.lists.proofs.ListLaws.{mapped-long}
 use Rattle.rules.specs.declared.Row.{Row}
-use Rattle.second.specs.Rows.{noRow, nextRows}
+use Rattle.second.specs.Rows.{nextRows}
 use Rattle.second.proofs.RowLaws.{rows-touched, rows-skipped, rows-end}
 use Rattle.second.proofs.rows.next_rows.Statement.{statement}
 use Rattle.second.proofs.rows.next_rows.Tie as tie

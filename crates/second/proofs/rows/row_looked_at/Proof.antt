@@ -1,6 +1,5 @@
 use borrow.Author.Needs.{needs}
-use mathlib.Core.Path.{_≡_, sym, ap, _∙_}
-use Prim.Native.Nat.{ℕ}
+use mathlib.Core.Path.{sym, ap, _∙_}
 use Rattle.lists.specs.Line.{pad, padTo}
 use Rattle.second.specs.Rows.{rowOf}
 use Rattle.second.proofs.rows.row_looked_at.Statement.{statement}

@@ -11,6 +11,7 @@ use Rattle.rules.specs.declared.Answer.{Answer}
 use Rattle.rules.specs.declared.Running.{Running}
 use Rattle.text.proofs.Puts.{put-none, same-text}
 use Rattle.rules.specs.Whole.{refusedAnswer}
+use Rattle.session.specs.Turn.{first, made}
 use Rattle.session.proofs.TurnLaws.{says, asks-more, ends, says-bad}
 use borrow.Author.Needs.{needs}
 use Rattle.session.proofs.turns.refused.Statement.{statement}
@@ -33,12 +34,12 @@ bad c = ne-eqb _ 12 (c .if2 .left)
 returns : tie.Need-returns
 returns c =
     let a = c .before .before .before .before .args in
-    says _ _ (asks-more (a .s) (a .n) (a .many) (a .last) (a .room .now) (more (c .before))) (put-none (c .least .ensures)) (omega arith)
+    says made _ _ (asks-more first (a .s) (a .n) (a .many) (a .last) (a .room .now) (more (c .before))) (put-none (c .least .ensures)) (omega arith)
 
 returns-2 : tie.Need-returns-2
 returns-2 c =
     let a = c .before .before .before .before .before .args in
-    says _ _ (ends (a .s) (a .n) (a .many) (a .last) (a .room .now) (no-more (c .before .before)) (over (c .before))) (put-none (c .least2 .ensures)) (omega arith)
+    says made _ _ (ends first (a .s) (a .n) (a .many) (a .last) (a .room .now) (no-more (c .before .before)) (over (c .before))) (put-none (c .least2 .ensures)) (omega arith)
 
 returns-3 : tie.Need-returns-3
 returns-3 c =
@@ -49,7 +50,7 @@ returns-3 c =
     let a = e .before .before .before .before .args in
     let answer = f .refused-answer .ensures ∙ ap (λ (k : Running). refusedAnswer (a .n) (k .task)) (r .running .ensures) in
     let line = ap (λ (x : Answer). lineText (a .s .step) x (a .room .now)) answer in
-    says _ _ (says-bad (a .s) (a .n) (a .many) (a .last) (a .room .now) (no-more (e .before)) (bad e))
+    says made _ _ (says-bad first (a .s) (a .n) (a .many) (a .last) (a .room .now) (no-more (e .before)) (bad e))
     (same-text line (p .put-line .ensures .0)) (subst (λ (t : List ℕ). length t ≤ longestLine) line (p .put-line .ensures .1))
 
 pub refused-spec : {M : Type 1} → statement M

@@ -1,5 +1,8 @@
 use mathlib.Core.Path.{_≡_, ap}
-use Rattle.session.specs.Turn.{Turn}
+use lib.ListN.{length}
+use Rattle.rules.specs.declared.Stepped.{Stepped}
+use Rattle.session.specs.Turn.{Turn, first, made}
+use Rattle.session.specs.declared.turns.Session.{Session}
 use Rattle.text.specs.Text.{numberAfter}
 use Rattle.session.proofs.TurnLaws.{took-is, says}
 use borrow.Author.Needs.{needs}
@@ -20,9 +23,12 @@ gives number c =
     let stepped = printed .before .before .before .before .before .before in
     let a = stepped .before .before .before .before .args in
     let k = stepped .step in
-    let whole = took-is (a .s) (a .call) (a .count) (a .room .now) (k .last .1 .1 .0) (k .result) (c .wrapping-add-u64 .result) (k .ensures .0) (k .ensures .1) (number c) in
-    let said = says _ _ whole (printed .put-line .ensures .0) (printed .put-line .ensures .1) in
-    (said .0, (ap (λ (t : Turn). t .room) whole, said .1))
+    let next : _≡_ {A = Session} (record { state = k .result .state; step = c .wrapping-add-u64 .result }) (first .after (a .s) (a .call) (length (a .room .now))) =
+    λ i. record { state = k .ensures .0 i .state; step = number c i } in
+    let whole = took-is first (a .s) (a .call) (a .count) (a .room .now) (k .last .1 .1 .0) (k .result .answer) (record { state = k .result .state; step = c .wrapping-add-u64 .result })
+    (ap (λ (r : Stepped). r .answer) (k .ensures .0)) (k .ensures .1) next in
+    let said = says made _ _ whole (printed .put-line .ensures .0) (printed .put-line .ensures .1) in
+    (said .0, (ap (λ (t : Turn Session). t .room) whole, said .1))
 
 pub taken-spec : {M : Type 1} → statement M
 taken-spec =

@@ -6,14 +6,14 @@ use Rattle.stream.specs.Outputs.{spare, Free}
 use Rattle.stream.specs.declared.flow.Flow.{Flow}
 use Rattle.logs.specs.declared.Log.{Log}
 use Rattle.logs.specs.Rests.{headOf}
-use Rattle.logs.proofs.run_logs.Statement.{statement}
-use Rattle.logs.proofs.run_logs.Tie as tie
+use Rattle.logs.proofs.run_logs_with.Statement.{statement}
+use Rattle.logs.proofs.run_logs_with.Tie as tie
 
 abbrev Inv-loop : tie.InvT-loop
-Inv-loop buf₀ out₀ l₀ turns₀ buf out l turns = (length buf ≡ 65536) × (length out ≡ 65536) × Free spare out (l .flow .waits)
+Inv-loop second buf₀ out₀ l₀ turns₀ buf out l turns = (length buf ≡ 65536) × (length out ≡ 65536) × Free spare out (l .flow .waits)
 
 abbrev μ-loop : tie.MeasureT-loop
-μ-loop buf₀ out₀ l₀ turns₀ buf out l turns = turns
+μ-loop second buf₀ out₀ l₀ turns₀ buf out l turns = turns
 
 -- nothing waits before the first log
 loop-holds : tie.Need-loop-holds Inv-loop μ-loop
@@ -27,8 +27,8 @@ loop-holds c =
 loop-again : tie.Need-loop-again Inv-loop μ-loop
 loop-again c = (search needs, search needs, c .before .before .run-next .ensures)
 
-pub run-logs-spec : {M : Type 1} → statement M
-run-logs-spec =
+pub run-logs-with-spec : {M : Type 1} → statement M
+run-logs-with-spec =
     tie.close
     (tie.spec Inv-loop μ-loop (λ c κs. search needs) (λ c κs. search needs) (λ c κs. search needs) (λ c. search needs)
     (λ c κs. search needs) loop-holds (λ c. search needs) (λ c. search needs) (λ c κs. (c .before .before .if1 .taken, c .before .before .before .before .loop .inv .2)) (λ c. search needs)
