@@ -6,7 +6,7 @@ use mathlib.Core.List.{List, [], _∷_, _++_, append-assoc}
 use native.Mathlib.Omega.{arith}
 use borrow.Author.Tests.{lt-ltb, le-ltb, le-leb, lt-leb}
 use lib.Dec.{eqb, leb}
-use lib.ListN.{length, getD, drop, length-append, length-drop, drop-of-length-le}
+use lib.ListN.{length, getD, drop, length-drop, drop-of-length-le}
 use lib.Seq.{take-at, drop-at, drop-drop, getD-drop}
 use Rattle.lists.specs.Lists.{if_then_else_, bit}
 use Rattle.lists.proofs.ListLaws.{by-bool}
@@ -15,7 +15,6 @@ use Rattle.calls.specs.Record.{byte}
 use Rattle.codec.specs.Layout.{stateSize, encode, stateIn, putAt, stored}
 use Rattle.codec.proofs.CodecLaws.{put-put, put-none}
 use Rattle.codec.proofs.Kept as codec
-use Rattle.rules.specs.declared.Supervisor.{Supervisor}
 use Rattle.debounce.specs.declared.Card.{Card}
 use Rattle.debounce.specs.declared.Contact.{Contact}
 use Rattle.debounce.specs.Card.{noContact, whole}

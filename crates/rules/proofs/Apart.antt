@@ -9,7 +9,6 @@ use native.Mathlib.Omega.{arith}
 use lib.IntN.{ℤ}
 use lib.ListN.{length}
 use lib.Dec.{eqb, ltb, leb}
-use borrow.Author.Tests.{ne-eqb}
 use Prim.Native.Nat.{_^_}
 use Rattle.lists.specs.Lists.{if_then_else_, bit, filter, remove, count, first, last}
 use Rattle.lists.proofs.ListLaws.{clash, by-test, count-filter-le}

@@ -13,7 +13,7 @@ use Rattle.lists.specs.Lists.{if_then_else_, bit, filter, count, every}
 use Rattle.lists.proofs.LineLaws.{line-pad, line-picked, length-pad}
 use Rattle.lists.proofs.Tests.{and-first, and-second, and-both}
 use Rattle.lists.proofs.ListLaws.{clash, by-bool, every-at, every-of, count-append, count-filter-yes, count-filter-no, count-filter-le}
-use Rattle.lists.proofs.MarkLaws.{filter-append, out}
+use Rattle.lists.proofs.MarkLaws.{filter-append, out, filter-none}
 use Rattle.rules.specs.State.{State, empty, taskOf, placeOf, isQueued, partnerOf, running}
 use Rattle.rules.specs.Sound.{sound}
 use Rattle.rules.specs.Step.{Outcome, refused, took, Refusal, BAD-FIELD, SHORT-ROOM, none, takeCall}
@@ -32,7 +32,6 @@ use Rattle.rules.proofs.Fate.{FateOf, fate}
 use Rattle.rules.proofs.StepSound.{Kept, call-sound}
 use Rattle.rules.proofs.SoundTest.{sound-test}
 use Rattle.rules.proofs.WholeLaws.{view-core, packed-core, callers-fit, no-zero, behind}
-use Rattle.rules.proofs.AtOnce.{filter-none}
 use Rattle.rules.proofs.Apart.{same-step, same-wait, tells}
 use Rattle.rules.proofs.Leaving.{queue-told}
 

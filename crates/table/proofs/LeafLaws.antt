@@ -7,7 +7,7 @@ use mathlib.Core.List.{List, _∷_, _++_}
 use native.Mathlib.Numerals.{unary-clauses}
 use native.Mathlib.Omega.{arith}
 use lib.Dec.{eqb, ltb, leb}
-use lib.ListN.{length, getD, set, take, length-take}
+use lib.ListN.{length, getD, set, take, length-take, length-set}
 use lib.Seq.{getD-take, set-out, set-getD}
 use borrow.Author.Tests.{ltb-true, ltb-false, leb-true, leb-false, lt-ltb, le-leb}
 use Rattle.lists.specs.Line.{line, pad}
