@@ -21,7 +21,7 @@ use Rattle.rules.specs.declared.Item.{Item}
 use Rattle.rules.specs.declared.Timer.{Timer}
 use Rattle.rules.specs.declared.Timer.the-variants.{Off}
 use Rattle.rules.specs.declared.Place.{Place}
-use Rattle.rules.specs.declared.Place.the-variants.{Blank, Ready, Delayed, Queued, Held, Accepting, Completed}
+use Rattle.rules.specs.declared.Place.the-variants.{Ready, Completed}
 use Rattle.calls.specs.declared.CallMode.{CallMode}
 use Rattle.calls.specs.declared.CallMode.the-variants.{Simple, Timed, Conditional}
 use Rattle.calls.specs.declared.SelectMode.{SelectMode}
@@ -30,8 +30,7 @@ use Rattle.calls.specs.declared.SelectMode.the-variants as S
 use Rattle.calls.specs.declared.Call as C
 use Rattle.calls.specs.declared.Call.the-variants.{Create, Delay, Call, Select, End, Finish, Tick, Advance}
 use Rattle.rules.proofs.Invariant.{Sound}
-use Rattle.rules.specs.Runs.{isWaiting}
-use Rattle.rules.proofs.Members.{runs}
+use Rattle.rules.proofs.Members.{runs, queued-waits}
 use Rattle.rules.proofs.Fate.{Fate, untouched, awake, began, began-held, taken, ran-out, accepted, served, given-up}
 use Rattle.rules.proofs.SoundTest.{sound-props}
 
@@ -198,20 +197,11 @@ runner-out s h = go (running s) refl
 pub same-wait : (s v : State) (c : C.Call) (a : Item) (l : List Item) (u : ℕ) → Fate s c u v a l → queuedIn s u ≡ true → queuedIn v u ≡ true → placeOf v u ≡ placeOf s u
 same-wait s v c a l u f p q = go f
   where
-    waits : (p : Place) → isQueued p ≡ true → isWaiting p ≡ true
-    waits (Queued w) e = refl
-    waits Blank e = clash e refl
-    waits Ready e = clash e refl
-    waits Delayed e = clash e refl
-    waits (Held m) e = clash e refl
-    waits (Accepting o) e = clash e refl
-    waits Completed e = clash e refl
-
     go : Fate s c u v a l → placeOf v u ≡ placeOf s u
     go (untouched k r b) = k .place
-    go (awake x y r b) = clash (waits (placeOf s u) p) x
-    go (began x y z w r b) = clash (waits (placeOf s u) p) x
-    go (began-held x m z r b) = clash (waits (placeOf s u) p) x
+    go (awake x y r b) = clash (queued-waits (placeOf s u) p) x
+    go (began x y z w r b) = clash (queued-waits (placeOf s u) p) x
+    go (began-held x m z r b) = clash (queued-waits (placeOf s u) p) x
     go (taken t w m x y r b) = clash q (ap isQueued y)
     go (ran-out d x y z r b) = clash q (ap isQueued z)
     go (accepted t o x y r b) = clash p (ap isQueued x)

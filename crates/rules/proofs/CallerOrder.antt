@@ -1,7 +1,7 @@
 -- The caller that is taken is the longest-waiting one of its entry.
 -- Assumes nothing.
 use Prim.Native.Nat.{_<_}
-use mathlib.Core.Path.{_≡_, refl, sym, _∙_}
+use mathlib.Core.Path.{_≡_, sym, _∙_}
 use mathlib.Core.Bool.{true, false}
 use mathlib.Core.List.{_∷_}
 use native.Mathlib.Omega.{arith}
@@ -11,24 +11,13 @@ use Rattle.lists.proofs.ListLaws.{clash, by-bool, count-filter-yes}
 use Rattle.lists.proofs.AheadLaws.{ahead-filter, first-ahead, one-way, Leads}
 use Rattle.rules.specs.State.{State, placeOf, isQueued, isHeld, waitsOn, queue}
 use Rattle.rules.specs.Runs.{isWaiting}
-use Rattle.rules.specs.declared.Place.{Place}
-use Rattle.rules.specs.declared.Place.the-variants.{Blank, Ready, Delayed, Queued, Held, Accepting, Completed}
 use Rattle.rules.specs.Orders.{LongestFirst}
 use Rattle.rules.proofs.Invariant.{Sound}
-use Rattle.rules.proofs.Members.{WaitsOn, queued-is, bit-true}
+use Rattle.rules.proofs.Members.{WaitsOn, queued-is, queued-waits, bit-true}
 use Rattle.rules.proofs.StateRuns.{entry, reach}
 use Rattle.rules.proofs.OverRuns.{step-sound, reach-sound}
 use Rattle.rules.proofs.Moves.{step-moved}
 use Rattle.rules.proofs.OrderKept.{OfAsks, taken-heads, Rests, callers-run, begins-waits, waits-on}
-
-queued-waits : (p : Place) → isQueued p ≡ true → isWaiting p ≡ true
-queued-waits (Queued q) e = refl
-queued-waits Blank e = clash e refl
-queued-waits Ready e = clash e refl
-queued-waits Delayed e = clash e refl
-queued-waits (Held m) e = clash e refl
-queued-waits (Accepting o) e = clash e refl
-queued-waits Completed e = clash e refl
 
 pub longest-first : OfAsks LongestFirst
 longest-first s a mid b mid′ z h g e c c′ bc bc′ en w w′ = by-bool (isHeld (placeOf (entry s4 z .out .state) c′)) taken (λ n. n)

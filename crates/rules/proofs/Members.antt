@@ -10,6 +10,7 @@ use lib.Dec.{eqb, leb}
 use borrow.Author.Tests.{eqb-true, eq-eqb, leb-true, leb-false}
 use Rattle.lists.specs.Lists.{bit, count, filter, first, last}
 use Rattle.rules.specs.State.{State, blank, nth, taskOf, placeOf, timerOf, isReady, isQueued, isHeld, partnerOf, entryOf, hasTime, queue, heldBy, level, headUpTo, running, waitsOn, holds, atLevel}
+use Rattle.rules.specs.Runs.{isWaiting}
 use Rattle.rules.specs.declared.Task.{Task}
 use Rattle.rules.specs.declared.Waiting.{Waiting}
 use Rattle.rules.specs.declared.Meeting.{Meeting}
@@ -145,3 +146,13 @@ queued-good s u q h e = let i = queued-there s u q e in (rw e at (h .good u (i .
 
 pub timed-there : (s : State) (u : ℕ) → hasTime (timerOf s u) ≡ true → (0 < u) × (u ≤ length (s .tasks))
 timed-there s u h = given (s .tasks) u (λ b. clash h (ap (λ (x : Task). hasTime (x .timer)) b))
+
+-- who is queued waits
+pub queued-waits : (p : Place) → isQueued p ≡ true → isWaiting p ≡ true
+queued-waits (Queued q) e = refl
+queued-waits Blank e = clash e refl
+queued-waits Ready e = clash e refl
+queued-waits Delayed e = clash e refl
+queued-waits (Held m) e = clash e refl
+queued-waits (Accepting o) e = clash e refl
+queued-waits Completed e = clash e refl
