@@ -92,10 +92,12 @@ uint8_t card_sound(const uint8_t *state, size_t state_length);
 uint8_t card_step(uint8_t *state, size_t state_length, const uint8_t *record, size_t record_length,
                   uint8_t *room, size_t room_length, uint8_t *answer, size_t answer_length);
 
-/* Questions. Each puts one byte into the answer: the COUNT of an entry, 1 or 0 for CALLABLE, the dispatched task (0 if none). */
+/* Questions. Each puts one byte into the answer: the COUNT of an entry, 1 or 0 for CALLABLE, the dispatched task (0 if none), the priority of
+ * a task (0 for a number not created): the highest created one among itself and everyone below it in the tree of held callers. */
 uint8_t card_count(const uint8_t *state, size_t state_length, uint8_t task, uint8_t entry, uint8_t *answer, size_t answer_length);
 uint8_t card_callable(const uint8_t *state, size_t state_length, uint8_t task, uint8_t *answer, size_t answer_length);
 uint8_t card_running(const uint8_t *state, size_t state_length, uint8_t *answer, size_t answer_length);
+uint8_t card_priority(const uint8_t *state, size_t state_length, uint8_t task, uint8_t *answer, size_t answer_length);
 
 /* The contact debouncer. Makes a card of settings: every contact is open. Refusal 1 where there are fewer than DEBOUNCE_CARD bytes, then 17
  * for anything but settings, and then there is no card: nothing is written. */

@@ -55,6 +55,18 @@ static void ask(void)
     printf(" running %d %d\n", refusal, one[0]);
 }
 
+/* Asks for the priority of each task, and of a number that is none's. */
+static void ask_priorities(void)
+{
+    uint8_t one[1], refusal;
+    printf("priority");
+    for (uint8_t task = 1; task <= 4; task++) {
+        refusal = card_priority(state, sizeof state, task, one, 1);
+        printf(" %d %d", refusal, one[0]);
+    }
+    putchar('\n');
+}
+
 /* Debounces raw bits: of each contact the last two samples count, and those of even number are sampled every other tick. */
 static void debounce(void)
 {
@@ -94,6 +106,7 @@ int main(void)
     };
     static const uint8_t queued[] = {CARD_CREATE, 0, 2, 1, 1, CARD_CALL, 0, 7, 3, 1, 0, 0, 0, 0, 0};
     static const uint8_t ended[] = {CARD_DELAY, 0, 4, 0, 0, 0, 5, CARD_FINISH, 0, 0, CARD_ADVANCE, 0, 4, 1, 2, 3, 4};
+    static const uint8_t held[] = {CARD_CALL, 0, 7, 1, 1, 0, 0, 0, 0, 0, CARD_SELECT, 0, 6, 1, 0, 0, 0, 0, 0};
     static const uint8_t tick[] = {CARD_TICK, 0, 0};
     uint8_t before[sizeof state];
     memset(state, MARK, sizeof state);
@@ -105,6 +118,8 @@ int main(void)
     ask();
     take(ended, sizeof ended);
     ask();
+    take(held, sizeof held);
+    ask_priorities();
     printf("clock %d %d %d %d\n", state[0], state[1], state[2], state[3]);
 
     memcpy(before, state, sizeof state);
@@ -129,7 +144,8 @@ int main(void)
     printf("no record %d %d\n", step(tick, 0), step(NULL, 0));
     printf("no answer %d", card_count(state, sizeof state, 3, 1, NULL, 0));
     printf(" %d", card_callable(state, sizeof state, 3, NULL, 0));
-    printf(" %d\n", card_running(state, sizeof state, NULL, 0));
+    printf(" %d", card_running(state, sizeof state, NULL, 0));
+    printf(" %d\n", card_priority(state, sizeof state, 3, NULL, 0));
     printf("untouched %d\n", memcmp(before, state, sizeof state) == 0 && marked(state, CARD_STATE) && marked(room, CARD_ROOM) && marked(answer, CARD_ANSWER));
     debounce();
     return 0;

@@ -28,6 +28,7 @@ procedure Card_Test is
 
    Queued : constant Bytes := (Tag_Create, 0, 2, 1, 1, Tag_Call, 0, 7, 3, 1, 0, 0, 0, 0, 0);
    Ended  : constant Bytes := (Tag_Delay, 0, 4, 0, 0, 0, 5, Tag_Finish, 0, 0, Tag_Advance, 0, 4, 1, 2, 3, 4);
+   Held   : constant Bytes := (Tag_Call, 0, 7, 1, 1, 0, 0, 0, 0, 0, Tag_Select, 0, 6, 1, 0, 0, 0, 0, 0);
    Tick   : constant Bytes := (Tag_Tick, 0, 0);
 
    function Image (N : Byte) return String is
@@ -100,6 +101,20 @@ procedure Card_Test is
       Put_Line (" running " & Image (Refusal) & " " & Image (One (1)));
    end Ask;
 
+   --  Asks for the priority of each task, and of a number that is none's.
+   procedure Ask_Priorities is
+      One     : Bytes (1 .. 1) := (others => Mark);
+      Refusal : Byte;
+   begin
+      Put ("priority");
+      for Number_Of_Task in Byte range 1 .. 4 loop
+         Refusal := Fuzgerlint.Priority
+           (State => State'Address, State_Length => State'Length, Task_Number => Number_Of_Task, Answer => One'Address, Answer_Length => 1);
+         Put (" " & Image (Refusal) & " " & Image (One (1)));
+      end loop;
+      New_Line;
+   end Ask_Priorities;
+
    function Marked (B : Bytes) return Boolean is
    begin
       for I in B'Range loop
@@ -170,6 +185,8 @@ begin
    Ask;
    Take (Ended);
    Ask;
+   Take (Held);
+   Ask_Priorities;
    Put_Line ("clock " & Image (State (1)) & " " & Image (State (2)) & " " & Image (State (3)) & " " & Image (State (4)));
 
    Before := State;
@@ -195,7 +212,8 @@ begin
    Put_Line (" " & Image (Step (State'Address, State'Length, Null_Address, 0, Room'Address, Room'Length, Answer'Address, Answer'Length)));
    Put ("no answer " & Image (Do_Count (3, 1, Null_Address, 0)));
    Put (" " & Image (Callable (State'Address, State'Length, 3, Null_Address, 0)));
-   Put_Line (" " & Image (Running (State'Address, State'Length, Null_Address, 0)));
+   Put (" " & Image (Running (State'Address, State'Length, Null_Address, 0)));
+   Put_Line (" " & Image (Fuzgerlint.Priority (State'Address, State'Length, 3, Null_Address, 0)));
    Put ("untouched ");
    if Before = State
      and then Marked (State (State_Length + 1 .. State'Last))

@@ -10,6 +10,7 @@ use Rattle.card.proofs.card_callable.Reads as callable
 use Rattle.card.proofs.card_running.Reads as running
 use Rattle.card.proofs.contacts.debounce_fresh.Reads as debounce-fresh
 use Rattle.card.proofs.contacts.debounce_tick.Reads as debounce-tick
+use Rattle.card.proofs.card_priority.Reads as priority
 
 pub empty-once : (κs : _) (x : _) (r r′ : _) (y y′ : _) → empty.Learnt κs x r y → empty.Learnt κs x r′ y′ → (r ≡ r′) × (now (y .0) ≡ now (y′ .0))
 empty-once κs x r r′ y y′ p q = (p .0 ∙ sym (q .0), p .1 ∙ sym (q .1))
@@ -27,6 +28,9 @@ count-once κs x r r′ y y′ p q = (p .0 ∙ sym (q .0), p .1 ∙ sym (q .1))
 
 pub callable-once : (κs : _) (x : _) (r r′ : _) (y y′ : _) → callable.Learnt κs x r y → callable.Learnt κs x r′ y′ → (r ≡ r′) × (now (y .1 .1 .0) ≡ now (y′ .1 .1 .0))
 callable-once κs x r r′ y y′ p q = (p .0 ∙ sym (q .0), p .1 ∙ sym (q .1))
+
+pub priority-once : (κs : _) (x : _) (r r′ : _) (y y′ : _) → priority.Learnt κs x r y → priority.Learnt κs x r′ y′ → (r ≡ r′) × (now (y .1 .1 .0) ≡ now (y′ .1 .1 .0))
+priority-once κs x r r′ y y′ p q = (p .0 ∙ sym (q .0), p .1 ∙ sym (q .1))
 
 pub running-once : (κs : _) (x : _) (r r′ : _) (y y′ : _) → running.Learnt κs x r y → running.Learnt κs x r′ y′ → (r ≡ r′) × (now (y .1 .0) ≡ now (y′ .1 .0))
 running-once κs x r r′ y y′ p q = (p .0 ∙ sym (q .0), p .1 ∙ sym (q .1))

@@ -7,7 +7,7 @@ ghost use mathlib.Core.List.{_++_};
 ghost use mathlib.Core.Path.{_≡_};
 ghost use lib.ListN.{length, drop};
 ghost use Rattle.lists.specs.Lists.{bit};
-ghost use Rattle.rules.specs.Questions.{countWhole, callableWhole, runningWhole};
+ghost use Rattle.rules.specs.Questions.{countWhole, callableWhole, runningWhole, priorityWhole};
 ghost use Rattle.rules.specs.State.{empty};
 ghost use Rattle.rules.specs.Step.{roomAfter};
 ghost use Rattle.rules.specs.Whole.{pack, soundWhole, stepWhole, answerOf};
@@ -169,4 +169,15 @@ pub extern "C" fn card_running(state: &[u8], answer: &mut [u8]) -> u8
     let s = state_in(state);
     let k = supervisor::running(s);
     put_one(answer, k.refusal, k.task)
+}
+
+// The priority of a task, worked out afresh; 0 for a number not created.
+#[no_mangle]
+pub extern "C" fn card_priority(state: &[u8], task: u8, answer: &mut [u8]) -> u8
+    ensures { λ r. ⌜ r ≡ ifRoom 1 (now (answer .entry)) 1 (priorityWhole (stateIn (now (state .entry))) task .refusal) ⌝ }
+    ensures { λ _. ⌜ now (answer .exit) ≡ oneAfter (now (answer .entry)) (priorityWhole (stateIn (now (state .entry))) task .priority) ⌝ }
+{
+    let s = state_in(state);
+    let k = supervisor::priority(s, task);
+    put_one(answer, k.refusal, k.priority)
 }

@@ -1,3 +1,4 @@
 pub mod AllHold
+pub mod TreeHold
 pub mod LargeAdvance
 pub mod Rejected

@@ -67,6 +67,7 @@ module _ (xs : List Setting) (eight : length xs ≡ 8) (good : every (λ x. good
         is = λ i. record { supervisor = all-started .is i; contacts = cs };
         idle = record {
           sound = s .sound;
+          tree = s .tree;
           tasks = s .tasks;
           contacts = many;
           settings = λ k lo hi. rw (is-at k) (range k lo hi);

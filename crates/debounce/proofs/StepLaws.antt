@@ -26,6 +26,8 @@ use Rattle.rules.proofs.MoveLaws.{task-same, task-other, length-move}
 use Rattle.rules.proofs.StepSound.{left-after, delay-kept, tick-kept, wakeAll-length}
 use Rattle.rules.proofs.Passes as P
 use Rattle.rules.proofs.Passes.{Passes, tick-passes, left-later, in-time}
+use Rattle.rules.proofs.TreeLaws.{Tree}
+use Rattle.rules.proofs.TreeSteps.{TreeOf, tick-tree, keeps-tree}
 use Rattle.rules.proofs.StateRuns.{stepped}
 use Rattle.rules.proofs.WholeLaws.{wholeOf}
 use Rattle.rules.proofs.EveryStruct.{step-taken}
@@ -33,16 +35,17 @@ use Rattle.debounce.specs.Card.{room, takes}
 
 -- ── a step that is taken ──
 
--- the struct and the dispatched task are those of the state w, which is sound and has n tasks
+-- the struct and the dispatched task are those of the state w, which is sound, its tree of held callers included, and has n tasks
 pub record Gives (x : Whole) (w : State) (n : ℕ) : Type 0 where
   pub state : x .state ≡ pack w
   pub next : x .next ≡ running w
   pub sound : Sound w
+  pub tree : Tree w
   pub tasks : length (w .tasks) ≡ n
 
-module _ (v : State) (h : Sound v) where
+module _ (v : State) (h : Sound v) (g : Tree v) where
   taken : (c : C.Call) (o : Outcome) → takeCall v c ≡ o → takes (pack v) c ≡ wholeOf (stepped v o)
-  taken c o e = step-taken v c room h refl ∙ ap (λ (o : Outcome). wholeOf (stepped v o)) e
+  taken c o e = step-taken v c room h g refl ∙ ap (λ (o : Outcome). wholeOf (stepped v o)) e
 
   -- ── CREATE ──
 
@@ -65,6 +68,7 @@ module _ (v : State) (h : Sound v) where
           state = ap (λ (x : Whole). x .state) q ∙ rw no-31;
           next = ap (λ (x : Whole). x .next) q ∙ rw no-31;
           sound = add-sound v 1 0 h less (omega arith, omega arith) (omega arith);
+          tree = rw no-31 at (keeps-tree v (Create 1 0) h g);
           tasks = omega (arith, length-append (v .tasks) (fresh 1 0 ∷ []), m);
         };
         clock = refl;
@@ -90,7 +94,8 @@ module _ (v : State) (h : Sound v) where
       let w = Due (after (v .clock) (suc d)) in
       let r = runs v t h e in
       let whole : ticks (pos (suc d)) ≡ suc d = if-true (leb (suc d) 2147483647) (suc d) 0 (le-leb (suc d) 2147483647 (omega arith)) in
-      let q = taken (Delay (pos (suc d))) (delayFor v (suc t) (suc d)) (ap (λ (r : ℕ). ofRunning r (λ u. delayFor v u (ticks (pos (suc d))))) e ∙ ap (delayFor v (suc t)) whole) in
+      let o : takeCall v (Delay (pos (suc d))) ≡ delayFor v (suc t) (suc d) = ap (λ (r : ℕ). ofRunning r (λ u. delayFor v u (ticks (pos (suc d))))) e ∙ ap (delayFor v (suc t)) whole in
+      let q = taken (Delay (pos (suc d))) (delayFor v (suc t) (suc d)) o in
       let same = task-same v (suc t) Delayed w (r .low) (r .high) in
       record {
         after = move v (suc t) Delayed w;
@@ -98,6 +103,7 @@ module _ (v : State) (h : Sound v) where
           state = ap (λ (x : Whole). x .state) q;
           next = ap (λ (x : Whole). x .next) q;
           sound = delay-kept v (suc t) (suc d) h r (omega (arith, hi));
+          tree = subst TreeOf o (keeps-tree v (Delay (pos (suc d))) h g);
           tasks = length-move v (suc t) Delayed w;
         };
         clock = refl;
@@ -129,6 +135,7 @@ module _ (v : State) (h : Sound v) where
           state = ap (λ (x : Whole). x .state) q;
           next = ap (λ (x : Whole). x .next) q;
           sound = tick-kept v h;
+          tree = tick-tree v h g;
           tasks = wakeAll-length (dueAt v now) v;
         };
         each = λ u k. go u (timerOf v u) refl k (tick-passes v u h);

@@ -10,6 +10,7 @@ use Rattle.lines.proofs.to_head.Reads as to-head
 use Rattle.lines.proofs.joined_all.Reads as joined-all
 use Rattle.lines.proofs.first_of.Reads as first-of
 use Rattle.lines.proofs.last_of.Reads as last-of
+use Rattle.lines.proofs.mark_of.Reads as mark-of
 use Rattle.lines.proofs.marks_of.Reads as marks-of
 use Rattle.lines.proofs.picked.Reads as picked
 use Rattle.lines.proofs.put_by.Reads as put-by
@@ -37,6 +38,9 @@ first-of-once κs x r r′ y y′ p q = p ∙ sym q
 
 pub last-of-once : Once last-of.Learnt
 last-of-once κs x r r′ y y′ p q = p ∙ sym q
+
+pub mark-of-once : Once mark-of.Learnt
+mark-of-once κs x r r′ y y′ p q = p ∙ sym q
 
 pub marks-of-once : Once marks-of.Learnt
 marks-of-once κs x r r′ y y′ p q = p ∙ sym q

@@ -138,7 +138,7 @@ pub fn last_of(a: [u8; 31]) -> u8
 }
 
 // The mark of t; 0 for a number that has none.
-fn mark_of(marks: [u8; 32], t: u8) -> u8
+pub fn mark_of(marks: [u8; 32], t: u8) -> u8
     ensures { λ r. ⌜ r ≡ markOf marks t ⌝ }
 {
     if t < 32 { marks[t as usize] } else { 0 }

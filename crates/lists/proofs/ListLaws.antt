@@ -1,10 +1,11 @@
 -- Laws of the lists of specs/Lists.antt: what filter, remove, insert do to a count and to an order; tests taken apart.
 -- Assumes nothing.
-use Prim.Native.Nat.{ℕ, zero, suc, _+_, _≤_, _<_}
+use Prim.Native.Nat.{ℕ, zero, suc, _+_, _-_, _≤_, _<_}
 use mathlib.Core.Path.{_≡_, refl, sym, _∙_, ap}
 use mathlib.Core.Bool.{Bool, true, false, not, true≢false}
 use mathlib.Core.List.{List, [], _∷_, _++_, map}
 use native.Mathlib.Omega.{arith}
+use native.Mathlib.Numerals.{unary-clauses}
 use lib.ListN.{length, replicate, length-map}
 use lib.Dec.{eqb, ltb, leb}
 use borrow.Author.Tests.{eqb-true, eqb-false, eq-eqb, ne-eqb, ltb-true, ltb-false, leb-true, le-leb}
@@ -148,6 +149,11 @@ ordered-insert k g t (x ∷ xs) h o =
 
 -- ── how long ──
 
+-- a list in which nobody stands
+pub nobody : (l : List ℕ) → ((u : ℕ) → 0 < count u l → ⊥) → l ≡ []
+nobody [] h = refl
+nobody (x ∷ xs) h = absurd (h x (rw (eq-eqb x x refl) (omega arith)))
+
 -- a list is as long as the list of what is made of each: so it is with an array of structs, of whose elements the toolchain says more than their number
 pub mapped-long : {A B : Type 0} (f : A → B) (l : List A) (n : ℕ) → length (map f l) ≡ n → length l ≡ n
 mapped-long f l n h = sym (length-map l f) ∙ h
@@ -205,6 +211,15 @@ same-length (suc n) l m k h = go l k h (λ x. same-length n (remove x l) (remove
         omega (arith, less, length-remove x (x ∷ xs), length-remove x m, h x)
 
 -- ── n, n - 1, .., 1 ──
+
+-- t, and those below it
+pub down-on : (t : ℕ) → 0 < t → downFrom t ≡ t ∷ downFrom (t - 1)
+down-on zero h = absurd (omega arith)
+down-on (suc t) h = simp unary-clauses
+
+pub down-end : (t : ℕ) → t ≤ 0 → downFrom t ≡ []
+down-end zero h = refl
+down-end (suc t) h = absurd (omega arith)
 
 -- each of 1..n stands there once
 pub down-once : (u n : ℕ) → 0 < u → u ≤ n → count u (downFrom n) ≡ 1

@@ -2,7 +2,7 @@
 -- Assumes nothing.
 use Prim.Native.Nat.{ℕ, _+_, _≤_, _<_}
 use mathlib.Core.Path.{_≡_, refl, sym, _∙_, ap}
-use mathlib.Core.Bool.{Bool, true, false, not, _&&_}
+use mathlib.Core.Bool.{Bool, true, false, not, _&&_, and-comm}
 use mathlib.Core.List.{List, [], _∷_, _++_, append-assoc}
 use native.Mathlib.Omega.{arith}
 use lib.Dec.{eqb, ltb}
@@ -68,6 +68,11 @@ filter-filter f g [] = refl
 filter-filter f g (x ∷ xs) =
     let ih = filter-filter f g xs in
     by-bool (g x) (λ e. rw (e, ih)) (λ e. rw (e, ih))
+
+-- it does not matter which of two filters comes first
+pub filter-swap : (f g : ℕ → Bool) (l : List ℕ) → filter f (filter g l) ≡ filter g (filter f l)
+filter-swap f g l =
+    filter-filter f g l ∙ filter-same (λ x. g x && f x) (λ x. f x && g x) l (λ x _. and-comm (g x) (f x)) ∙ sym (filter-filter g f l)
 
 -- two lists joined
 pub filter-append : (f : ℕ → Bool) (l m : List ℕ) → filter f (l ++ m) ≡ filter f l ++ filter f m

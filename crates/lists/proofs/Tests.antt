@@ -43,6 +43,12 @@ and-second false b h = absurd (false≢true h)
 pub and-both : {a b : Bool} → a ≡ true → b ≡ true → (a && b) ≡ true
 and-both p q = λ i. p i && q i
 
+-- two tests that pass alike
+pub same-test : (a b : Bool) → (a ≡ true → b ≡ true) → (b ≡ true → a ≡ true) → a ≡ b
+same-test true b f g = sym (f refl)
+same-test false true f g = g refl
+same-test false false f g = refl
+
 -- a chain of tests, `a && b && c ..`
 abbrev pub chain : Bool → List Bool → Bool
 chain a [] = a

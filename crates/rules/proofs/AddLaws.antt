@@ -11,7 +11,7 @@ use lib.Dec.{leb}
 use borrow.Author.Tests.{eq-eqb, ne-eqb, leb-true, leb-false}
 use Rattle.lists.specs.Lists.{bit, count}
 use Rattle.rules.specs.State.{State, blank, nth, placeOf, timerOf, isReady, isQueued, isHeld, partnerOf, hasTime, ticksLeft, fresh, add}
-use Rattle.rules.specs.SoundFacts.{Priority}
+use Rattle.rules.specs.SoundFacts.{InPriorities}
 use Rattle.rules.specs.declared.Task.{Task}
 use Rattle.rules.specs.declared.Place.{Place}
 use Rattle.rules.specs.declared.Place.the-variants.{Blank, Ready, Delayed, Queued, Held, Accepting, Completed}
@@ -74,7 +74,7 @@ partner-there now ts u g = go (nth ts u .place) (g .place)
     go (Accepting o) f = omega arith
     go Completed f = omega arith
 
-pub add-sound : (s : State) (p n : ℕ) → Sound s → length (s .tasks) < 31 → Priority p → n ≤ 8 → Sound (add s p n)
+pub add-sound : (s : State) (p n : ℕ) → Sound s → length (s .tasks) < 31 → InPriorities p → n ≤ 8 → Sound (add s p n)
 add-sound s p n h f a b = record {
   clock = h .clock;
   few = omega (arith, f, length-append (s .tasks) (x ∷ []));

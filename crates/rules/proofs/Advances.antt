@@ -11,6 +11,7 @@ use Rattle.rules.specs.Advance.{Cut, Nothing, Advances}
 use Rattle.rules.specs.declared.Supervisor.{Supervisor}
 use Rattle.calls.specs.declared.Call.the-variants.{Advance}
 use Rattle.rules.proofs.StepSound.{advance-kept}
+use Rattle.rules.proofs.TreeSteps.{advance-tree}
 use Rattle.rules.proofs.SoundTest.{sound-props}
 use Rattle.rules.proofs.AdvanceFits.{fits}
 use Rattle.rules.proofs.AsTicks.{as-ticks, expanded}
@@ -46,15 +47,15 @@ cut : (s : Supervisor) → Typed s → (a b room : ℕ)
 cut s t a b room =
     by-struct (λ (x : Supervisor). Cut (stepWhole x (Advance a) room) (stepWhole (stepWhole x (Advance a) room .state) (Advance b) room) (stepWhole x (Advance (a + b)) room)) s room t
     (λ f q. from s a b room (q (Advance a)) (q (Advance b)) (q (Advance (a + b))) (record { state = refl; ends = refl; readings = refl; refusals = (refl, refl); next = refl }))
-    (λ v h e.
-    from (pack v) a b room (step-taken v (Advance a) room h e) (step-taken (advanced a v) (Advance b) room (advance-kept a v h) e) (step-taken v (Advance (a + b)) room h e)
+    (λ v h g e.
+    from (pack v) a b room (step-taken v (Advance a) room h g e) (step-taken (advanced a v) (Advance b) room (advance-kept a v h) (advance-tree a v h g) e) (step-taken v (Advance (a + b)) room h g e)
     (record { state = ap pack (cut-state a b v); ends = cut-ends a b v; readings = cut-readings a b v; refusals = (refl, refl); next = ap running (cut-state a b v) }))
 
 nothing : (s : Supervisor) → Typed s → (room : ℕ) → Nothing s (stepWhole s (Advance 0) room)
 nothing s t room =
     by-struct (λ (x : Supervisor). Nothing x (stepWhole x (Advance 0) room)) s room t
     (λ f q. subst (Nothing s) (sym (q (Advance 0))) (record { state = refl; ends = refl; readings = refl }))
-    (λ v h e. subst (Nothing (pack v)) (sym (step-taken v (Advance 0) room h e)) (record { state = refl; ends = refl; readings = refl }))
+    (λ v h g e. subst (Nothing (pack v)) (sym (step-taken v (Advance 0) room h g e)) (record { state = refl; ends = refl; readings = refl }))
 
 pub advances : Advances
 advances = record {

@@ -21,6 +21,8 @@ use Rattle.calls.specs.declared.Call.the-variants.{Create, Delay, Call, Select,
 use Rattle.lists.proofs.ListLaws.{by-eq, by-test, not-in}
 use Rattle.rules.proofs.Invariant.{Sound}
 use Rattle.rules.proofs.StepSound.{tick-kept}
+use Rattle.rules.proofs.TreeLaws.{Tree}
+use Rattle.rules.proofs.TreeSteps.{tick-tree}
 use Rattle.rules.proofs.StateRuns.{stepped}
 use Rattle.rules.proofs.OverRuns.{number-pos}
 use Rattle.rules.proofs.WholeLaws.{wholeOf}
@@ -58,22 +60,22 @@ gives-none zero s room f e = record { state = refl; ends = refl; readings = refl
 gives-none (suc n) s room f e = rw (number-pos f) at (more s n room (decline s f 0) s [] 0 0 e (gives-none n s room f e))
 
 -- taken ones give what n ticks give
-gives-all : (n : ℕ) (s : State) (room : ℕ) → ltb room 124 ≡ false → Sound s → Gives (pack s) n room (pack (advanced n s)) (advanceEnds n s) (readings n s) n
-gives-all zero s room e h = record { state = refl; ends = refl; readings = refl; ticks = refl }
-gives-all (suc n) s room e h =
+gives-all : (n : ℕ) (s : State) (room : ℕ) → ltb room 124 ≡ false → Sound s → Tree s → Gives (pack s) n room (pack (advanced n s)) (advanceEnds n s) (readings n s) n
+gives-all zero s room e h k = record { state = refl; ends = refl; readings = refl; ticks = refl }
+gives-all (suc n) s room e h k =
     let s1 = tickTo s (after (s .clock) 1) in
-    let g = more (pack s) n room (wholeOf (stepped s (tick s))) (pack (advanced n s1)) (advanceEnds n s1) (readings n s1) n (step-taken s Tick room h e) (gives-all n s1 room e (tick-kept s h)) in
+    let g = more (pack s) n room (wholeOf (stepped s (tick s))) (pack (advanced n s1)) (advanceEnds n s1) (readings n s1) n (step-taken s Tick room h k e) (gives-all n s1 room e (tick-kept s h) (tick-tree s h k)) in
     record { state = g .state; ends = g .ends; readings = g .readings; ticks = g .ticks ∙ omega arith }
 
 -- ── the readings are different ──
 
 -- those at which a wait ended are 1 to n ticks from now, none of them twice
-apart : (n : ℕ) (s : State) (room : ℕ) → ltb room 124 ≡ false → Sound s → n < 4294967296 → (r : ℕ)
+apart : (n : ℕ) (s : State) (room : ℕ) → ltb room 124 ≡ false → Sound s → Tree s → n < 4294967296 → (r : ℕ)
     → (count r (moments (logWhole (pack s) (tickAsks n room))) ≤ 1) × (0 < count r (moments (logWhole (pack s) (tickAsks n room))) → (0 < left (s .clock) r) × (left (s .clock) r ≤ n) × (r < 4294967296))
-apart zero s room e h i r = (omega arith, λ k. absurd (omega arith))
-apart (suc n) s room e h i r =
-    subst (λ (w : Whole). P (if ltb 0 (length (w .ended)) then w .state .core .clock ∷ moments (logWhole (w .state) asks) else moments (logWhole (w .state) asks))) (sym (step-taken s Tick room h e))
-    (by-test P (ltb 0 (length (endsAt s now))) (λ _. first (apart n (tickTo s now) room e (tick-kept s h) (omega arith) r)) (λ _. let q = apart n (tickTo s now) room e (tick-kept s h) (omega arith) r in (q .0, later q)))
+apart zero s room e h g i r = (omega arith, λ k. absurd (omega arith))
+apart (suc n) s room e h g i r =
+    subst (λ (w : Whole). P (if ltb 0 (length (w .ended)) then w .state .core .clock ∷ moments (logWhole (w .state) asks) else moments (logWhole (w .state) asks))) (sym (step-taken s Tick room h g e))
+    (by-test P (ltb 0 (length (endsAt s now))) (λ _. first (apart n (tickTo s now) room e (tick-kept s h) (tick-tree s h g) (omega arith) r)) (λ _. let q = apart n (tickTo s now) room e (tick-kept s h) (tick-tree s h g) (omega arith) r in (q .0, later q)))
   where
     asks : List Ask
     asks = tickAsks n room
@@ -120,7 +122,7 @@ pub as-ticks : (s : Supervisor) → Typed s → (n room : ℕ) → AsTicks s n r
 as-ticks s t n room =
     by-struct (λ (x : Supervisor). AsTicks x n room) s room t
     (λ f q. let g = gives-none n s room f (q Tick) in from s n room 0 (decline s f 0) (q (Advance n)) g (λ _. none-twice (moments (logWhole s (tickAsks n room))) (g .readings)) (omega arith))
-    (λ v h e. from (pack v) n room n (wholeOf (stepped v (advance v n))) (step-taken v (Advance n) room h e) (gives-all n v room e h) (λ i r. apart n v room e h i r .0) (let k = fits v n h in omega (arith, k .items, k .readings)))
+    (λ v h g e. from (pack v) n room n (wholeOf (stepped v (advance v n))) (step-taken v (Advance n) room h g e) (gives-all n v room e h g) (λ i r. apart n v room e h g i r .0) (let k = fits v n h in omega (arith, k .items, k .readings)))
 
 -- ── a run ──
 
@@ -164,7 +166,7 @@ spread-alike s Tick room t = itself s (record { call = Tick; room = room }) refl
 spread-alike s (Advance n) room t =
     by-struct (λ (x : Supervisor). Alike x (Advance n) room) s room t
     (λ f q. to s 0 (decline s f 0) (q (Advance n)) (gives-none n s room f (q Tick)) (rw (number-pos f)))
-    (λ v h e. to (pack v) n (wholeOf (stepped v (advance v n))) (step-taken v (Advance n) room h e) (gives-all n v room e h) refl)
+    (λ v h g e. to (pack v) n (wholeOf (stepped v (advance v n))) (step-taken v (Advance n) room h g e) (gives-all n v room e h g) refl)
   where
     to : (s : Supervisor) (t : ℕ) (x : Whole) → stepWhole s (Advance n) room ≡ x → Gives s n room (x .state) (x .ended) (x .answer .entry) t → t ≡ (if eqb (x .refusal) 0 then n else 0) → Alike s (Advance n) room
     to s t x e g q = record {

@@ -15,14 +15,13 @@ use Rattle.rules.specs.Step.{Outcome, refused, took, none, roomAfter, SH
 use Rattle.rules.specs.Whole.{Typed, Whole, view, soundWhole, decline, done, stepWhole}
 use Rattle.rules.specs.Questions.{countWhole}
 use Rattle.rules.specs.EachStep.{Dispatched, waitingOn}
-use Rattle.rules.specs.SoundFacts.{HasEntry, Priority}
+use Rattle.rules.specs.SoundFacts.{HasEntry, InPriorities}
 use Rattle.rules.specs.declared.Supervisor.{Supervisor}
 use Rattle.rules.specs.declared.Place.the-variants.{Ready}
 use Rattle.calls.specs.declared.Call as C
-use Rattle.lists.proofs.ListLaws.{by-eq, by-bool, by-test, count-filter-yes, count-filter-no, same-length, down-once}
+use Rattle.lists.proofs.ListLaws.{by-eq, by-bool, by-test, count-filter-yes, count-filter-no, same-length, down-once, nobody}
 use Rattle.rules.proofs.Invariant.{Sound}
 use Rattle.rules.proofs.Members.{in-filter, there, ready-is, bit-true, not-blank, runs, queued-is, queued-there, of-queue, queued-good}
-use Rattle.rules.proofs.SoundSaid.{nobody}
 use Rattle.rules.proofs.StepSound.{Kept, call-sound}
 use Rattle.rules.proofs.WholeLaws.{view-pack, sound-view}
 use Rattle.rules.proofs.Bounds.{queue-has-room}
@@ -69,7 +68,7 @@ refused-next s c room =
 -- ── the dispatched task ──
 
 -- whoever stands in the ready line was created, and has a priority in range
-ready-there : (s : State) (u : ℕ) → Sound s → 0 < count u (s .ready) → (0 < u) × Priority (currentOf s u)
+ready-there : (s : State) (u : ℕ) → Sound s → 0 < count u (s .ready) → (0 < u) × InPriorities (currentOf s u)
 ready-there s u h k =
     let p : placeOf s u ≡ Ready = ready-is (placeOf s u) (bit-true (isReady (placeOf s u)) (omega (arith, k, h .ready u))) in
     let i = there (s .tasks) u (not-blank (placeOf s u) p) in

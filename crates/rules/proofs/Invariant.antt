@@ -7,7 +7,7 @@ use mathlib.Core.List.{List}
 use lib.ListN.{length}
 use Rattle.lists.specs.Lists.{bit, count}
 use Rattle.rules.specs.State.{State, isReady, isQueued, isHeld, isCompleted, partnerOf, accepts, hasTime, ticksLeft, nth}
-use Rattle.rules.specs.SoundFacts.{Priority}
+use Rattle.rules.specs.SoundFacts.{InPriorities}
 use Rattle.rules.specs.declared.Task.{Task}
 use Rattle.rules.specs.declared.Timer.{Timer}
 use Rattle.rules.specs.declared.Timer.the-variants.{Off, Due}
@@ -33,7 +33,7 @@ Fits me g Blank w = ⊥
 Fits me g Ready w = hasTime w ≡ false
 Fits me g Delayed w = hasTime w ≡ true
 Fits me g (Queued q) w = Calls g (q .entry) × (accepts (g .place) (q .entry) ≡ false)
-Fits me g (Held m) w = Calls g (m .entry) × (hasTime w ≡ false) × Priority (m .kept)
+Fits me g (Held m) w = Calls g (m .entry) × (hasTime w ≡ false) × InPriorities (m .kept)
 Fits me g (Accepting o) w = (o .opens < 2 ^ (me .entries)) × (o .opens ≡ 0 → hasTime w ≡ true)
 Fits me g Completed w = hasTime w ≡ false
 
@@ -43,8 +43,8 @@ InTime now (Due d) = (0 < ticksLeft now (Due d)) × (ticksLeft now (Due d) ≤ 2
 
 -- a task's numbers are in range
 pub record InRange (me : Task) : Type 0 where
-  pub own : Priority (me .priority)
-  pub current : Priority (me .current)
+  pub own : InPriorities (me .priority)
+  pub current : InPriorities (me .current)
   pub few : me .entries ≤ 8
 
 -- a task that stands where it may: g is the task that it has called

@@ -1,7 +1,7 @@
 -- Whoever a step lists as ended stands in no queue any more.
 -- Assumes nothing.
 use Prim.Native.Nat.{ℕ, _<_}
-use mathlib.Core.Path.{_≡_, _∙_}
+use mathlib.Core.Path.{_≡_, refl, _∙_}
 use mathlib.Core.Bool.{false}
 use native.Mathlib.Omega.{arith}
 use lib.ListN.{length}
@@ -14,7 +14,7 @@ use Rattle.rules.specs.declared.Place.the-variants.{Ready}
 use Rattle.calls.specs.declared.Call as C
 use Rattle.rules.proofs.Invariant.{Sound}
 use Rattle.rules.proofs.StateRuns.{entry}
-use Rattle.rules.proofs.SoundSaid.{facts-of}
+use Rattle.rules.proofs.SoundSaid.{timed}
 use Rattle.rules.proofs.Fate.{untouched, awake, began, began-held, taken, ran-out, accepted, served, given-up}
 use Rattle.rules.proofs.OverRuns.{StepFate, not-taken, was-taken, step-fate, step-sound}
 
@@ -33,16 +33,16 @@ woken s c u r (was-taken s′ b l t e (given-up v f p i q j m)) k = rw e q
 
 -- a ready task has no time
 untimed : (s : State) (t : ℕ) → Sound s → placeOf s t ≡ Ready → hasTime (timerOf s t) ≡ false
-untimed s t h p = by-bool (hasTime (timerOf s t)) (λ e. clash (facts-of s h .none-else t e) (rw p)) (λ e. e)
+untimed s t h p = by-bool (hasTime (timerOf s t)) (λ e. clash (timed s h t (placeOf s t) refl e) (rw p)) (λ e. e)
 
 -- and stands in no line but the ready one
 ready-gone : (s : State) (t : ℕ) → Sound s → placeOf s t ≡ Ready → Gone t s
 ready-gone s t h p = record {
   place = p;
-  queues = λ g e. let z : count t (s .callers) ≡ 0 = facts-of s h .queued t ∙ rw p in omega (arith, z, count-filter-le (waitsOn s g e) t (s .callers));
-  callers = facts-of s h .queued t ∙ rw p;
-  held = facts-of s h .held t ∙ rw p;
-  delays = facts-of s h .delays t ∙ rw (untimed s t h p);
+  queues = λ g e. let z : count t (s .callers) ≡ 0 = h .callers t ∙ rw p in omega (arith, z, count-filter-le (waitsOn s g e) t (s .callers));
+  callers = h .callers t ∙ rw p;
+  held = h .held t ∙ rw p;
+  delays = h .delays t ∙ rw (untimed s t h p);
 }
 
 pub leaves-all : (s : State) (a : Ask) → Sound s → LeavesAll (entry s a)

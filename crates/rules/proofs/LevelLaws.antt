@@ -19,24 +19,11 @@ use Rattle.rules.specs.declared.Timer.the-variants.{Off}
 use Rattle.rules.specs.declared.Place.{Place}
 use Rattle.rules.specs.declared.Place.the-variants.{Ready, Held}
 use Rattle.lists.proofs.ListLaws.{by-bool, by-eq, by-test, count-filter-le, count-remove-same, count-filter-yes}
-use Rattle.lists.proofs.MarkLaws.{filter-same, filter-one, filter-remove, filter-filter, filter-append, remove-absent}
+use Rattle.lists.proofs.MarkLaws.{filter-same, filter-one, filter-remove, filter-swap, filter-append, remove-absent}
 use Rattle.rules.proofs.Invariant.{Sound}
 use Rattle.rules.proofs.Members.{in-filter}
-use Rattle.rules.proofs.MoveLaws.{nth-set-same, nth-set-other, task-same, task-other, place-same, rank-length}
+use Rattle.rules.proofs.MoveLaws.{task-same, task-other, place-same, rank-length, current-same, current-other}
 use Rattle.rules.proofs.Dispatch.{dispatched}
-
--- ── lists ──
-
--- it does not matter which of two filters comes first
-filter-swap : (f g : ℕ → Bool) (l : List ℕ) → filter f (filter g l) ≡ filter g (filter f l)
-filter-swap f g l =
-    filter-filter f g l ∙ filter-same (λ x. g x && f x) (λ x. f x && g x) l (λ x _. both (g x) (f x)) ∙ sym (filter-filter g f l)
-  where
-    both : (a b : Bool) → (a && b) ≡ (b && a)
-    both true true = refl
-    both true false = refl
-    both false true = refl
-    both false false = refl
 
 -- ── a move ──
 
@@ -67,15 +54,9 @@ no-level s u q z = remove-absent u (level s q) (omega (arith, z, count-filter-le
 -- ── another current priority ──
 
 module _ (s : State) (t n : ℕ) (pos : 0 < t) (fit : t ≤ length (s .tasks)) where
-  pub current-same : currentOf (rank s t n) t ≡ n
-  current-same = ap (λ (x : Task). x .current) (nth-set-same (s .tasks) t (ranked (taskOf s t) n) pos fit)
-
-  pub current-other : (u : ℕ) → (u ≡ t → ⊥) → currentOf (rank s t n) u ≡ currentOf s u
-  current-other u m = ap (λ (x : Task). x .current) (nth-set-other (s .tasks) t (ranked (taskOf s t) n) u m)
-
   -- all but t are of the level of which they were
   others : (q : ℕ) → filter (atLevel (rank s t n) q) (remove t (s .ready)) ≡ filter (atLevel s q) (remove t (s .ready))
-  others q = filter-same (atLevel (rank s t n) q) (atLevel s q) (remove t (s .ready)) (λ x j. ap (λ (c : ℕ). eqb c q) (current-other x (λ e. omega (arith, count-remove-same t (s .ready), rw e at j))))
+  others q = filter-same (atLevel (rank s t n) q) (atLevel s q) (remove t (s .ready)) (λ x j. ap (λ (c : ℕ). eqb c q) (current-other s t n pos fit x (λ e. omega (arith, count-remove-same t (s .ready), rw e at j))))
 
   -- one that is lowered goes to the head of the ready line
   lowered-line : ltb n (currentOf s t) ≡ true → rank s t n .ready ≡ toHead t (s .ready)
@@ -85,15 +66,15 @@ module _ (s : State) (t n : ℕ) (pos : 0 < t) (fit : t ≤ length (s .tasks)) w
   pub lowered-head : n < currentOf s t → level (rank s t n) n ≡ t ∷ level s n
   lowered-head h =
       ap (filter (atLevel (rank s t n) n)) (lowered-line (lt-ltb n (currentOf s t) h))
-      ∙ rw (current-same, eq-eqb n n refl)
+      ∙ rw (current-same s t n pos fit, eq-eqb n n refl)
       (ap (λ (l : List ℕ). t ∷ l) (others n ∙ filter-remove (atLevel s n) t (s .ready) (ne-eqb (currentOf s t) n (λ z. omega arith))))
 
   -- it leaves every other level
   pub level-other : (q : ℕ) → (q ≡ n → ⊥) → level (rank s t n) q ≡ remove t (level s q)
   level-other q m =
       by-bool (ltb n (currentOf s t))
-      (λ e. ap (filter (atLevel (rank s t n) q)) (lowered-line e) ∙ rw (current-same, off) (others q ∙ swapped))
-      (λ e. rw e (sym (filter-remove (atLevel (rank s t n) q) t (s .ready) (ap (λ (c : ℕ). eqb c q) current-same ∙ off)) ∙ others q ∙ swapped))
+      (λ e. ap (filter (atLevel (rank s t n) q)) (lowered-line e) ∙ rw (current-same s t n pos fit, off) (others q ∙ swapped))
+      (λ e. rw e (sym (filter-remove (atLevel (rank s t n) q) t (s .ready) (ap (λ (c : ℕ). eqb c q) (current-same s t n pos fit) ∙ off)) ∙ others q ∙ swapped))
     where
       off : eqb n q ≡ false
       off = ne-eqb n q (λ z. m (sym z))
@@ -105,7 +86,7 @@ module _ (s : State) (t n : ℕ) (pos : 0 < t) (fit : t ≤ length (s .tasks)) w
   pub level-kept : currentOf s t ≡ n → (q : ℕ) → level (rank s t n) q ≡ level s q
   level-kept e q =
       rw (le-ltb n (currentOf s t) (omega (arith, e)))
-      (filter-same (atLevel (rank s t n) q) (atLevel s q) (s .ready) (λ x _. ap (λ (c : ℕ). eqb c q) (by-eq x t (λ z. ap (currentOf (rank s t n)) z ∙ current-same ∙ sym e ∙ ap (currentOf s) (sym z)) (current-other x))))
+      (filter-same (atLevel (rank s t n) q) (atLevel s q) (s .ready) (λ x _. ap (λ (c : ℕ). eqb c q) (by-eq x t (λ z. ap (currentOf (rank s t n)) z ∙ current-same s t n pos fit ∙ sym e ∙ ap (currentOf s) (sym z)) (current-other s t n pos fit x))))
 
   -- raised to a level on which nobody stands, it stands there alone
   pub raised-lone : currentOf s t < n → count t (s .ready) ≡ 1 → level s n ≡ [] → level (rank s t n) n ≡ t ∷ []
@@ -113,8 +94,8 @@ module _ (s : State) (t n : ℕ) (pos : 0 < t) (fit : t ≤ length (s .tasks)) w
       rw (le-ltb n (currentOf s t) (omega arith))
       (filter-same (atLevel (rank s t n) n) (λ x. eqb x t) (s .ready)
       (λ x j. by-eq x t
-      (λ z. rw (z, current-same, eq-eqb n n refl, eq-eqb t t refl))
-      (λ m. rw (current-other x m, ne-eqb x t m) (empty x j)))
+      (λ z. rw (z, current-same s t n pos fit, eq-eqb n n refl, eq-eqb t t refl))
+      (λ m. rw (current-other s t n pos fit x m, ne-eqb x t m) (empty x j)))
       ∙ filter-one t (s .ready) k)
     where
       empty : (x : ℕ) → 0 < count x (s .ready) → eqb (currentOf s x) n ≡ false
@@ -123,9 +104,9 @@ module _ (s : State) (t n : ℕ) (pos : 0 < t) (fit : t ≤ length (s .tasks)) w
   -- raised or not, one that stands at the end of the ready line stands at the tail of its new level
   pub raised-tail : (l : List ℕ) → currentOf s t ≤ n → s .ready ≡ l ++ (t ∷ []) → count t l ≡ 0 → level (rank s t n) n ≡ filter (atLevel s n) l ++ (t ∷ [])
   raised-tail l h e z =
-      rw (le-ltb n (currentOf s t) (omega arith), e, filter-append (atLevel (rank s t n) n) l (t ∷ []), current-same, eq-eqb n n refl)
+      rw (le-ltb n (currentOf s t) (omega arith), e, filter-append (atLevel (rank s t n) n) l (t ∷ []), current-same s t n pos fit, eq-eqb n n refl)
       (ap (λ (k : List ℕ). k ++ (t ∷ []))
-      (filter-same (atLevel (rank s t n) n) (atLevel s n) l (λ x j. ap (λ (c : ℕ). eqb c n) (current-other x (λ q. omega (arith, z, rw q at j))))))
+      (filter-same (atLevel (rank s t n) n) (atLevel s n) l (λ x j. ap (λ (c : ℕ). eqb c n) (current-other s t n pos fit x (λ q. omega (arith, z, rw q at j))))))
 
 -- ── a rendezvous ──
 

@@ -19,8 +19,8 @@ use Rattle.lists.proofs.ListLaws.{clash, by-eq, by-test, count-remove-same}
 use Rattle.lists.proofs.MarkLaws.{filter-same, filter-append, remove-absent}
 use Rattle.rules.proofs.Invariant.{Sound}
 use Rattle.rules.proofs.Members.{Runs}
-use Rattle.rules.proofs.MoveLaws.{place-same, place-other, length-move, rank-length, meet-same, meet-other}
-use Rattle.rules.proofs.LevelLaws.{meet-raises, current-moved, current-other, level-leaves, level-joins, no-level, level-other, raised-tail, higher-least}
+use Rattle.rules.proofs.MoveLaws.{place-same, place-other, length-move, rank-length, meet-same, meet-other, current-other}
+use Rattle.rules.proofs.LevelLaws.{meet-raises, current-moved, level-leaves, level-joins, no-level, level-other, raised-tail, higher-least}
 use Rattle.rules.proofs.LevelsSelect.{begins-one}
 
 -- by CALL: c runs, and its acceptor g, which is not ready, is resumed

@@ -17,8 +17,8 @@ use Rattle.lists.proofs.ListLaws.{clash, by-eq}
 use Rattle.lists.proofs.Tests.{differ}
 use Rattle.rules.proofs.Invariant.{Sound}
 use Rattle.rules.proofs.Members.{Runs, held-there}
-use Rattle.rules.proofs.MoveLaws.{rank-place, rank-length, restore-sound, part-same, part-other}
-use Rattle.rules.proofs.LevelLaws.{part-puts-back, current-moved, current-other, level-joins, no-level, lowered-head, level-other, level-kept}
+use Rattle.rules.proofs.MoveLaws.{rank-place, rank-length, restore-sound, part-same, part-other, current-other}
+use Rattle.rules.proofs.LevelLaws.{part-puts-back, current-moved, level-joins, no-level, lowered-head, level-other, level-kept}
 
 -- g, which runs, ends the rendezvous with its caller c
 module _ (s : State) (g c : ℕ) (m : Meeting) (h : Sound s) (r : Runs s g) (held : placeOf s c ≡ Held m) (by : m .holder ≡ g) where

@@ -16,8 +16,8 @@ use Rattle.rules.specs.declared.Place.the-variants.{Held}
 use Rattle.lists.proofs.ListLaws.{clash, by-eq}
 use Rattle.rules.proofs.Invariant.{Sound}
 use Rattle.rules.proofs.Members.{Runs}
-use Rattle.rules.proofs.MoveLaws.{rank-place, rank-length, raise-sound, meet-same, meet-other}
-use Rattle.rules.proofs.LevelLaws.{meet-raises, current-moved, current-other, level-leaves, no-level, level-other, level-kept, raised-lone, above-running, higher-raised, higher-kept}
+use Rattle.rules.proofs.MoveLaws.{rank-place, rank-length, raise-sound, meet-same, meet-other, current-other}
+use Rattle.rules.proofs.LevelLaws.{meet-raises, current-moved, level-leaves, no-level, level-other, level-kept, raised-lone, above-running, higher-raised, higher-kept}
 
 -- that of c with g, and no other; g alone gets another current priority
 pub begins-one : (s s′ : State) (g c e k : ℕ) → isHeld (placeOf s c) ≡ false → placeOf s′ c ≡ Held (meeting g e k)

@@ -11,7 +11,7 @@ use lib.Dec.{eqb, ltb}
 use borrow.Author.Tests.{eq-eqb, ne-eqb, le-ltb, ltb-true}
 use Rattle.lists.specs.Lists.{bit, count, remove, rejoin, toHead}
 use Rattle.rules.specs.State.{State, blank, nth, setNth, taskOf, placeOf, timerOf, currentOf, isReady, isQueued, isHeld, isCompleted, partnerOf, keptOf, accepts, hasTime, ticksLeft, left, retime, placed, ranked, rank, higher, move, meeting, meet, part, wake, opens}
-use Rattle.rules.specs.SoundFacts.{Priority}
+use Rattle.rules.specs.SoundFacts.{InPriorities}
 use Rattle.rules.specs.declared.Task.{Task}
 use Rattle.rules.specs.declared.Timer.{Timer}
 use Rattle.rules.specs.declared.Timer.the-variants.{Off, Due}
@@ -230,11 +230,17 @@ module _ (s : State) (t n : ℕ) (pos : 0 < t) (fit : t ≤ length (s .tasks)) w
   pub rank-alike : (u : ℕ) → Alike (taskOf s u) (taskOf (rank s t n) u)
   rank-alike u = record { place = rank-place u; timer = rank-timer u }
 
+  pub current-same : currentOf (rank s t n) t ≡ n
+  current-same = ap (λ (x : Task). x .current) (nth-set-same (s .tasks) t (ranked (taskOf s t) n) pos fit)
+
+  pub current-other : (u : ℕ) → (u ≡ t → ⊥) → currentOf (rank s t n) u ≡ currentOf s u
+  current-other u m = ap (λ (x : Task). x .current) (nth-set-other (s .tasks) t (ranked (taskOf s t) n) u m)
+
   pub rank-length : length (rank s t n .tasks) ≡ length (s .tasks)
   rank-length = length-setNth (s .tasks) t (ranked (taskOf s t) n)
 
   -- one that is lowered is ready
-  pub rank-sound : Priority n → (ltb n (currentOf s t) ≡ true → isReady (placeOf s t) ≡ true) → Sound s → Sound (rank s t n)
+  pub rank-sound : InPriorities n → (ltb n (currentOf s t) ≡ true → isReady (placeOf s t) ≡ true) → Sound s → Sound (rank s t n)
   rank-sound i f h = record {
     clock = h .clock;
     few = omega (arith, h .few, rank-length);
@@ -291,7 +297,7 @@ queue-sound s t q w pos fit h c a i =
 
 -- ── a rendezvous begins and ends ──
 
-pub hold-sound : (s : State) (t : ℕ) (m : Meeting) → 0 < t → t ≤ length (s .tasks) → Sound s → Calls (taskOf s (m .holder)) (m .entry) → Priority (m .kept) → Sound (move s t (Held m) Off)
+pub hold-sound : (s : State) (t : ℕ) (m : Meeting) → 0 < t → t ≤ length (s .tasks) → Sound s → Calls (taskOf s (m .holder)) (m .entry) → InPriorities (m .kept) → Sound (move s t (Held m) Off)
 hold-sound s t m pos fit h c i =
     move-sound s t (Held m) Off pos fit h
     (calls-after s t (m .holder) (m .entry) (Held m) Off pos fit refl c, refl, i) tt
@@ -308,7 +314,7 @@ module _ (s : State) (g c : ℕ) (low : 0 < g) (high : g ≤ length (s .tasks)) 
     pub raise-sound : Sound s → Sound (rank s g n)
     raise-sound h =
         rank-sound s g n low high
-        (by-test Priority (ltb (currentOf s g) (currentOf s c)) (λ _. h .good c pos fit .numbers .current) (λ _. h .good g low high .numbers .current))
+        (by-test InPriorities (ltb (currentOf s g) (currentOf s c)) (λ _. h .good c pos fit .numbers .current) (λ _. h .good g low high .numbers .current))
         (λ e. clash e (higher-not-lower (currentOf s g) (currentOf s c))) h
 
     pub meet-sound : Sound s → Calls (taskOf s g) e → Sound (meet s g c e)

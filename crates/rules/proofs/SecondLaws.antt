@@ -33,6 +33,7 @@ use Rattle.rules.proofs.StepSound.{Kept, call-sound}
 use Rattle.rules.proofs.SoundTest.{sound-test}
 use Rattle.rules.proofs.WholeLaws.{view-core, packed-core, callers-fit, no-zero, behind}
 use Rattle.rules.proofs.Apart.{same-step, same-wait, tells}
+use Rattle.rules.proofs.TreeLaws.{Tree, Quiet, quiet-agree, quiet-no-ring}
 use Rattle.rules.proofs.Leaving.{queue-told}
 
 -- ── alike states give alike outcomes ──
@@ -244,18 +245,24 @@ module _ (u : State) (h : Sound u) where
     order = h .order;
   }
 
+  -- the tree does not tell of the callers
+  pub regrouped-tree : Tree u → Tree regrouped
+  regrouped-tree g =
+      let q : Quiet u regrouped = record { held = λ _. refl; priority = λ _. refl; current = λ _. refl; kept = λ _. refl; isheld = λ _. refl; holder = λ _ _. refl } in
+      record { agree = quiet-agree u regrouped q (g .agree); no-ring = quiet-no-ring u regrouped q (g .no-ring) }
+
   pub view-second : viewSecond (packSecond u) ≡ regrouped
   view-second = λ i. withCallers (view-core u h i) (gathered (rowsFrom u 31 1))
 
-  pub sound-second : soundSecond (packSecond u) ≡ true
-  sound-second =
+  pub sound-second : Tree u → soundSecond (packSecond u) ≡ true
+  sound-second g =
       and-both (and-both (packed-core u h) (ap (λ (z : State). rowsRight z 1 (rowsFrom u 31 1)) (view-core u h) ∙ rows-right 31 1))
-      (ap sound view-second ∙ sound-test regrouped regrouped-sound)
+      (ap sound view-second ∙ sound-test regrouped regrouped-sound (regrouped-tree g))
 
   pub second-short : (c : C.Call) (room : ℕ) → ltb room 124 ≡ true → stepSecond (packSecond u) c room ≡ decline (packSecond u) SHORT-ROOM 0
   unfolding stepSecond
   second-short c room b = rw b
 
-  pub second-takes : (c : C.Call) (room : ℕ) → ltb room 124 ≡ false → stepSecond (packSecond u) c room ≡ doneBy packSecond (packSecond u) regrouped (takeCall regrouped c)
+  pub second-takes : Tree u → (c : C.Call) (room : ℕ) → ltb room 124 ≡ false → stepSecond (packSecond u) c room ≡ doneBy packSecond (packSecond u) regrouped (takeCall regrouped c)
   unfolding stepSecond
-  second-takes c room b = rw (b, sound-second) (ap (λ (z : State). doneBy packSecond (packSecond u) z (takeCall z c)) view-second)
+  second-takes g c room b = rw (b, sound-second g) (ap (λ (z : State). doneBy packSecond (packSecond u) z (takeCall z c)) view-second)

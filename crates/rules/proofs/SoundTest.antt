@@ -10,8 +10,8 @@ use lib.ListN.{getD}
 use borrow.Author.Tests.{eqb-true, eq-eqb, ne-eqb, ltb-true, leb-true, leb-false, lt-ltb, le-leb, not-true}
 use Rattle.lists.specs.Lists.{bit, count, every, inOrder, downFrom}
 use Rattle.rules.specs.State.{State, blank, taskOf, placeOf, timerOf, created, isTask, isReady, isQueued, isHeld, isCompleted, partnerOf, hasTime, ticksLeft}
-use Rattle.rules.specs.Sound.{isPriority, calls, fits, timeInRange, goodTask, standsRight, sound}
-use Rattle.rules.specs.SoundFacts.{Priority}
+use Rattle.rules.specs.Sound.{isPriority, calls, fits, timeInRange, goodTask, standsRight, treeRight, standing, sound}
+use Rattle.rules.specs.SoundFacts.{InPriorities}
 use Rattle.rules.specs.declared.Task.{Task}
 use Rattle.rules.specs.declared.Timer.{Timer}
 use Rattle.rules.specs.declared.Timer.the-variants.{Off, Due}
@@ -21,6 +21,8 @@ use Rattle.lists.proofs.Tests.{each, between, differ, and-first, and-second, an
 use Rattle.lists.proofs.ListLaws.{clash, by-eq, by-bool, by-member, not-in, every-at, every-of, count-append, in-order, ordered-of, down-at}
 use Rattle.rules.proofs.Invariant.{Calls, Fits, InTime, Good, Sound}
 use Rattle.rules.proofs.Members.{nth-beyond}
+use Rattle.rules.proofs.TreeLaws.{Tree}
+use Rattle.rules.proofs.TreeTest.{not-task, tree-test, tree-of}
 
 -- ── from the propositions to the test ──
 
@@ -31,7 +33,7 @@ or-test : (o : ℕ) (b : Bool) → (o ≡ 0 → b ≡ true) → (ltb 0 o || b) �
 or-test zero b h = h refl
 or-test (suc o) b h = rw (lt-ltb 0 (suc o) (omega arith))
 
-pub priority-test : (p : ℕ) → Priority p → isPriority p ≡ true
+pub priority-test : (p : ℕ) → InPriorities p → isPriority p ≡ true
 priority-test p h = and-both (lt-ltb 0 p (h .0)) (le-leb p 15 (h .1))
 
 fits-test : (me g : Task) (p : Place) (w : Timer) → Fits me g p w → fits me g p w ≡ true
@@ -70,9 +72,9 @@ line-test s q l b h (suc u) k =
 sum : (s : State) (u : ℕ) → count u (s .ready ++ s .callers ++ s .held ++ s .delays) ≡ count u (s .ready) + count u (s .callers) + count u (s .held) + count u (s .delays)
 sum s u = omega (arith, count-append u (s .ready ++ s .callers ++ s .held) (s .delays), count-append u (s .ready ++ s .callers) (s .held), count-append u (s .ready) (s .callers))
 
-pub sound-test : (s : State) → Sound s → sound s ≡ true
-unfolding sound
-sound-test s h =
+pub standing-test : (s : State) → Sound s → standing s ≡ true
+unfolding standing
+standing-test s h =
     and-both
     (and-both
     (and-both (le-leb (created s) 31 (h .few)) (every-of (standsRight s) (downFrom (created s)) (λ u k. let i = in-down u (created s) k in stands u (i .0) (i .1))))
@@ -97,6 +99,11 @@ sound-test s h =
         by-member u (s .held) (line-test s (λ x. isHeld (x .place)) (s .held) refl (h .held) u) λ c.
         line-test s (λ x. hasTime (x .timer)) (s .delays) refl (h .delays) u (omega (arith, k, a, b, c, sum s u))
 
+pub sound-test : (s : State) → Sound s → Tree s → sound s ≡ true
+unfolding sound
+sound-test s h g =
+    and-both (standing-test s h) (every-of (treeRight s) (downFrom (created s)) (λ u k. let i = in-down u (created s) k in tree-test s h g u (i .0) (i .1)))
+
 -- ── from the test to the propositions ──
 
 calls-of : (g : Task) (e : ℕ) → calls g e ≡ true → Calls g e
@@ -104,7 +111,7 @@ calls-of g e h =
     let p = each (ltb 0 e) (leb e (g .entries) ∷ not (isCompleted (g .place)) ∷ []) h in
     record { low = ltb-true 0 e (p 0); high = leb-true e (g .entries) (p 1); alive = not-true _ (p 2) }
 
-pub priority-of : (p : ℕ) → isPriority p ≡ true → Priority p
+pub priority-of : (p : ℕ) → isPriority p ≡ true → InPriorities p
 priority-of p h = between p 15 h
 
 fits-of : (me g : Task) (p : Place) (w : Timer) → fits me g p w ≡ true → Fits me g p w
@@ -135,13 +142,9 @@ good-of now me g h =
       time = time-of now (me .timer) (p 3);
     }
 
-not-task : (s : State) (u : ℕ) → isTask s u ≡ false → taskOf s u ≡ blank
-not-task s zero e = refl
-not-task s (suc u) e = nth-beyond (s .tasks) (suc u) (leb-false (suc u) (created s) (rw (lt-ltb 0 (suc u) (omega arith)) at e))
-
-pub sound-props : (s : State) → s .clock < 4294967296 → sound s ≡ true → Sound s
-unfolding sound
-sound-props s hc e = record {
+pub standing-props : (s : State) → s .clock < 4294967296 → standing s ≡ true → Sound s
+unfolding standing
+standing-props s hc e = record {
   clock = hc;
   few = leb-true (created s) 31 (parts 0);
   good = λ u p q. good-of (s .clock) (taskOf s u) (taskOf s (partnerOf (placeOf s u))) (stands u p q 0);
@@ -181,3 +184,12 @@ sound-props s hc e = record {
         (λ t. let i = between u (created s) t in f (i .0) (i .1))
         (λ t. rw (not-task s u t, z)
         (not-in u l (λ k. clash (every-at (isTask s) lines (parts 2) u (m k)) t)))
+
+pub sound-props : (s : State) → s .clock < 4294967296 → sound s ≡ true → Sound s
+unfolding sound
+sound-props s hc e = standing-props s hc (and-first (standing s) (every (treeRight s) (downFrom (created s))) e)
+
+pub tree-props : (s : State) → Sound s → sound s ≡ true → Tree s
+unfolding sound
+tree-props s h e =
+    tree-of s h (λ t a b. down-at (treeRight s) (created s) (and-second (standing s) (every (treeRight s) (downFrom (created s))) e) t a b)

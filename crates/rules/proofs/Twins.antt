@@ -12,8 +12,9 @@ use Rattle.rules.specs.State.{State, empty, waitsOn, queue, running}
 use Rattle.rules.specs.Step.{Outcome, refused, took, Refusal, SHORT-ROOM, takeCall}
 use Rattle.rules.specs.Callers.{Alike}
 use Rattle.rules.specs.Whole.{view, pack, soundWhole, StepOf, Whole, decline, doneBy, answerOf, stepWhole}
-use Rattle.rules.specs.Questions.{countBy, callableBy, runningBy, countWhole, callableWhole, runningWhole}
-use Rattle.rules.specs.Second.{viewSecond, packSecond, soundSecond, stepSecond, startSecond, countSecond, callableSecond, runningSecond}
+use Rattle.rules.specs.Questions.{countBy, callableBy, runningBy, countWhole, callableWhole, runningWhole, priorityBy, priorityWhole}
+use Rattle.rules.specs.Second.{viewSecond, packSecond, soundSecond, stepSecond, startSecond, countSecond, callableSecond, runningSecond, prioritySecond}
+use Rattle.rules.specs.Tree.{highestOf}
 use Rattle.rules.specs.Runs.{start}
 use Rattle.rules.specs.declared.Supervisor.{Supervisor}
 use Rattle.rules.specs.declared.Second.{Second}
@@ -22,17 +23,22 @@ use Rattle.rules.proofs.Invariant.{Sound}
 use Rattle.rules.proofs.StepSound.{Kept, call-sound}
 use Rattle.rules.proofs.StateRuns.{stepped}
 use Rattle.rules.proofs.OverRuns.{empty-sound}
+use Rattle.rules.proofs.TreeLaws.{Tree}
+use Rattle.rules.proofs.TreeSteps.{TreeOf, keeps-tree}
+use Rattle.rules.proofs.TreeRuns.{empty-tree}
 use Rattle.rules.proofs.EveryStruct.{step-taken}
 use Rattle.rules.proofs.WholeLaws.{wholeOf, view-pack, sound-pack}
 use Rattle.rules.proofs.Apart.{queue-of, running-core}
-use Rattle.rules.proofs.SecondLaws.{Parallel, alike-steps, regrouped, regrouped-alike, regrouped-sound, view-second, sound-second, second-short, second-takes}
+use Rattle.rules.proofs.SecondLaws.{Parallel, alike-steps, regrouped, regrouped-alike, regrouped-sound, regrouped-tree, view-second, sound-second, second-short, second-takes}
 
--- the two structs stand for alike states, both sound
+-- the two structs stand for alike states, both sound, and both right in the tree of held callers
 pub record Twins (s : Supervisor) (x : Second) : Type 0 where
   pub one : State
   pub other : State
   pub one-sound : Sound one
+  pub one-tree : Tree one
   pub other-sound : Sound other
+  pub other-tree : Tree other
   pub alike : Alike one other
   pub first : s ≡ pack one
   pub second : x ≡ packSecond other
@@ -55,16 +61,16 @@ first-short : (s : State) (c : C.Call) (room : ℕ) → ltb room 124 ≡ true �
 unfolding stepWhole
 first-short s c room b = rw b
 
-first-takes : (s : State) (c : C.Call) (room : ℕ) → Sound s → ltb room 124 ≡ false → stepWhole (pack s) c room ≡ doneBy pack (pack s) s (takeCall s c)
-first-takes s c room h b = step-taken s c room h b ∙ go (takeCall s c)
+first-takes : (s : State) (c : C.Call) (room : ℕ) → Sound s → Tree s → ltb room 124 ≡ false → stepWhole (pack s) c room ≡ doneBy pack (pack s) s (takeCall s c)
+first-takes s c room h f b = step-taken s c room h f b ∙ go (takeCall s c)
   where
     go : (o : Outcome) → wholeOf (stepped s o) ≡ doneBy pack (pack s) s o
     go (refused r) = refl
     go (took v a l) = refl
 
-module _ (s u : State) (h : Sound s) (k : Sound u) (a : Alike s u) where
+module _ (s u : State) (h : Sound s) (f : Tree s) (k : Sound u) (g : Tree u) (a : Alike s u) where
   here : Twins (pack s) (packSecond u)
-  here = record { one = s; other = u; one-sound = h; other-sound = k; alike = a; first = refl; second = refl }
+  here = record { one = s; other = u; one-sound = h; one-tree = f; other-sound = k; other-tree = g; alike = a; first = refl; second = refl }
 
   abbrev w : State
   w = regrouped u k
@@ -73,28 +79,28 @@ module _ (s u : State) (h : Sound s) (k : Sound u) (a : Alike s u) where
   across = alike-on s u w a (regrouped-alike u k)
 
   refused-same : (r q : Refusal) (n m : ℕ) → r ≡ q → n ≡ m → SameStep (decline (pack s) r n) (decline (packSecond u) q m)
-  refused-same r q n m e f = record {
-    answer = λ i. answerOf (decline (packSecond u) (sym e i) (sym f i));
+  refused-same r q n m e j = record {
+    answer = λ i. answerOf (decline (packSecond u) (sym e i) (sym j i));
     ended = refl;
     next = here;
   }
 
-  done-same : (o p : Outcome) → Parallel o p → Kept o → Kept p → SameStep (doneBy pack (pack s) s o) (doneBy packSecond (packSecond u) w p)
-  done-same (refused r) (refused q) e i j = refused-same r q (running s) (running w) e (same-running s w across)
-  done-same (refused r) (took v b l) e i j = absurd e
-  done-same (took v b l) (refused q) e i j = absurd e
-  done-same (took v b l) (took x d m) e i j = record {
-    answer = λ z. answerOf (record { refusal = 0; answer = sym (e .1) z; ended = sym (e .2) z; next = sym (same-running v x (e .0)) z; state = packSecond x });
+  done-same : (o p : Outcome) → Parallel o p → Kept o → TreeOf o → Kept p → TreeOf p → SameStep (doneBy pack (pack s) s o) (doneBy packSecond (packSecond u) w p)
+  done-same (refused r) (refused q) e i y j z = refused-same r q (running s) (running w) e (same-running s w across)
+  done-same (refused r) (took v b l) e i y j z = absurd e
+  done-same (took v b l) (refused q) e i y j z = absurd e
+  done-same (took v b l) (took x d m) e i y j z = record {
+    answer = λ n. answerOf (record { refusal = 0; answer = sym (e .1) n; ended = sym (e .2) n; next = sym (same-running v x (e .0)) n; state = packSecond x });
     ended = sym (e .2);
-    next = record { one = v; other = x; one-sound = i; other-sound = j; alike = e .0; first = refl; second = refl };
+    next = record { one = v; other = x; one-sound = i; one-tree = y; other-sound = j; other-tree = z; alike = e .0; first = refl; second = refl };
   }
 
   packed-same : (c : C.Call) (room : ℕ) → SameStep (stepWhole (pack s) c room) (stepSecond (packSecond u) c room)
   packed-same c room =
       by-bool (ltb room 124)
       (λ b. both (sym (first-short s c room b)) (sym (second-short u k c room b)) (refused-same SHORT-ROOM SHORT-ROOM 0 0 refl refl))
-      (λ b. both (sym (first-takes s c room h b)) (sym (second-takes u k c room b))
-      (done-same (takeCall s c) (takeCall w c) (alike-steps s w c h (regrouped-sound u k) across) (call-sound s c h) (call-sound w c (regrouped-sound u k))))
+      (λ b. both (sym (first-takes s c room h f b)) (sym (second-takes u k g c room b))
+      (done-same (takeCall s c) (takeCall w c) (alike-steps s w c h (regrouped-sound u k) across) (call-sound s c h) (keeps-tree s c h f) (call-sound w c (regrouped-sound u k)) (keeps-tree w c (regrouped-sound u k) (regrouped-tree u k g))))
     where
       both : {x y : Whole} {q r : StepOf Second} → x ≡ y → q ≡ r → SameStep x q → SameStep y r
       both {x} {y} {q} {r} e f z = subst (SameStep y) f (subst (λ (p : Whole). SameStep p q) e z)
@@ -103,7 +109,7 @@ pub same-step : (s : Supervisor) (x : Second) → Twins s x → (c : C.Call) (ro
 same-step s x t c room =
     subst (λ (y : Second). SameStep (stepWhole s c room) (stepSecond y c room)) (sym (t .second))
     (subst (λ (y : Supervisor). SameStep (stepWhole y c room) (stepSecond (packSecond (t .other)) c room)) (sym (t .first))
-    (packed-same (t .one) (t .other) (t .one-sound) (t .other-sound) (t .alike) c room))
+    (packed-same (t .one) (t .other) (t .one-sound) (t .one-tree) (t .other-sound) (t .other-tree) (t .alike) c room))
 
 -- ── the questions ──
 
@@ -115,10 +121,10 @@ module _ (s : Supervisor) (x : Second) (t : Twins s x) where
   across-here = alike-on (t .one) (t .other) u (t .alike) (regrouped-alike (t .other) (t .other-sound))
 
   pub first-sound : soundWhole s ≡ true
-  first-sound = ap soundWhole (t .first) ∙ sound-pack (t .one) (t .one-sound)
+  first-sound = ap soundWhole (t .first) ∙ sound-pack (t .one) (t .one-sound) (t .one-tree)
 
   pub second-sound : soundSecond x ≡ true
-  second-sound = ap soundSecond (t .second) ∙ sound-second (t .other) (t .other-sound)
+  second-sound = ap soundSecond (t .second) ∙ sound-second (t .other) (t .other-sound) (t .other-tree)
 
   first-view : view s ≡ t .one
   first-view = ap view (t .first) ∙ view-pack (t .one) (t .one-sound)
@@ -153,7 +159,14 @@ module _ (s : Supervisor) (x : Second) (t : Twins s x) where
       ∙ ap (λ (n : ℕ). record { refusal = 0; task = n }) (sym (same-running (t .one) u across-here))
       ∙ sym (λ i. runningBy (first-sound i) (first-view i))
 
+  pub same-priority : (g : ℕ) → prioritySecond x g ≡ priorityWhole s g
+  unfolding prioritySecond priorityWhole highestOf
+  same-priority g =
+      (λ i. priorityBy (second-sound i) (second-view i) g)
+      ∙ ap (λ (v : State). priorityBy true v g) (sym (across-here .core))
+      ∙ sym (λ i. priorityBy (first-sound i) (first-view i) g)
+
 -- ── uses, one after the other ──
 
 pub starts : (n : ℕ) → n < 4294967296 → Twins (start n) (startSecond n)
-starts n h = here (empty n) (empty n) (empty-sound n h) (empty-sound n h) (record { core = refl; queues = λ g. refl })
+starts n h = let k = empty-sound n h in here (empty n) (empty n) k (empty-tree n) k (empty-tree n) (record { core = refl; queues = λ g. refl })

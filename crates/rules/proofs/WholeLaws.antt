@@ -29,7 +29,8 @@ use Rattle.rules.specs.declared.Place.{Place}
 use Rattle.rules.specs.declared.Place.the-variants.{Blank, Ready, Delayed, Queued, Held, Accepting, Completed}
 use Rattle.rules.specs.declared.Timer.{Timer}
 use Rattle.rules.specs.declared.Timer.the-variants.{Off, Due}
-use Rattle.rules.proofs.SoundTest.{sound-test, sound-props}
+use Rattle.rules.proofs.SoundTest.{sound-test, sound-props, tree-props}
+use Rattle.rules.proofs.TreeLaws.{Tree}
 use Rattle.rules.specs.Runs.{Ask, Given, Entry, viewed, entryWhole, logWhole, reachWhole}
 use Rattle.rules.proofs.StateRuns.{stepped, step, entry, logOf, reach}
 use Rattle.rules.proofs.OverRuns.{step-sound}
@@ -167,6 +168,9 @@ whole-packed s t e =
 pub sound-view : (s : Supervisor) → Typed s → soundWhole s ≡ true → Sound (view s)
 sound-view s t e = sound-props (view s) (t .core .clock) (parts s e .state)
 
+pub tree-view : (s : Supervisor) → Typed s → soundWhole s ≡ true → Tree (view s)
+tree-view s t e = tree-props (view s) (sound-view s t e) (parts s e .state)
+
 -- the step of the rules, with its state in the code's struct
 abbrev pub wholeOf : Given → Whole
 wholeOf r = record { refusal = r .refusal; answer = r .answer; ended = r .ended; next = r .next; state = pack (r .state) }
@@ -176,7 +180,9 @@ unfolding stepWhole
 step-whole s c room h =
     by-bool (ltb room 124)
     (λ e. rw e)
-    (λ e. rw (e, packed-core s h, behind (s .callers) (h .callers 0), view-pack s h, sound-test s h) (go (takeCall s c)))
+    (λ e. by-bool (sound s)
+    (λ q. rw (e, packed-core s h, behind (s .callers) (h .callers 0), view-pack s h, q) (go (takeCall s c)))
+    (λ q. rw (e, packed-core s h, behind (s .callers) (h .callers 0), view-pack s h, q)))
   where
     go : (o : Outcome) → doneBy pack (pack s) s o ≡ wholeOf (stepped s o)
     go (refused r) = refl
@@ -212,5 +218,5 @@ reach-whole [] s h = refl
 reach-whole (a ∷ rest) s h =
     ap (λ (t : Supervisor). reachWhole t rest) (state-whole s a h) ∙ reach-whole rest (entry s a .out .state) (step-sound s a h)
 
-pub sound-pack : (s : State) → Sound s → soundWhole (pack s) ≡ true
-sound-pack s h = rw (packed-core s h, behind (s .callers) (h .callers 0), view-pack s h) (sound-test s h)
+pub sound-pack : (s : State) → Sound s → Tree s → soundWhole (pack s) ≡ true
+sound-pack s h g = rw (packed-core s h, behind (s .callers) (h .callers 0), view-pack s h) (sound-test s h g)

@@ -3,7 +3,7 @@
 use Prim.Native.Nat.{ℕ, _<_}
 use mathlib.Core.Path.{_≡_, sym, ap, subst, _∙_}
 use mathlib.Core.List.{List}
-use Rattle.rules.specs.State.{State, empty}
+use Rattle.rules.specs.State.{State, empty, currentOf}
 use Rattle.rules.specs.Whole.{view, pack, soundWhole}
 use Rattle.rules.specs.Runs.{Ask, Entry, start, afterStep, entryWhole, logWhole, reachWhole}
 use Rattle.rules.specs.OverRuns.{WaitsCounted, EndsOnce, WereWaiting, SixReasons, FewEnds, LeavesAll, HeldTillEnd, TimedWaits, OverRunsWhole}
@@ -11,6 +11,8 @@ use Rattle.rules.specs.declared.Supervisor.{Supervisor}
 use Rattle.rules.proofs.Invariant.{Sound}
 use Rattle.rules.proofs.StateRuns.{entry, logOf, reach}
 use Rattle.rules.proofs.OverRuns.{empty-sound, reach-sound, step-sound, waits-counted, six-reasons, held-step}
+use Rattle.rules.specs.Tree.{highestOf, reachesTop}
+use Rattle.rules.proofs.TreeRuns.{empty-tree, reach-tree, no-ring, current-is-highest}
 use Rattle.rules.proofs.Ends.{ends-once, were-waiting, few-ends}
 use Rattle.rules.proofs.Leaves.{leaves-all}
 use Rattle.rules.proofs.TimedWait.{timed-waits}
@@ -43,7 +45,9 @@ module _ (st : State) (h : Sound st) (run : List Ask) where
 
 pub over-runs-whole : OverRunsWhole
 over-runs-whole = record {
-  always-sound = λ n h run. ap soundWhole (reach-whole run (empty n) (empty-sound n h)) ∙ sound-pack (reach (empty n) run) (reach-sound run (empty n) (empty-sound n h));
+  always-sound = λ n h run. ap soundWhole (reach-whole run (empty n) (empty-sound n h)) ∙ sound-pack (reach (empty n) run) (reach-sound run (empty n) (empty-sound n h)) (reach-tree run (empty n) (empty-sound n h) (empty-tree n));
+  no-ring = λ n h run t. ap (λ (s : State). reachesTop s 30 t) (at-end (empty n) (empty-sound n h) run) ∙ no-ring n h run t;
+  current-highest = λ n h run t. subst (λ (s : State). currentOf s t ≡ highestOf s 30 t) (sym (at-end (empty n) (empty-sound n h) run)) (sym (current-is-highest n h run t));
   waits-counted = λ n h run.
       subst (λ (l : List Entry). WaitsCounted l (view (reachWhole (start n) run))) (sym (log-whole run (empty n) (empty-sound n h)))
       (subst (λ (s : State). WaitsCounted (logOf (empty n) run) s) (sym (at-end (empty n) (empty-sound n h) run)) (waits-counted n h run));

@@ -2,6 +2,8 @@
 
 -- the state: tasks, places, queues, the running task, the clock, and the one way in which a task changes its place
 pub mod State
+-- the tree of held callers, and the priority that follows from it
+pub mod Tree
 -- when a state is sound, as a test
 pub mod Sound
 -- each call: results, refusals, the next state, the ended waits; the lent room

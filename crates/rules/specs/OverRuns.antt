@@ -8,7 +8,8 @@ use mathlib.Core.List.{List, [], _∷_}
 use lib.ListN.{length}
 use lib.Dec.{ltb, leb}
 use Rattle.lists.specs.Lists.{bit, count, every, last}
-use Rattle.rules.specs.State.{State, placeOf, queue, heldBy, running}
+use Rattle.rules.specs.State.{State, placeOf, queue, heldBy, running, currentOf}
+use Rattle.rules.specs.Tree.{highestOf, reachesTop}
 use Rattle.rules.specs.Step.{item, SERVED}
 use Rattle.rules.specs.Whole.{view, soundWhole}
 use Rattle.rules.specs.Runs.{Ask, Entry, start, afterStep, entryWhole, logWhole, reachWhole, isWaiting, begins, begun, reasons, ended, ticksIn, tickCount, duration, timeReason, engaged, completed, target}
@@ -104,6 +105,11 @@ TimedWaits x log y = (t : ℕ) → begins t x ≡ true → 0 < duration (x .call
 pub record OverRunsWhole : Type 0 where
   -- every state reached is sound
   pub always-sound : (n : ℕ) → n < 4294967296 → (run : List Ask) → soundWhole (reachWhole (start n) run) ≡ true
+  -- no ring of holders: from each task at most 30 moves, each to the holder, reach a task that nobody holds
+  pub no-ring : (n : ℕ) → n < 4294967296 → (run : List Ask) (t : ℕ) → reachesTop (view (reachWhole (start n) run)) 30 t ≡ true
+  -- a task's current priority is the highest created one among itself and everyone below it in the tree of held callers
+  pub current-highest : (n : ℕ) → n < 4294967296 → (run : List Ask) (t : ℕ)
+      → let s = view (reachWhole (start n) run) in currentOf s t ≡ highestOf s 30 t
   -- the waits begun equal the waits ended plus one if the task is waiting now
   pub waits-counted : (n : ℕ) → n < 4294967296 → (run : List Ask) → WaitsCounted (logWhole (start n) run) (view (reachWhole (start n) run))
   -- each ended wait ended once

@@ -10,6 +10,8 @@ use Rattle.rules.specs.declared.Supervisor.{Supervisor}
 use Rattle.rules.specs.declared.Count.{Count}
 use Rattle.rules.specs.declared.Callable.{Callable}
 use Rattle.rules.specs.declared.Running.{Running}
+use Rattle.rules.specs.declared.Priority.{Priority}
+use Rattle.rules.specs.Tree.{highestOf}
 
 -- ── of the state v that a struct stands for, where the struct is sound if so said: for either engine ──
 
@@ -25,6 +27,10 @@ callableBy isSound v t = if isSound then record { refusal = 0; yes = isTask v t 
 abbrev pub runningBy : Bool → State → Running
 runningBy isSound v = if isSound then record { refusal = 0; task = running v } else record { refusal = 2; task = 0 }
 
+-- the priority of task t, worked out afresh down the tree: the highest created one among itself and everyone below it, 0 for a number not created
+abbrev pub priorityBy : Bool → State → ℕ → Priority
+priorityBy isSound v t = if isSound then record { refusal = 0; priority = highestOf v 30 t } else record { refusal = 2; priority = 0 }
+
 -- ── of the first engine ──
 
 unfoldable pub countWhole : Supervisor → ℕ → ℕ → Count
@@ -35,3 +41,6 @@ callableWhole s t = callableBy (soundWhole s) (view s) t
 
 unfoldable pub runningWhole : Supervisor → Running
 runningWhole s = runningBy (soundWhole s) (view s)
+
+unfoldable pub priorityWhole : Supervisor → ℕ → Priority
+priorityWhole s t = priorityBy (soundWhole s) (view s) t

@@ -12,12 +12,13 @@ use Rattle.rules.specs.Sound.{sound}
 use Rattle.rules.specs.Step.{roomAfter}
 use Rattle.rules.specs.Callers.{withCallers, calling, callersOf}
 use Rattle.rules.specs.Whole.{viewCore, packCore, packedCore, StepOf, stepBy, answerOf}
-use Rattle.rules.specs.Questions.{countBy, callableBy, runningBy}
+use Rattle.rules.specs.Questions.{countBy, callableBy, runningBy, priorityBy}
 use Rattle.rules.specs.Runs.{start}
 use Rattle.rules.specs.Uses.{Use, Chain}
 use Rattle.rules.specs.declared.Answer.{Answer}
 use Rattle.rules.specs.declared.Callable.{Callable}
 use Rattle.rules.specs.declared.Count.{Count}
+use Rattle.rules.specs.declared.Priority.{Priority}
 use Rattle.rules.specs.declared.Row.{Row}
 use Rattle.rules.specs.declared.Running.{Running}
 use Rattle.rules.specs.declared.Second.{Second}
@@ -74,6 +75,9 @@ callableSecond x t = callableBy (soundSecond x) (viewSecond x) t
 
 unfoldable pub runningSecond : Second → Running
 runningSecond x = runningBy (soundSecond x) (viewSecond x)
+
+unfoldable pub prioritySecond : Second → ℕ → Priority
+prioritySecond x t = priorityBy (soundSecond x) (viewSecond x) t
 
 -- ── uses of the code's `step`, one after the other ──
 

@@ -6,6 +6,7 @@ use mathlib.Core.List.{_++_}
 use lib.Dec.{eqb, ltb, leb}
 use Rattle.lists.specs.Lists.{bit, count, every, inOrder, downFrom}
 use Rattle.rules.specs.State.{State, taskOf, placeOf, timerOf, created, isTask, hasEntry, isReady, isQueued, isHeld, isCompleted, partnerOf, accepts, hasTime, ticksLeft}
+use Rattle.rules.specs.Tree.{agrees, reachesTop}
 use Rattle.rules.specs.declared.Task.{Task}
 use Rattle.rules.specs.declared.Timer.{Timer}
 use Rattle.rules.specs.declared.Timer.the-variants.{Off, Due}
@@ -52,10 +53,18 @@ standsRight s t =
     && eqb (count t (s .held)) (bit (isHeld (placeOf s t)))
     && eqb (count t (s .delays)) (bit (hasTime (timerOf s t)))
 
+-- the stored priorities of t agree with the tree of held callers, and t is in no ring of holders
+abbrev pub treeRight : State → ℕ → Bool
+treeRight s t = agrees s t && reachesTop s 30 t
+
 -- at most 31 tasks, each standing right, no other number in any line, and the delay queue in order of ticks left
-unfoldable pub sound : State → Bool
-sound s =
+unfoldable pub standing : State → Bool
+standing s =
     leb (created s) 31
     && every (standsRight s) (downFrom (created s))
     && every (isTask s) (s .ready ++ s .callers ++ s .held ++ s .delays)
     && inOrder (λ a b. leb (ticksLeft (s .clock) (timerOf s a)) (ticksLeft (s .clock) (timerOf s b))) (s .delays)
+
+-- a state is sound: all stand right, and each task is right in the tree of held callers
+unfoldable pub sound : State → Bool
+sound s = standing s && every (treeRight s) (downFrom (created s))

@@ -12,6 +12,7 @@ use Rattle.lists.specs.Lists.{bit, count, inOrder}
 use Rattle.lists.specs.Line.{line}
 use Rattle.rules.specs.State.{State, blank, taskOf, placeOf, timerOf, priorityOf, currentOf, created, isReady, isQueued, isHeld, hasTime, opens, queue, heldBy, level, left, ticksLeft}
 use Rattle.rules.specs.Sound.{sound}
+use Rattle.rules.specs.Tree.{highestOf, keeps, reachesTop}
 use Rattle.rules.specs.Whole.{view, isBlank, soundWhole}
 use Rattle.rules.specs.declared.Timer.the-variants.{Due}
 use Rattle.rules.specs.declared.Waiting.{Waiting}
@@ -22,8 +23,8 @@ use Rattle.rules.specs.declared.Place.the-variants.{Blank, Ready, Delaye
 use Rattle.rules.specs.declared.Supervisor.{Supervisor}
 
 -- a priority is 1 to 15
-abbrev pub Priority : ℕ → Type 0
-Priority p = (1 ≤ p) × (p ≤ 15)
+abbrev pub InPriorities : ℕ → Type 0
+InPriorities p = (1 ≤ p) × (p ≤ 15)
 
 -- t is the number of a created task
 abbrev pub Created : State → ℕ → Type 0
@@ -56,7 +57,7 @@ pub record SoundFacts (s : State) : Type 0 where
   -- the tasks are 1..n, n at most 31
   pub at-most-31 : created s ≤ 31
   -- with priority and entry count in range
-  pub priorities : (t : ℕ) → Created s t → Priority (priorityOf s t)
+  pub priorities : (t : ℕ) → Created s t → InPriorities (priorityOf s t)
   pub entry-counts : (t : ℕ) → Created s t → taskOf s t .entries ≤ 8
   -- each created task is ready, delayed, queued on an entry, held in a rendezvous, waiting to accept, or completed
   pub one-of-six : (t : ℕ) → Created s t → isBlank (placeOf s t) ≡ false
@@ -67,8 +68,14 @@ pub record SoundFacts (s : State) : Type 0 where
   -- a ready one in the queue of its current priority
   pub own-level : (t p : ℕ) → count t (level s p) ≡ bit (isReady (placeOf s t) && eqb (currentOf s t) p)
   -- current and kept ones in 1..15
-  pub current : (t : ℕ) → Created s t → Priority (currentOf s t)
-  pub kept : (c : ℕ) (m : Meeting) → placeOf s c ≡ Held m → Priority (m .kept)
+  pub current : (t : ℕ) → Created s t → InPriorities (currentOf s t)
+  pub kept : (c : ℕ) (m : Meeting) → placeOf s c ≡ Held m → InPriorities (m .kept)
+  -- no ring: going from a task to its holder, and on, reaches a task that nobody holds after at most 30 moves
+  pub no-ring : (t : ℕ) → Created s t → reachesTop s 30 t ≡ true
+  -- a current priority is the highest created one among the task and everyone below it in the tree of held callers
+  pub current-agrees : (t : ℕ) → Created s t → currentOf s t ≡ highestOf s 30 t
+  -- and each caller keeps the highest of the created one of its holder and the current ones of those held before it
+  pub kept-agrees : (t : ℕ) → Created s t → keeps s (priorityOf s t) (heldBy s t) ≡ true
   -- a completed task holds nobody and has nobody queued
   pub holds-nobody : (t : ℕ) → placeOf s t ≡ Completed → heldBy s t ≡ []
   pub nobody-queued : (t e : ℕ) → placeOf s t ≡ Completed → queue s t e ≡ []

@@ -119,3 +119,9 @@ pub struct Running {
     pub refusal: u8,
     pub task: u8,
 }
+
+// What the question for a task's priority answers: a refusal (0 if none), and the priority, 0 for a number not created.
+pub struct Priority {
+    pub refusal: u8,
+    pub priority: u8,
+}

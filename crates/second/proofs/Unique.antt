@@ -7,6 +7,7 @@ use Rattle.second.proofs.step.Reads as step
 use Rattle.second.proofs.empty.Reads as empty
 use Rattle.second.proofs.sound.Reads as sound
 use Rattle.second.proofs.running.Reads as running
+use Rattle.second.proofs.priority.Reads as priority
 use Rattle.second.proofs.count.Reads as count
 use Rattle.second.proofs.callable.Reads as callable
 
@@ -21,6 +22,9 @@ sound-once κs x r r′ y y′ p q = p ∙ sym q
 
 pub running-once : Once running.Learnt
 running-once κs x r r′ y y′ p q = p ∙ sym q
+
+pub priority-once : Once priority.Learnt
+priority-once κs x r r′ y y′ p q = p ∙ sym q
 
 pub count-once : Once count.Learnt
 count-once κs x r r′ y y′ p q = p ∙ sym q

@@ -3,7 +3,7 @@ mod rows;
 
 ghost use lib.ListN.{length};
 ghost use mathlib.Core.Path.{_≡_};
-ghost use Rattle.rules.specs.Second.{startSecond, soundSecond, stepSecond, secondOf, countSecond, callableSecond, runningSecond};
+ghost use Rattle.rules.specs.Second.{startSecond, soundSecond, stepSecond, secondOf, countSecond, callableSecond, runningSecond, prioritySecond};
 ghost use Rattle.rules.specs.Step.{roomAfter};
 use calls::Call;
 use calls::numbers::SHORT_ROOM;
@@ -13,6 +13,7 @@ use rows::row_of;
 use rules::Callable;
 use rules::Core;
 use rules::Count;
+use rules::Priority;
 use rules::Row;
 use rules::Running;
 use rules::Second;
@@ -33,6 +34,7 @@ use table::queues::Test;
 use table::queues::picked;
 use table::tasks::blank_task;
 use table::tasks::task_of;
+use table::tree::highest_of;
 
 // One call. A refused one leaves the state and the room as they are; the items of ended waits are written one behind the other.
 pub fn step(x: Second, c: Call, room: &mut [u8]) -> SecondStepped
@@ -102,6 +104,23 @@ pub fn running(x: Second) -> Running
     Running {
         refusal: BAD_STATE,
         task: 0,
+    }
+}
+
+// The priority of task t, worked out afresh: the highest created one among itself and everyone below it in the tree of held callers.
+pub fn priority(x: Second, t: u8) -> Priority
+    ensures { λ r. ⌜ r ≡ prioritySecond x t ⌝ }
+{
+    if is_sound_second(x) {
+        let priority = highest_of(x.core, t);
+        return Priority {
+            refusal: 0,
+            priority,
+        };
+    }
+    Priority {
+        refusal: BAD_STATE,
+        priority: 0,
     }
 }
 

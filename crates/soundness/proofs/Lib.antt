@@ -2,6 +2,10 @@ mod MarkLaws
 mod TaskLaws
 mod Turns
 mod LineLaws
+mod TreeTurns
+mod TreePass
+mod TreeClimb
+mod TreeFound
 mod WholeLaws
 mod RowLaws
 pub mod Unique

@@ -54,7 +54,7 @@ eqb-suc k = by-eq k 0 (λ e. rw e) (λ e. rw (ne-eqb k 0 e, ne-eqb (1 + k) 1 (λ
 -- ── who is to be met ──
 
 -- of 1..n those that pass the test are to be met
-abbrev wanted : (ℕ → Bool) → ℕ → Marks
+abbrev pub wanted : (ℕ → Bool) → ℕ → Marks
 wanted f n = nextMark (marked f noMarks (downFrom n)) false
 
 -- the word of the tasks n, n - 1, .., 1 behind the marks m, of which there are j: task 1 is bit 0
@@ -72,7 +72,7 @@ has-marked f (suc n) j m t l h =
     (λ q. let z : t - n ≡ 0 = omega arith in rw (z, lt-ltb t (suc n) (omega arith)) (has-first m (f (suc n)) ∙ ap (λ (x : ℕ). f (suc x)) (sym q)))
     (λ q. let z : t - n ≡ suc (t - suc n) = omega arith in rw (z, le-ltb t (suc n) (omega arith)) (has-next m (f (suc n)) (t - suc n) (below j m l (omega arith))))))
 
-has-wanted : (f : ℕ → Bool) (n t : ℕ) → n ≤ 31 → hasMark (wanted f n) t ≡ (named n t && f t)
+pub has-wanted : (f : ℕ → Bool) (n t : ℕ) → n ≤ 31 → hasMark (wanted f n) t ≡ (named n t && f t)
 has-wanted f n zero h = has-first (marked f noMarks (downFrom n)) false
 has-wanted f n (suc t) h =
     has-next (marked f noMarks (downFrom n)) false t (marked-low f n 0 noMarks (omega arith) (omega arith))

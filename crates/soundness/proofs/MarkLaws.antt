@@ -2,7 +2,7 @@
 -- Assumes nothing.
 use Prim.Native.Nat.{ℕ, zero, suc, _+_, _*_, _^_, _/_, _%_, _≤_, _<_}
 use mathlib.Core.Path.{_≡_, refl, sym, ap, _∙_}
-use mathlib.Core.Bool.{Bool, true, false}
+use mathlib.Core.Bool.{Bool, true, false, not, _&&_, _||_}
 use native.Mathlib.Omega.{arith}
 use native.Mathlib.Nat.{zero-lt-suc, div-eq-of-lt, div-one, mul-mod-left, mul-div-mul-right, mul-add-mod-self-right, mod-eq-of-lt, pow-suc, zero-div, one-mul}
 use lib.Bits.{bitXor, differ, xor-shr, xor-step, xor-lt}
@@ -11,8 +11,8 @@ use native.Mathlib.Numerals.{one-add}
 use lib.Dec.{eqb, ltb, eqb·suc-suc}
 use borrow.Author.Tests.{lt-ltb, ltb-true, eqb-true, eqb-false, eq-eqb, ne-eqb}
 use Rattle.lists.specs.Lists.{if_then_else_, bit}
-use Rattle.lists.proofs.ListLaws.{by-bool, by-eq}
-use Rattle.soundness.specs.Marks.{Marks, Whole, noMarks, hasMark, nextMark, withoutMark, isNone}
+use Rattle.lists.proofs.ListLaws.{by-bool, by-eq, by-test}
+use Rattle.soundness.specs.Marks.{Marks, Whole, noMarks, hasMark, nextMark, withoutMark, putMark, isNone}
 
 -- ── bits ──
 
@@ -94,17 +94,51 @@ has-next m b t h =
     half true = omega arith
     half false = omega arith
 
-pub has-without : (m : Marks) (x t : ℕ) → Whole m → x < 32 → hasMark m x ≡ true → hasMark (withoutMark m x) t ≡ (if eqb t x then false else hasMark m t)
+-- the bit of x is changed, whichever way it stands
+has-changed : (m : Marks) (x t : ℕ) → x < 32 → hasMark (withoutMark m x) t ≡ (if eqb t x then not (hasMark m t) else hasMark m t)
 unfolding hasMark withoutMark
-has-without m x t h l z =
+has-changed m x t l =
     rw (lt-ltb x 32 l, xor-bit m (2 ^ x) t, pow-bit x t)
     (by-bool (eqb t x)
-    (λ e. let one : m / 2 ^ t % 2 ≡ 1 = rw (eqb-true t x e) (eqb-true (m / 2 ^ x % 2) 1 z) in rw (e, one))
+    (λ e. rw e (other (m / 2 ^ t % 2) (omega arith)))
     (λ e. rw (e, differ-none (m / 2 ^ t % 2))))
+  where
+    other : (a : ℕ) → a < 2 → eqb (differ a 1) 1 ≡ not (eqb a 1)
+    other zero h = refl
+    other (suc zero) h = refl
+    other (suc (suc a)) h = absurd (omega arith)
+
+pub has-without : (m : Marks) (x t : ℕ) → Whole m → x < 32 → hasMark m x ≡ true → hasMark (withoutMark m x) t ≡ (if eqb t x then false else hasMark m t)
+has-without m x t h l z =
+    has-changed m x t l ∙ by-bool (eqb t x) (λ e. rw e (ap (λ (y : ℕ). not (hasMark m y)) (eqb-true t x e) ∙ ap not z)) (λ e. rw e)
+
+pub put-whole : (m : Marks) (x : ℕ) (b : Bool) → Whole m → Whole (putMark m x b)
+unfolding putMark
+put-whole m x b h = by-test Whole ((hasMark m x && not b) || (b && not (hasMark m x))) (λ _. without-whole m x h) (λ _. h)
+
+pub has-put : (m : Marks) (x t : ℕ) (b : Bool) → x < 32 → hasMark (putMark m x b) t ≡ (if eqb t x then b else hasMark m t)
+unfolding putMark
+has-put m x t b l = go (hasMark m x) b refl
+  where
+    stays : (c : Bool) → hasMark m x ≡ c → hasMark m t ≡ (if eqb t x then c else hasMark m t)
+    stays c e = by-bool (eqb t x) (λ q. rw q (ap (hasMark m) (eqb-true t x q) ∙ e)) (λ q. rw q)
+
+    turns : (c : Bool) → not (hasMark m x) ≡ c → hasMark (withoutMark m x) t ≡ (if eqb t x then c else hasMark m t)
+    turns c e = has-changed m x t l ∙ by-bool (eqb t x) (λ q. rw q (ap (λ (y : ℕ). not (hasMark m y)) (eqb-true t x q) ∙ e)) (λ q. rw q)
+
+    go : (there here : Bool) → hasMark m x ≡ there → hasMark (if (hasMark m x && not here) || (here && not (hasMark m x)) then withoutMark m x else m) t ≡ (if eqb t x then here else hasMark m t)
+    go true true e = rw e (stays true e)
+    go true false e = rw e (turns false (ap not e))
+    go false true e = rw e (turns true (ap not e))
+    go false false e = rw e (stays false e)
 
 pub none-has : (m : Marks) (t : ℕ) → isNone m ≡ true → hasMark m t ≡ false
 unfolding isNone
 none-has m t e = rw (eqb-true m 0 e) (has-none t)
+
+pub next-none : (m : Marks) → isNone m ≡ true → isNone (nextMark m false) ≡ true
+unfolding isNone nextMark
+next-none m e = rw (eqb-true m 0 e)
 
 pub has-all : (m : Marks) → Whole m → ((t : ℕ) → hasMark m t ≡ false) → isNone m ≡ true
 unfolding hasMark isNone
@@ -124,6 +158,15 @@ has-high m t h l = rw (div-eq-of-lt (high l))
     high l = by-eq t 32 (λ e. rw e (omega arith)) (λ e. let p = pow-lt {i = 32} {j = t} (omega arith) in omega arith)
 
 -- ── the machine's forms ──
+
+-- the bit of t has to change, and has not to
+pub put-changed : (m : Marks) (t : ℕ) (here there : Bool) → there ≡ hasMark m t → ((there && not here) || (here && not there)) ≡ true → withoutMark m t ≡ putMark m t here
+unfolding putMark
+put-changed m t here there e q = rw (← e, q)
+
+pub put-same : (m : Marks) (t : ℕ) (here there : Bool) → there ≡ hasMark m t → ((there && not here) || (here && not there)) ≡ false → m ≡ putMark m t here
+unfolding putMark
+put-same m t here there e q = rw (← e, q)
 
 pub shifted : (t : ℕ) → t < 32 → (1 * 2 ^ t) % 4294967296 ≡ 2 ^ t
 shifted t h = shl-exact {a = 1} 1 t 32 (omega arith) (omega arith) ∙ one-mul (2 ^ t)

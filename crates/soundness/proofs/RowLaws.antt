@@ -165,9 +165,9 @@ rows-to s T (r ∷ rs) g p h l k =
     λ i. (tidy (r .line) && every-same-all (to T g) (calling (viewCore s) g) (line (r .line)) (λ x. to-calling s T g x p h l k) i) && rows-to s T rs (suc g) (omega arith) h l k i
 
 -- what the code finds, of the core and of the rows
-pub second-is : (x : Second) (c : Checked) (T : List ℕ) (b : Bool) → length (x .core .tasks) ≡ 31 → length T ≡ 32 → c ≡ checkedOf (x .core) → Targets (x .core) T → b ≡ metAll T 1 true (nextMark (c .callers) false) (x .rows)
+pub second-is : (x : Second) (c : Checked) (T : List ℕ) (b : Bool) → x .core .clock < 4294967296 → length (x .core .tasks) ≡ 31 → length T ≡ 32 → c ≡ checkedOf (x .core) → Targets (x .core) T → b ≡ metAll T 1 true (nextMark (c .callers) false) (x .rows)
     → (c .good && b) ≡ soundSecond x
-second-is x c T b l n ec et eb =
+second-is x c T b clock l n ec et eb =
     let s = x .core in
     by-bool (leb (s .created) 31)
     (λ p.
@@ -180,5 +180,5 @@ second-is x c T b l n ec et eb =
     ∙ rows-step T 1 true (nextMark (markedIn s Callers) false) (x .rows)
     ∙ (λ i. rows-to s T (x .rows) 1 (omega arith) h n et i && emptied-wanted (s .created) f q h i)
     ∙ sym (and-assoc (rowsRight (viewCore s) 1 (x .rows)) (every (named (s .created)) q) (every (λ t. eqb (count t q) (bit (f t))) (downFrom (s .created)))) in
-    (λ i. ec i .good && e i) ∙ core-is s q (rowsRight (viewCore s) 1 (x .rows)) l)
+    (λ i. ec i .good && e i) ∙ core-is s q (rowsRight (viewCore s) 1 (x .rows)) clock l)
     (λ p. ap (λ (z : Checked). z .good && b) ec ∙ rw p)

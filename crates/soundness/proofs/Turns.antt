@@ -5,7 +5,7 @@ use mathlib.Core.Path.{_≡_, refl, sym, ap, _∙_}
 use mathlib.Core.Bool.{Bool, _&&_, and-true, and-assoc}
 use mathlib.Core.List.{List, [], _∷_}
 use native.Mathlib.Omega.{arith}
-use native.Mathlib.Numerals.{add-one, unary-clauses}
+use native.Mathlib.Numerals.{add-one}
 use lib.Dec.{eqb, leb}
 use lib.Bits.{bitOr, or-zero-l, or-add-and, and-le-r}
 use lib.ListN.{length, getD, drop, drop-of-length-le}
@@ -13,17 +13,9 @@ use lib.Seq.{drop-cons}
 use borrow.Author.Tests.{ne-eqb}
 use Rattle.lists.specs.Line.{blanks}
 use Rattle.lists.specs.Lists.{downFrom}
+use Rattle.lists.proofs.ListLaws.{down-on}
 use Rattle.soundness.specs.Marks.{Marks, hasMark, nextMark, withoutMark, isNone}
 use Rattle.soundness.specs.Check.{marked, walked}
-
--- task t, and those below it
-pub down-on : (t : ℕ) → 0 < t → downFrom t ≡ t ∷ downFrom (t - 1)
-down-on zero h = absurd (omega arith)
-down-on (suc t) h = simp unary-clauses
-
-pub down-end : (t : ℕ) → t ≤ 0 → downFrom t ≡ []
-down-end zero h = refl
-down-end (suc t) h = absurd (omega arith)
 
 -- the word with task t below, if it passes the test, goes on with those below it
 pub mark-on : (f : ℕ → Bool) (m n t : ℕ) (b : Bool) → 0 < t → b ≡ f t → n ≡ nextMark m b → marked f m (downFrom t) ≡ marked f n (downFrom (t - 1))

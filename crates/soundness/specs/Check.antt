@@ -1,9 +1,9 @@
 -- What the parts of the soundness check answer.
 -- Assumes nothing.
 use Prim.Native.Nat.{ℕ, zero, suc}
-use mathlib.Core.Bool.{Bool, false, _&&_}
+use mathlib.Core.Bool.{Bool, false, not, _&&_}
 use mathlib.Core.List.{List, [], _∷_}
-use lib.Dec.{leb}
+use lib.Dec.{eqb, leb}
 use lib.ListN.{drop}
 use Rattle.lists.specs.Line.{blanks}
 use Rattle.lists.specs.Lists.{if_then_else_, every, downFrom}
@@ -16,6 +16,7 @@ use Rattle.rules.specs.declared.Core.{Core}
 use Rattle.rules.specs.declared.Task.{Task}
 use Rattle.soundness.specs.declared.Told.{Told}
 use Rattle.soundness.specs.Marks.{Marks, noMarks, hasMark, nextMark, withoutMark, isNone}
+use Rattle.soundness.specs.TreeCheck.{treeFound}
 
 -- task t is good, beside the task that it has called
 abbrev pub goodIn : State → ℕ → Bool
@@ -46,9 +47,23 @@ marked f m (t ∷ ts) = marked f (nextMark m (f t)) ts
 abbrev pub markedIn : Core → Line → Marks
 markedIn s l = marked (λ t. belongs l (taskOf (viewCore s) t)) noMarks (downFrom (s .created))
 
+-- a task whose current priority is another than the one with which it was created
+abbrev pub isChanged : Task → Bool
+isChanged x = not (eqb (x .current) (x .priority))
+
+abbrev pub changedIn : Core → Marks
+changedIn s = marked (λ t. isChanged (taskOf (viewCore s) t)) noMarks (downFrom (s .created))
+
 -- what the pass over the table tells
 abbrev pub toldOf : Core → Told
-toldOf s = record { good = every (goodIn (viewCore s)) (downFrom (s .created)); ready = markedIn s Ready; callers = markedIn s Callers; held = markedIn s Held; delays = markedIn s Delays }
+toldOf s = record {
+  good = every (goodIn (viewCore s)) (downFrom (s .created));
+  ready = markedIn s Ready;
+  callers = markedIn s Callers;
+  held = markedIn s Held;
+  delays = markedIn s Delays;
+  changed = changedIn s;
+}
 
 -- ── the walk over a line ──
 
@@ -69,11 +84,13 @@ anyOrder x = 0
 
 -- ── the core ──
 
+-- all stand right but for the callers, where at most 31 tasks are created
+abbrev pub standsIn : Core → Bool
+standsIn s =
+    ((every unused (drop (s .created) (s .tasks)) && toldOf s .good) && (holdsIn anyOrder (toldOf s .ready) (s .ready) && holdsIn anyOrder (toldOf s .held) (s .held))) && holdsIn (leftOf s) (toldOf s .delays) (s .delays)
+
 -- what the check of a core tells: whether it is sound but for the callers, and who belongs into their queues
 abbrev pub checkedOf : Core → Checked
 checkedOf s =
-    if leb (s .created) 31 then record {
-      good = ((every unused (drop (s .created) (s .tasks)) && toldOf s .good) && (holdsIn anyOrder (toldOf s .ready) (s .ready) && holdsIn anyOrder (toldOf s .held) (s .held))) && holdsIn (leftOf s) (toldOf s .delays) (s .delays);
-      callers = toldOf s .callers;
-    }
+    if leb (s .created) 31 then record { good = standsIn s && treeFound s (toldOf s .held) (toldOf s .changed); callers = toldOf s .callers }
     else record { good = false; callers = 0 }

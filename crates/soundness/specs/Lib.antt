@@ -1,3 +1,4 @@
 pub mod Marks
+pub mod TreeCheck
 pub mod Check
 pub mod Rows

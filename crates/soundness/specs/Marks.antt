@@ -1,7 +1,7 @@
 -- The word of the check: bit t says that task t is still to be met in a line.
 -- Assumes nothing.
 use Prim.Native.Nat.{ℕ, _+_, _*_, _^_, _/_, _%_, _<_}
-use mathlib.Core.Bool.{Bool}
+use mathlib.Core.Bool.{Bool, not, _&&_, _||_}
 use lib.Bits.{bitXor}
 use lib.Dec.{eqb, ltb}
 use Rattle.lists.specs.Lists.{if_then_else_, bit}
@@ -29,6 +29,10 @@ nextMark m here = m % 2147483648 * 2 + bit here
 -- t, which was to be met, is no longer; the others as before
 unfoldable pub withoutMark : Marks → ℕ → Marks
 withoutMark m t = if ltb t 32 then bitXor m (2 ^ t) else m
+
+-- t is marked exactly if so said; the others as before
+unfoldable pub putMark : Marks → ℕ → Bool → Marks
+putMark m t here = if (hasMark m t && not here) || (here && not (hasMark m t)) then withoutMark m t else m
 
 -- no task is still to be met
 unfoldable pub isNone : Marks → Bool

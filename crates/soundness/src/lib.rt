@@ -26,6 +26,7 @@ mod marks;
 mod rows;
 mod stand;
 mod task;
+mod tree;
 
 // All places behind the created tasks are blank.
 fn all_unused(s: Core) -> bool
@@ -42,14 +43,15 @@ fn all_unused(s: Core) -> bool
     true
 }
 
-// What is told of the created tasks: whether each is good, beside the task that it has called, and for each line which of them belong
-// into it.
+// What is told of the created tasks: whether each is good, beside the task that it has called; for each line which of them belong into
+// it; and which have another current priority than the one with which they were created.
 struct Told {
     good: bool,
     ready: u32,
     callers: u32,
     held: u32,
     delays: u32,
+    changed: u32,
 }
 
 // One pass over the created tasks, from the last to the first.
@@ -62,6 +64,7 @@ fn told_of(s: Core) -> Told
     let mut callers: u32 = 0;
     let mut held: u32 = 0;
     let mut delays: u32 = 0;
+    let mut changed: u32 = 0;
     let mut t = s.created;
     while t > 0 {
         let i = (t - 1) as usize;
@@ -79,6 +82,7 @@ fn told_of(s: Core) -> Told
         callers = marks::next(callers, is_queued(p));
         held = marks::next(held, is_held(p));
         delays = marks::next(delays, has_time(w));
+        changed = marks::next(changed, x.current != x.priority);
         t -= 1;
     }
     Told {
@@ -87,14 +91,17 @@ fn told_of(s: Core) -> Told
         callers,
         held,
         delays,
+        changed,
     }
 }
 
-// Whether two of the lines hold those who belong into them.
+// Whether two of the lines hold those who belong into them. The lines are taken out of the state: looked up in it, they would copy it whole.
 fn lines_hold(s: Core, told: Told) -> bool
     ensures { λ r. ⌜ r ≡ (holdsIn anyOrder (told .ready) (s .ready) && holdsIn anyOrder (told .held) (s .held)) ⌝ }
 {
-    stand::holds(&s.ready, told.ready) & stand::holds(&s.held, told.held)
+    let ready = s.ready;
+    let held = s.held;
+    stand::holds(&ready, told.ready) & stand::holds(&held, told.held)
 }
 
 // Whether a core is sound but for the callers, and who belongs into their queues: task 1 is bit 0.
@@ -114,7 +121,11 @@ fn core_check(s: Core) -> Checked
         };
     }
     let told = told_of(s);
-    let good = all_unused(s) & told.good & lines_hold(s, told) & stand::delays_hold(s, told.delays);
+    let stands = all_unused(s)
+        & told.good
+        & lines_hold(s, told)
+        & stand::delays_hold(s, told.delays);
+    let good = stands & tree::is_tree(s, told.held, told.changed);
     Checked {
         good,
         callers: told.callers,

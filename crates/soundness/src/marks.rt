@@ -1,6 +1,6 @@
 // One 32-bit word: bit t says that task t is still to be met in a line. Bit 0 is no task's.
 ghost use mathlib.Core.Path.{_≡_};
-ghost use Rattle.soundness.specs.Marks.{hasMark, isNone, nextMark, withoutMark};
+ghost use Rattle.soundness.specs.Marks.{hasMark, isNone, nextMark, putMark, withoutMark};
 
 // Whether task t is still to be met.
 pub fn has(word: u32, t: u8) -> bool
@@ -21,6 +21,18 @@ pub fn without(word: u32, t: u8) -> u32
     ensures { λ r. ⌜ r ≡ withoutMark word t ⌝ }
 {
     if t < 32 { word ^ (1u32 << t) } else { word }
+}
+
+// The word where task t is marked exactly if it is so said. `without` changes its bit, whichever way it stands.
+pub fn put(word: u32, t: u8, here: bool) -> u32
+    ensures { λ r. ⌜ r ≡ putMark word t here ⌝ }
+{
+    let there = has(word, t);
+    if (there & !here) | (here & !there) {
+        without(word, t)
+    } else {
+        word
+    }
 }
 
 // Whether none is still to be met.

@@ -197,6 +197,7 @@ library = record {
   card-tells-count = λ κs x r y p. (p .0, p .1);
   card-tells-callable = λ κs x r y p. (p .0, p .1);
   card-tells-running = λ κs x r y p. (p .0, p .1);
+  card-tells-priority = λ κs x r y p. (p .0, p .1);
   card-run = runs;
   card-returns = returns;
   card-idles = idles;

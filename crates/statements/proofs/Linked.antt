@@ -7,6 +7,7 @@ use Rattle.card.proofs.card_step.Met as card-step
 use Rattle.card.proofs.card_count.Met as card-count
 use Rattle.card.proofs.card_callable.Met as card-callable
 use Rattle.card.proofs.card_running.Met as card-running
+use Rattle.card.proofs.card_priority.Met as card-priority
 use Rattle.card.proofs.contacts.debounce_fresh.Met as debounce-fresh
 use Rattle.card.proofs.contacts.debounce_tick.Met as debounce-tick
 use Rattle.workspace.proofs.fresh.Met as fresh
@@ -30,6 +31,7 @@ linked = record {
   card-count = card-count.met;
   card-callable = card-callable.met;
   card-running = card-running.met;
+  card-priority = card-priority.met;
   debounce-fresh = debounce-fresh.met;
   debounce-tick = debounce-tick.met;
   fresh = fresh.met;
@@ -49,6 +51,7 @@ linked = record {
   card-count-asks = λ κs x. tt;
   card-callable-asks = λ κs x. tt;
   card-running-asks = λ κs x. tt;
+  card-priority-asks = λ κs x. tt;
   debounce-fresh-asks = λ κs x. tt;
   debounce-tick-asks = λ κs x. tt;
   lent-asks = λ 𝓤 H A mem run. record { fresh = λ κs x. refl; request = λ κs x. refl; release = λ κs x. refl };

@@ -19,12 +19,13 @@ use Rattle.rules.specs.declared.SecondStepped.{SecondStepped}
 use Rattle.rules.specs.declared.Stepped.{Stepped}
 use Rattle.rules.specs.declared.Supervisor.{Supervisor}
 use Rattle.calls.specs.declared.Call as C
-use Rattle.rules.proofs.Twins.{Twins, SameStep, same-step, second-sound, same-count, same-callable, same-runs, starts}
+use Rattle.rules.proofs.Twins.{Twins, SameStep, same-step, second-sound, same-count, same-callable, same-runs, same-priority, starts}
 use Rattle.second.proofs.TopLaws.{step-short, step-unsound, step-sound}
 use Rattle.second.proofs.empty.Met as empty
 use Rattle.second.proofs.step.Met as step
 use Rattle.second.proofs.sound.Met as sound
 use Rattle.second.proofs.running.Met as running
+use Rattle.second.proofs.priority.Met as priority
 use Rattle.second.proofs.count.Met as count
 use Rattle.second.proofs.callable.Met as callable
 use Rattle.statements.specs.Statement3.{reached}
@@ -111,23 +112,27 @@ second-engine = record {
   step = step.met;
   sound = sound.met;
   running = running.met;
+  priority = priority.met;
   count = count.met;
   callable = callable.met;
   empty-asks = λ κs x. tt;
   step-asks = λ κs x. tt;
   sound-asks = λ κs x. tt;
   running-asks = λ κs x. tt;
+  priority-asks = λ κs x. tt;
   count-asks = λ κs x. tt;
   callable-asks = λ κs x. tt;
   starts = λ κs x r y p. p;
   steps = λ κs x r y p. record { answer = p .0; room = p .1 };
   tells-sound = λ κs x r y p. p;
   tells-running = λ κs x r y p. p;
+  tells-priority = λ κs x r y p. p;
   tells-count = λ κs x r y p. p;
   tells-callable = λ κs x r y p. p;
   answers-alike = λ n run. alike-run n run .replies;
   sound-after = λ n run. second-sound _ _ (ends n run);
   running-alike = λ n run. same-runs _ _ (ends n run);
+  priority-alike = λ n run. same-priority _ _ (ends n run);
   count-alike = λ n run. same-count _ _ (ends n run);
   callable-alike = λ n run. same-callable _ _ (ends n run);
   bad-state = bad-state;

@@ -20,7 +20,7 @@ use Rattle.rules.proofs.Dispatch.{untouched, refused-next, has-room}
 use Rattle.rules.proofs.Ends.{few-ends}
 use Rattle.rules.proofs.EveryStruct.{by-struct}
 use Rattle.rules.proofs.WholeLaws.{step-whole}
-use Rattle.rules.specs.Questions.{countWhole, callableWhole, runningWhole}
+use Rattle.rules.specs.Questions.{countWhole, callableWhole, runningWhole, priorityWhole}
 use Rattle.rules.specs.declared.Supervisor.{Supervisor}
 use Rattle.calls.specs.Record.{encode}
 use Rattle.calls.specs.Reading.{readOf, refusalOf, countOf}
@@ -30,11 +30,12 @@ use Rattle.calls.specs.declared.Read as R
 use Rattle.calls.specs.declared.Read.the-variants.{Record, BadRecord, EndOfLog}
 use Rattle.calls.proofs.Exactly.{bad-record-exactly, end-of-log-exactly}
 use Rattle.calls.proofs.Unique.{read-asks, write-asks}
-use Rattle.supervisor.proofs.Unique.{empty-asks, sound-asks, running-asks, step-asks, count-asks, callable-asks}
+use Rattle.supervisor.proofs.Unique.{empty-asks, sound-asks, running-asks, priority-asks, step-asks, count-asks, callable-asks}
 use Rattle.calls.proofs.read_record.Met as read-record
 use Rattle.calls.proofs.write_record.Met as write-record
 use Rattle.supervisor.proofs.empty.Met as empty
 use Rattle.supervisor.proofs.running.Met as running
+use Rattle.supervisor.proofs.priority.Met as priority
 use Rattle.supervisor.proofs.step.Met as step
 use Rattle.supervisor.proofs.count.Met as count
 use Rattle.supervisor.proofs.callable.Met as callable
@@ -61,6 +62,10 @@ running-refused : (s : Supervisor) → (runningWhole s .refusal ≡ 2) ↔ (soun
 unfolding runningWhole
 running-refused s = by-bool (soundWhole s) (λ b. rw b (question true)) (λ b. rw b (question false))
 
+priority-refused : (s : Supervisor) (t : ℕ) → (priorityWhole s t .refusal ≡ 2) ↔ (soundWhole s ≡ false)
+unfolding priorityWhole
+priority-refused s t = by-bool (soundWhole s) (λ b. rw b (question true)) (λ b. rw b (question false))
+
 count-zero : (s : Supervisor) (t e : ℕ) → soundWhole s ≡ false → countWhole s t e .count ≡ 0
 unfolding countWhole
 count-zero s t e b = rw b
@@ -72,6 +77,10 @@ callable-no s t b = rw b
 running-zero : (s : Supervisor) → soundWhole s ≡ false → runningWhole s .task ≡ 0
 unfolding runningWhole
 running-zero s b = rw b
+
+priority-zero : (s : Supervisor) (t : ℕ) → soundWhole s ≡ false → priorityWhole s t .priority ≡ 0
+unfolding priorityWhole
+priority-zero s t b = rw b
 
 -- the rules' step of a use, and what the use gave of it
 abbrev ruled : Supervisor → Use → Whole
@@ -115,7 +124,7 @@ room-enough s ty u k =
     let few : length (ruled s u .ended) ≤ 31 =
     by-struct (λ (x : Supervisor). length (ruled x u .ended) ≤ 31) s (length (u .lent)) ty
     (λ r q. rw (q (u .call)) (omega arith))
-    (λ v h e. rw (step-whole v (u .call) (length (u .lent)) h) (few-ends v a h)) in
+    (λ v h g e. rw (step-whole v (u .call) (length (u .lent)) h) (few-ends v a h)) in
     omega (arith, few, ap (λ (g : Stepped). g .answer .ended) (k .answer))
 
 takes-nothing : (s : List ℕ) → 0 < refusalOf (readOf s) → countOf (readOf s) ≡ 0
@@ -142,6 +151,7 @@ statement1 = record {
   empty = empty.met;
   sound = sound.met;
   running = running.met;
+  priority = priority.met;
   step = step.met;
   count = count.met;
   callable = callable.met;
@@ -150,6 +160,7 @@ statement1 = record {
   empty-asks = empty-asks;
   sound-asks = sound-asks;
   running-asks = running-asks;
+  priority-asks = priority-asks;
   step-asks = step-asks;
   count-asks = count-asks;
   callable-asks = callable-asks;
@@ -158,9 +169,11 @@ statement1 = record {
   count-refused = count-refused;
   callable-refused = callable-refused;
   running-refused = running-refused;
+  priority-refused = priority-refused;
   count-zero = count-zero;
   callable-no = callable-no;
   running-zero = running-zero;
+  priority-zero = priority-zero;
   use-untouched = use-untouched;
   refused-next = next-refused;
   short-next = short-next;

@@ -7,6 +7,8 @@ use Rattle.rules.specs.Whole.{view, soundWhole}
 use Rattle.rules.specs.Runs.{Ask, Entry, start, afterStep, entryWhole, logWhole, reachWhole}
 use Rattle.rules.specs.OverRuns.{WaitsCounted, EndsOnce, WereWaiting, SixReasons, FewEnds, LeavesAll, HeldTillEnd, TimedWaits}
 use Rattle.rules.specs.Orders.{OfThree, TimesInOrder, LongestFirst, LastFirst}
+use Rattle.rules.specs.State.{currentOf}
+use Rattle.rules.specs.Tree.{highestOf, reachesTop}
 use Rattle.rules.specs.Uses.{Use, Keeps, Chain, asked, readEntry, readLog}
 use Rattle.rules.specs.declared.Stepped.{Stepped}
 use Rattle.rules.specs.declared.Supervisor.{Supervisor}
@@ -61,6 +63,9 @@ statement3 = record {
   starts = λ κs x r y p. p;
   always-sound = λ n run. ap soundWhole (at-end n run) ∙ over-runs-whole .always-sound n (run .clock) (asks n run);
   soundness-said = soundness-said;
+  no-ring = λ n run t. ap (λ (s : Supervisor). reachesTop (view s) 30 t) (at-end n run) ∙ over-runs-whole .no-ring n (run .clock) (asks n run) t;
+  current-highest = λ n run t.
+      subst (λ (s : Supervisor). currentOf (view s) t ≡ highestOf (view s) 30 t) (sym (at-end n run)) (over-runs-whole .current-highest n (run .clock) (asks n run) t);
   waits-counted = λ n run.
       of-log n run (λ (l : List Entry). WaitsCounted l (view (stateOf run)))
       (subst (λ (s : Supervisor). WaitsCounted (logWhole (start n) (asks n run)) (view s)) (sym (at-end n run)) (over-runs-whole .waits-counted n (run .clock) (asks n run)));

@@ -13,7 +13,7 @@ use Rattle.calls.specs.declared.Read.{Read}
 use Rattle.calls.specs.declared.Read.the-variants.{Record, BadRecord, EndOfLog}
 use Rattle.rules.specs.Step.{roomAfter}
 use Rattle.rules.specs.Whole.{Whole, soundWhole, answerOf}
-use Rattle.rules.specs.Questions.{countWhole, callableWhole, runningWhole}
+use Rattle.rules.specs.Questions.{countWhole, callableWhole, runningWhole, priorityWhole}
 use Rattle.rules.specs.Runs.{start}
 use Rattle.rules.specs.Uses.{Use}
 use Rattle.rules.specs.declared.Answer.{Answer}
@@ -25,6 +25,7 @@ use Rattle.card.proofs.card_step.Reads as card-step
 use Rattle.card.proofs.card_count.Reads as card-count
 use Rattle.card.proofs.card_callable.Reads as card-callable
 use Rattle.card.proofs.card_running.Reads as card-running
+use Rattle.card.proofs.card_priority.Reads as card-priority
 use Rattle.statements.specs.Statement3.{Run, stateOf}
 
 -- one use of `card_step`: the bytes of the record, of the room and of the answer, as they were lent; the number returned; and the bytes of
@@ -115,6 +116,9 @@ pub record Library : Type 1 where
   pub card-tells-running : (κs : _) (x : _) (r : _) (y : _) → card-running.Learnt κs x r y
       → (r ≡ ifRoom 1 (now (x .1 .0)) 1 (runningWhole (stateIn (now (x .0))) .refusal))
       × (now (y .1 .0) ≡ oneAfter (now (x .1 .0)) (runningWhole (stateIn (now (x .0))) .task))
+  pub card-tells-priority : (κs : _) (x : _) (r : _) (y : _) → card-priority.Learnt κs x r y
+      → (r ≡ ifRoom 1 (now (x .1 .1 .0)) 1 (priorityWhole (stateIn (now (x .0))) (x .1 .0) .refusal))
+      × (now (y .1 .1 .0) ≡ oneAfter (now (x .1 .1 .0)) (priorityWhole (stateIn (now (x .0))) (x .1 .0) .priority))
   -- any sequence of uses, refused ones and records that cannot be read included
   pub card-run : (n : ℕ) → n < 4294967296 → (b : List ℕ) → stateSize ≤ length b → (us : List CardUse) → CardChain (stored (start n) b) us → RunsCard n b us
   -- the number returned is the refusal of the answer

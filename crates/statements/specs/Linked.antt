@@ -15,6 +15,7 @@ use Rattle.card.proofs.card_step.Statement as card-step
 use Rattle.card.proofs.card_count.Statement as card-count
 use Rattle.card.proofs.card_callable.Statement as card-callable
 use Rattle.card.proofs.card_running.Statement as card-running
+use Rattle.card.proofs.card_priority.Statement as card-priority
 use Rattle.card.proofs.contacts.debounce_fresh.Statement as debounce-fresh
 use Rattle.card.proofs.contacts.debounce_tick.Statement as debounce-tick
 use Rattle.card.proofs.card_empty.Reads as of-card-empty
@@ -23,6 +24,7 @@ use Rattle.card.proofs.card_step.Reads as of-card-step
 use Rattle.card.proofs.card_count.Reads as of-card-count
 use Rattle.card.proofs.card_callable.Reads as of-card-callable
 use Rattle.card.proofs.card_running.Reads as of-card-running
+use Rattle.card.proofs.card_priority.Reads as of-card-priority
 use Rattle.card.proofs.contacts.debounce_fresh.Reads as of-debounce-fresh
 use Rattle.card.proofs.contacts.debounce_tick.Reads as of-debounce-tick
 use Rattle.workspace.proofs.fresh as fresh-contract
@@ -63,6 +65,7 @@ pub record Linked : Type 2 where
   pub card-count : {M : Type 1} → card-count.statement M
   pub card-callable : {M : Type 1} → card-callable.statement M
   pub card-running : {M : Type 1} → card-running.statement M
+  pub card-priority : {M : Type 1} → card-priority.statement M
   pub debounce-fresh : {M : Type 1} → debounce-fresh.statement M
   pub debounce-tick : {M : Type 1} → debounce-tick.statement M
   pub fresh : {M : Type 1} → fresh.statement M
@@ -83,6 +86,7 @@ pub record Linked : Type 2 where
   pub card-count-asks : AsksNothing of-card-count.Asked
   pub card-callable-asks : AsksNothing of-card-callable.Asked
   pub card-running-asks : AsksNothing of-card-running.Asked
+  pub card-priority-asks : AsksNothing of-card-priority.Asked
   pub debounce-fresh-asks : AsksNothing of-debounce-fresh.Asked
   pub debounce-tick-asks : AsksNothing of-debounce-tick.Asked
   pub lent-asks : {M : Type 1} (𝓤 : URA M) (H : Heap 𝓤) (A : Atoms 𝓤) (mem : Memory → SProp 𝓤) (run : Routine → Fun 𝓤) → LentAsks 𝓤 H A mem run

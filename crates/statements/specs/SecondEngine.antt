@@ -9,9 +9,9 @@ use mathlib.Core.Bool.{true, false}
 use mathlib.Core.List.{List, [], map}
 use denote.Ref.{now}
 use Rattle.lists.specs.Once.{AsksNothing}
-use Rattle.rules.specs.Questions.{countWhole, callableWhole, runningWhole}
+use Rattle.rules.specs.Questions.{countWhole, callableWhole, runningWhole, priorityWhole}
 use Rattle.rules.specs.Runs.{start}
-use Rattle.rules.specs.Second.{viewSecond, packSecond, soundSecond, stepSecond, startSecond, countSecond, callableSecond, runningSecond, SecondKeeps, secondReached, BothRun, repliedOf, secondReplied}
+use Rattle.rules.specs.Second.{viewSecond, packSecond, soundSecond, stepSecond, startSecond, countSecond, callableSecond, runningSecond, prioritySecond, SecondKeeps, secondReached, BothRun, repliedOf, secondReplied}
 use Rattle.rules.specs.Step.{takeCall, roomAfter}
 use Rattle.rules.specs.Whole.{doneBy}
 use Rattle.rules.specs.declared.Second.{Second}
@@ -20,12 +20,14 @@ use Rattle.second.proofs.empty.Reads as of-empty
 use Rattle.second.proofs.step.Reads as of-step
 use Rattle.second.proofs.sound.Reads as of-sound
 use Rattle.second.proofs.running.Reads as of-running
+use Rattle.second.proofs.priority.Reads as of-priority
 use Rattle.second.proofs.count.Reads as of-count
 use Rattle.second.proofs.callable.Reads as of-callable
 use Rattle.second.proofs.empty.Statement as empty
 use Rattle.second.proofs.step.Statement as step
 use Rattle.second.proofs.sound.Statement as sound
 use Rattle.second.proofs.running.Statement as running
+use Rattle.second.proofs.priority.Statement as priority
 use Rattle.second.proofs.count.Statement as count
 use Rattle.second.proofs.callable.Statement as callable
 use Rattle.statements.specs.Statement3.{reached}
@@ -36,6 +38,7 @@ pub record SecondEngine : Type 2 where
   pub step : {M : Type 1} → step.statement M
   pub sound : {M : Type 1} → sound.statement M
   pub running : {M : Type 1} → running.statement M
+  pub priority : {M : Type 1} → priority.statement M
   pub count : {M : Type 1} → count.statement M
   pub callable : {M : Type 1} → callable.statement M
   -- and their contracts ask nothing of who calls
@@ -43,6 +46,7 @@ pub record SecondEngine : Type 2 where
   pub step-asks : AsksNothing of-step.Asked
   pub sound-asks : AsksNothing of-sound.Asked
   pub running-asks : AsksNothing of-running.Asked
+  pub priority-asks : AsksNothing of-priority.Asked
   pub count-asks : AsksNothing of-count.Asked
   pub callable-asks : AsksNothing of-callable.Asked
   -- whatever the contract of `empty` allows is the start of a run with that clock; whatever that of `step` allows, in a state x .0 with the call
@@ -53,6 +57,7 @@ pub record SecondEngine : Type 2 where
   -- the same of the questions
   pub tells-sound : (κs : _) (x : _) (r : _) (y : _) → of-sound.Learnt κs x r y → r ≡ soundSecond (x .0)
   pub tells-running : (κs : _) (x : _) (r : _) (y : _) → of-running.Learnt κs x r y → r ≡ runningSecond (x .0)
+  pub tells-priority : (κs : _) (x : _) (r : _) (y : _) → of-priority.Learnt κs x r y → r ≡ prioritySecond (x .0) (x .1 .0)
   pub tells-count : (κs : _) (x : _) (r : _) (y : _) → of-count.Learnt κs x r y → r ≡ countSecond (x .0) (x .1 .0) (x .1 .1 .0)
   pub tells-callable : (κs : _) (x : _) (r : _) (y : _) → of-callable.Learnt κs x r y → r ≡ callableSecond (x .0) (x .1 .0)
   -- "over every sequence of calls from empty it answers as the first does, lists and dispatched tasks included": two chains of uses, asked the same
@@ -60,6 +65,7 @@ pub record SecondEngine : Type 2 where
   -- and so it answers every question afterwards; its states stay sound
   pub sound-after : (n : ℕ) (run : BothRun n) → soundSecond (secondReached (startSecond n) (run .second)) ≡ true
   pub running-alike : (n : ℕ) (run : BothRun n) → runningSecond (secondReached (startSecond n) (run .second)) ≡ runningWhole (reached (start n) (run .first))
+  pub priority-alike : (n : ℕ) (run : BothRun n) (t : ℕ) → prioritySecond (secondReached (startSecond n) (run .second)) t ≡ priorityWhole (reached (start n) (run .first)) t
   pub count-alike : (n : ℕ) (run : BothRun n) (t e : ℕ) → countSecond (secondReached (startSecond n) (run .second)) t e ≡ countWhole (reached (start n) (run .first)) t e
   pub callable-alike : (n : ℕ) (run : BothRun n) (t : ℕ) → callableSecond (secondReached (startSecond n) (run .second)) t ≡ callableWhole (reached (start n) (run .first)) t
   -- "the same numbers, BAD_STATE by its state's own soundness rule": SHORT_ROOM first, BAD_STATE where that rule fails, and else the rule of the call

@@ -13,7 +13,7 @@ use Rattle.lists.specs.Once.{AsksNothing}
 use Rattle.rules.specs.State as state
 use Rattle.rules.specs.State.{queue}
 use Rattle.rules.specs.Whole.{Typed, view, soundWhole, refusedAnswer}
-use Rattle.rules.specs.Questions.{countWhole, callableWhole, runningWhole}
+use Rattle.rules.specs.Questions.{countWhole, callableWhole, runningWhole, priorityWhole}
 use Rattle.rules.specs.Uses.{Use, Keeps}
 use Rattle.rules.specs.declared.Supervisor.{Supervisor}
 use Rattle.calls.specs.Record.{encode}
@@ -24,6 +24,7 @@ use Rattle.calls.proofs.read_record.Statement as read-record
 use Rattle.calls.proofs.write_record.Statement as write-record
 use Rattle.supervisor.proofs.empty.Statement as empty
 use Rattle.supervisor.proofs.running.Statement as running
+use Rattle.supervisor.proofs.priority.Statement as priority
 use Rattle.supervisor.proofs.step.Statement as step
 use Rattle.supervisor.proofs.count.Statement as count
 use Rattle.supervisor.proofs.callable.Statement as callable
@@ -32,6 +33,7 @@ use Rattle.calls.proofs.read_record.Reads as of-read-record
 use Rattle.calls.proofs.write_record.Reads as of-write-record
 use Rattle.supervisor.proofs.empty.Reads as of-empty
 use Rattle.supervisor.proofs.running.Reads as of-running
+use Rattle.supervisor.proofs.priority.Reads as of-priority
 use Rattle.supervisor.proofs.step.Reads as of-step
 use Rattle.supervisor.proofs.count.Reads as of-count
 use Rattle.supervisor.proofs.callable.Reads as of-callable
@@ -52,6 +54,7 @@ pub record Statement1 : Type 2 where
   pub empty : {M : Type 1} → empty.statement M
   pub sound : {M : Type 1} → sound.statement M
   pub running : {M : Type 1} → running.statement M
+  pub priority : {M : Type 1} → priority.statement M
   pub step : {M : Type 1} → step.statement M
   pub count : {M : Type 1} → count.statement M
   pub callable : {M : Type 1} → callable.statement M
@@ -61,6 +64,7 @@ pub record Statement1 : Type 2 where
   pub empty-asks : AsksNothing of-empty.Asked
   pub sound-asks : AsksNothing of-sound.Asked
   pub running-asks : AsksNothing of-running.Asked
+  pub priority-asks : AsksNothing of-priority.Asked
   pub step-asks : AsksNothing of-step.Asked
   pub count-asks : AsksNothing of-count.Asked
   pub callable-asks : AsksNothing of-callable.Asked
@@ -72,10 +76,12 @@ pub record Statement1 : Type 2 where
   pub count-refused : (s : Supervisor) (t e : ℕ) → (countWhole s t e .refusal ≡ 2) ↔ (soundWhole s ≡ false)
   pub callable-refused : (s : Supervisor) (t : ℕ) → (callableWhole s t .refusal ≡ 2) ↔ (soundWhole s ≡ false)
   pub running-refused : (s : Supervisor) → (runningWhole s .refusal ≡ 2) ↔ (soundWhole s ≡ false)
+  pub priority-refused : (s : Supervisor) (t : ℕ) → (priorityWhole s t .refusal ≡ 2) ↔ (soundWhole s ≡ false)
   -- a refused question answers 0 or no
   pub count-zero : (s : Supervisor) (t e : ℕ) → soundWhole s ≡ false → countWhole s t e .count ≡ 0
   pub callable-no : (s : Supervisor) (t : ℕ) → soundWhole s ≡ false → callableWhole s t .yes ≡ false
   pub running-zero : (s : Supervisor) → soundWhole s ≡ false → runningWhole s .task ≡ 0
+  pub priority-zero : (s : Supervisor) (t : ℕ) → soundWhole s ≡ false → priorityWhole s t .priority ≡ 0
   -- "a refused step returns the state it was given, an empty list of ended waits, and lent room untouched"
   pub use-untouched : (s : Supervisor) (u : Use) → Keeps s u → 0 < u .gave .answer .refusal → Refused s u
   -- the dispatched task that it answers is that of the unchanged state; 0 after 1 and 2

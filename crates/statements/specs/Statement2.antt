@@ -3,15 +3,15 @@
 -- Assumes nothing.
 use Prim.Native.Nat.{ℕ, _≤_}
 use mathlib.Core.Path.{_≡_}
-use mathlib.Core.Bool.{true}
+use mathlib.Core.Bool.{true, false}
 use mathlib.Core.List.{List, _++_}
 use lib.ListN.{length, take}
 use denote.Ref.{now}
-use Rattle.rules.specs.State.{State, queue}
+use Rattle.rules.specs.State.{State, queue, currentOf, isTask}
 use Rattle.rules.specs.declared.Item.{Item}
 use Rattle.rules.specs.Step.{took, takeCall}
 use Rattle.rules.specs.Whole.{Typed, view, soundWhole, done, stepWhole}
-use Rattle.rules.specs.Questions.{countWhole, callableWhole, runningWhole}
+use Rattle.rules.specs.Questions.{countWhole, callableWhole, runningWhole, priorityWhole}
 use Rattle.rules.specs.EachStep.{Dispatched, waitingOn}
 use Rattle.rules.specs.SoundFacts.{HasEntry}
 use Rattle.rules.specs.Uses.{Keeps}
@@ -27,6 +27,7 @@ use Rattle.calls.proofs.write_record.Reads as write-record
 use Rattle.supervisor.proofs.step.Reads as step
 use Rattle.supervisor.proofs.sound.Reads as sound
 use Rattle.supervisor.proofs.running.Reads as running
+use Rattle.supervisor.proofs.priority.Reads as priority
 use Rattle.supervisor.proofs.count.Reads as count
 use Rattle.supervisor.proofs.callable.Reads as callable
 
@@ -42,6 +43,7 @@ pub record Statement2 : Type 1 where
   pub tells-sound : (κs : _) (x : _) (r : _) (y : _) → sound.Learnt κs x r y → r ≡ soundWhole (x .0)
   pub tells-running : (κs : _) (x : _) (r : _) (y : _) → running.Learnt κs x r y → r ≡ runningWhole (x .0)
   pub tells-count : (κs : _) (x : _) (r : _) (y : _) → count.Learnt κs x r y → r ≡ countWhole (x .0) (x .1 .0) (x .1 .1 .0)
+  pub tells-priority : (κs : _) (x : _) (r : _) (y : _) → priority.Learnt κs x r y → r ≡ priorityWhole (x .0) (x .1 .0)
   pub tells-callable : (κs : _) (x : _) (r : _) (y : _) → callable.Learnt κs x r y → r ≡ callableWhole (x .0) (x .1 .0)
   -- with room enough and in a sound state, the rules' step is the rule of the call: next state, result, ended waits, dispatched task
   pub the-rule : (s : Supervisor) (c : C.Call) (n : ℕ) → 124 ≤ n → soundWhole s ≡ true → stepWhole s c n ≡ done s (takeCall (view s) c)
@@ -60,3 +62,6 @@ pub record Statement2 : Type 1 where
   pub count-is-length : (s : Supervisor) (t e : ℕ) → soundWhole s ≡ true → countWhole s t e .count ≡ length (queue (view s) t e)
   pub count-absent : (s : Supervisor) → Typed s → soundWhole s ≡ true → (t e : ℕ) → (HasEntry (view s) t e → ⊥) → countWhole s t e .count ≡ 0
   pub count-is-number : (s : Supervisor) → Typed s → soundWhole s ≡ true → (t e : ℕ) → countWhole s t e .count ≡ length (waitingOn (view s) t e)
+  -- the priority worked out afresh down the tree is the current one; 0 for a number not created
+  pub priority-is-current : (s : Supervisor) → Typed s → soundWhole s ≡ true → (t : ℕ) → priorityWhole s t .priority ≡ currentOf (view s) t
+  pub priority-absent : (s : Supervisor) → Typed s → soundWhole s ≡ true → (t : ℕ) → isTask (view s) t ≡ false → priorityWhole s t .priority ≡ 0

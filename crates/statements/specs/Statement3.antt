@@ -11,6 +11,8 @@ use Rattle.rules.specs.SoundFacts.{SoundnessSaid}
 use Rattle.rules.specs.Runs.{Entry, start}
 use Rattle.rules.specs.OverRuns.{WaitsCounted, EndsOnce, WereWaiting, SixReasons, FewEnds, LeavesAll, HeldTillEnd, TimedWaits}
 use Rattle.rules.specs.Orders.{OfThree, TimesInOrder, LongestFirst, LastFirst}
+use Rattle.rules.specs.State.{currentOf}
+use Rattle.rules.specs.Tree.{highestOf, reachesTop}
 use Rattle.rules.specs.Uses.{Use, Keeps, Chain, readEntry, readLog}
 use Rattle.rules.specs.declared.Supervisor.{Supervisor}
 use Rattle.supervisor.proofs.empty.Reads as empty
@@ -40,6 +42,10 @@ pub record Statement3 : Type 1 where
   pub always-sound : (n : ℕ) (run : Run n) → soundWhole (stateOf run) ≡ true
   -- and what is called sound is what document 01 calls so: the test holds exactly where its facts do
   pub soundness-said : SoundnessSaid
+  -- no ring of holders: from each task at most 30 moves, each to the holder, reach a task that nobody holds
+  pub no-ring : (n : ℕ) (run : Run n) (t : ℕ) → reachesTop (view (stateOf run)) 30 t ≡ true
+  -- a task's current priority is the highest created one among itself and everyone below it in the tree of held callers
+  pub current-highest : (n : ℕ) (run : Run n) (t : ℕ) → currentOf (view (stateOf run)) t ≡ highestOf (view (stateOf run)) 30 t
   -- "for each task the waits begun equal the waits ended plus one if it is waiting now"
   pub waits-counted : (n : ℕ) (run : Run n) → WaitsCounted (logOf run) (view (stateOf run))
   -- "each ended wait ended once": then, and not again in the uses behind it before another has begun

@@ -23,8 +23,7 @@ use Rattle.lists.proofs.Tests.{bit-le, byte-bit}
 use Rattle.lists.proofs.ListLaws.{clash, count-filter-le}
 use Rattle.rules.proofs.Invariant.{Sound}
 use Rattle.rules.proofs.Members.{in-filter, timed-there}
-use Rattle.rules.proofs.SoundTest.{sound-test}
-use Rattle.rules.proofs.Advances.{advances}
+use Rattle.rules.proofs.AtOnce.{at-once}
 use Rattle.table.specs.declared.queues.Test.the-variants.{DueWithin}
 use Rattle.steps.specs.Taken.{Stands, EachOnce, WokenAs, takenAs, takenOf, endedBy, passing}
 use Rattle.steps.specs.declared.answers.Taken.{Taken}
@@ -89,11 +88,11 @@ passing-core v l n e = ap (λ (x : State). took (core (setClock x (after (v .clo
 
 tick-is : (v : State) → Sound v → takeCall v Tick ≡ passing v 1 0
 tick-is v h =
-    let c = advances .at-once v 1 (h .clock) (sound-test v h) in
+    let c = at-once 1 v h in
     λ i. took (c .state i) (item 0 DONE 0 0) ((sym (append-nil (endsAt v (after (v .clock) 1))) ∙ c .ends) i)
 
 advance-is : (v : State) (n : ℕ) → Sound v → takeCall v (Advance n) ≡ passing v n (dueMoments v n)
-advance-is v n h = let c = advances .at-once v n (h .clock) (sound-test v h) in λ i. took (c .state i) (item 0 DONE (c .readings i) 0) (c .ends i)
+advance-is v n h = let c = at-once n v h in λ i. took (c .state i) (item 0 DONE (c .readings i) 0) (c .ends i)
 
 pub tick-core : (v : State) (l : List ℕ) → Sound (withCallers v l) → coreOf (takeCall v Tick) ≡ coreOf (passing v 1 0)
 tick-core v l h = same-tick v l ∙ ap coreOf (tick-is (withCallers v l) h) ∙ passing-core v l 1 0

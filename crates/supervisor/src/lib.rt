@@ -1,7 +1,7 @@
 // The first engine: an empty supervisor, its step, its questions. All callers stand in one line.
 ghost use lib.ListN.{length};
 ghost use mathlib.Core.Path.{_≡_};
-ghost use Rattle.rules.specs.Questions.{countWhole, callableWhole, runningWhole};
+ghost use Rattle.rules.specs.Questions.{countWhole, callableWhole, runningWhole, priorityWhole};
 ghost use Rattle.rules.specs.Step.{roomAfter};
 ghost use Rattle.rules.specs.State as state;
 ghost use Rattle.rules.specs.Whole.{steppedOf, pack, soundWhole, stepWhole};
@@ -10,6 +10,7 @@ use calls::numbers::SHORT_ROOM;
 use rules::Callable;
 use rules::Core;
 use rules::Count;
+use rules::Priority;
 use rules::Running;
 use rules::Stepped;
 use rules::Supervisor;
@@ -29,6 +30,7 @@ use table::queues::Test;
 use table::queues::picked;
 use table::tasks::blank_task;
 use table::tasks::task_of;
+use table::tree::highest_of;
 
 // One call. A refused one leaves the state and the room as they are; the items of ended waits are written one behind the other.
 pub fn step(s: Supervisor, c: Call, room: &mut [u8]) -> Stepped
@@ -142,5 +144,22 @@ pub fn callable(s: Supervisor, t: u8) -> Callable
     Callable {
         refusal: BAD_STATE,
         yes: false,
+    }
+}
+
+// The priority of task t, worked out afresh: the highest created one among itself and everyone below it in the tree of held callers.
+pub fn priority(s: Supervisor, t: u8) -> Priority
+    ensures { λ r. ⌜ r ≡ priorityWhole s t ⌝ }
+{
+    if is_sound(s) {
+        let priority = highest_of(s.core, t);
+        return Priority {
+            refusal: 0,
+            priority,
+        };
+    }
+    Priority {
+        refusal: BAD_STATE,
+        priority: 0,
     }
 }

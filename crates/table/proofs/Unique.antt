@@ -33,6 +33,7 @@ use Rattle.table.proofs.tasks.shown.Reads as shown
 use Rattle.table.proofs.tasks.left_of.Reads as left-of
 use Rattle.table.proofs.tasks.task_of.Reads as task-of
 use Rattle.table.proofs.tasks.with_task.Reads as with-task
+use Rattle.table.proofs.tree.highest_of.Reads as highest-of
 
 -- ── dispatch ──
 
@@ -136,3 +137,8 @@ task-of-once κs x r r′ y y′ p q = p ∙ sym q
 
 pub with-task-once : Once with-task.Learnt
 with-task-once κs x r r′ y y′ p q = p ∙ sym q
+
+-- ── tree ──
+
+pub highest-of-once : Once highest-of.Learnt
+highest-of-once κs x r r′ y y′ p q = p ∙ sym q

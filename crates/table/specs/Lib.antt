@@ -1,3 +1,4 @@
 pub mod Numbers
 pub mod Moved
 pub mod Best
+pub mod Tree

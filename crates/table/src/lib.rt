@@ -5,3 +5,4 @@ pub mod moves;
 pub mod place;
 pub mod queues;
 pub mod tasks;
+pub mod tree;

@@ -16,8 +16,7 @@ use Rattle.workspace.specs.Rules.{isNone, isKept, rulesKept}
 use Rattle.workspace.specs.Seen.{tableOf, lookOf}
 use Rattle.workspace.specs.Check.{tiled}
 use Rattle.workspace.specs.Steps.{keepsSeen}
-use Rattle.lists.proofs.Tests.{each, and-first, and-second, and-both as both}
-use Rattle.workspace.proofs.Basics.{same-test}
+use Rattle.lists.proofs.Tests.{each, and-first, and-second, and-both as both, same-test}
 use Rattle.workspace.proofs.Pieces.{Sound, suffice}
 use Rattle.workspace.proofs.CheckLaws.{check-sound, sound-check}
 use Rattle.workspace.proofs.Words.{kept-sound, sound-kept}

@@ -9,15 +9,15 @@ use mathlib.Core.List.{[]}
 use lib.ListN.{length, getD}
 use Rattle.lists.specs.Lists.{every, downFrom}
 use Rattle.lists.proofs.Tests.{ways, between}
-use Rattle.lists.proofs.ListLaws.{mapped-long}
+use Rattle.lists.proofs.ListLaws.{mapped-long, down-on, down-end}
 use Rattle.rules.specs.State.{blank, taskOf}
 use Rattle.rules.specs.Whole.{viewCore}
 use Rattle.rules.specs.declared.Core.{Core}
 use Rattle.table.proofs.LeafLaws.{task-in}
-use Rattle.soundness.specs.Check.{Line, Ready, Callers, Held, Delays, belongs, goodIn, marked}
+use Rattle.soundness.specs.Check.{Line, Ready, Callers, Held, Delays, belongs, goodIn, isChanged, marked}
 use Rattle.soundness.specs.Marks.{noMarks, nextMark}
 use Rattle.soundness.proofs.TaskLaws.{called-one, called-none, good-is}
-use Rattle.soundness.proofs.Turns.{and-turn, down-on, down-end, mark-on}
+use Rattle.soundness.proofs.Turns.{and-turn, mark-on}
 use Rattle.soundness.proofs.told_of.Statement.{statement}
 use Rattle.soundness.proofs.told_of.Tie as tie
 
@@ -26,17 +26,18 @@ abbrev due : Core → Line → ℕ → ℕ → ℕ
 due s l m t = marked (λ u. belongs l (taskOf (viewCore s) u)) m (downFrom t)
 
 abbrev Inv-loop : tie.InvT-loop
-Inv-loop s good₀ ready₀ callers₀ held₀ delays₀ t₀ good ready callers held delays t =
+Inv-loop s good₀ ready₀ callers₀ held₀ delays₀ changed₀ t₀ good ready callers held delays changed t =
     (s .created ≤ 31) × (t ≤ s .created) × (length (s .tasks) ≡ 31)
     × (every (goodIn (viewCore s)) (downFrom (s .created)) ≡ (good && every (goodIn (viewCore s)) (downFrom t)))
     × (due s Ready noMarks (s .created) ≡ due s Ready ready t) × (due s Callers noMarks (s .created) ≡ due s Callers callers t)
     × (due s Held noMarks (s .created) ≡ due s Held held t) × (due s Delays noMarks (s .created) ≡ due s Delays delays t)
+    × (marked (λ u. isChanged (taskOf (viewCore s) u)) noMarks (downFrom (s .created)) ≡ marked (λ u. isChanged (taskOf (viewCore s) u)) changed (downFrom t))
 
 abbrev μ-loop : tie.MeasureT-loop
-μ-loop s good₀ ready₀ callers₀ held₀ delays₀ t₀ good ready callers held delays t = t
+μ-loop s good₀ ready₀ callers₀ held₀ delays₀ changed₀ t₀ good ready callers held delays changed t = t
 
 loop-holds : tie.Need-loop-holds Inv-loop μ-loop
-loop-holds c = (c .pre, omega arith, search (needs, mapped-long), refl, refl, refl, refl, refl)
+loop-holds c = (c .pre, omega arith, search (needs, mapped-long), refl, refl, refl, refl, refl, refl)
 
 -- the called task has a number of 1..created
 in-range : (c : tie.Then1 Inv-loop μ-loop) →
@@ -78,7 +79,8 @@ turn s l t m n b z k eb en =
 
 loop-again : tie.Need-loop-again Inv-loop μ-loop
 loop-again c =
-    let n3 = c .before .before in
+    let n4 = c .before .before in
+    let n3 = n4 .before .before in
     let n2 = n3 .before .before in
     let n1 = n2 .before .before in
     let g = n1 .before .before in
@@ -97,7 +99,8 @@ loop-again c =
       v .4 ∙ turn s Ready t _ _ _ z k (n1 .before .is-ready .ensures) (n1 .next .ensures),
       v .5 ∙ turn s Callers t _ _ _ z k (n2 .before .is-queued .ensures) (n2 .next2 .ensures),
       v .6 ∙ turn s Held t _ _ _ z k (n3 .before .is-held .ensures) (n3 .next3 .ensures),
-      v .7 ∙ turn s Delays t _ _ _ z k (c .before .has-time .ensures) (c .next4 .ensures),
+      v .7 ∙ turn s Delays t _ _ _ z k (n4 .before .has-time .ensures) (n4 .next4 .ensures),
+      v .8 ∙ mark-on (λ u. isChanged (taskOf (viewCore s) u)) _ _ t _ z (ap isChanged (task-in (s .tasks) (s .created) t (λ q. omega arith) k)) (c .next5 .ensures),
     )
 
 returns : tie.Need-returns Inv-loop μ-loop
@@ -109,7 +112,8 @@ returns c =
     let g = sym (rw end at (v .3) ∙ and-true (l .loop .good)) in
     let word : (d : Line) (m : ℕ) → due s d noMarks (s .created) ≡ due s d m (l .loop .t) → m ≡ due s d noMarks (s .created)
     = λ d m e. sym (e ∙ ap (marked (λ u. belongs d (taskOf (viewCore s) u)) m) end) in
-    λ i. record { good = g i; ready = word Ready _ (v .4) i; callers = word Callers _ (v .5) i; held = word Held _ (v .6) i; delays = word Delays _ (v .7) i }
+    let changed = sym (v .8 ∙ ap (marked (λ u. isChanged (taskOf (viewCore s) u)) (l .loop .changed)) end) in
+    λ i. record { good = g i; ready = word Ready _ (v .4) i; callers = word Callers _ (v .5) i; held = word Held _ (v .6) i; delays = word Delays _ (v .7) i; changed = changed i }
 
 pub told-of-spec : {M : Type 1} → statement M
 told-of-spec =
@@ -117,4 +121,4 @@ told-of-spec =
     (tie.spec Inv-loop μ-loop loop-holds (λ c. omega arith) (λ c. search needs) (λ c. omega arith) (λ c. omega arith)
     (λ c κs. search needs) (λ c κs. search needs) (λ c κs. search needs) (λ c. in-range c .0) (λ c. search needs) (λ c. omega (arith, in-range c)) (λ c. omega (arith, in-range c)) (λ c κs. search needs)
     (λ c κs. search needs) (λ c κs. search needs) (λ c κs. search needs) (λ c κs. search needs) (λ c κs. search needs) (λ c κs. search needs)
-    (λ c κs. search needs) (λ c κs. search needs) (λ c. omega arith) (λ c. omega arith) loop-again returns)
+    (λ c κs. search needs) (λ c κs. search needs) (λ c κs. search needs) (λ c. omega arith) (λ c. omega arith) loop-again returns)
