@@ -1,6 +1,6 @@
 -- The whole check: its parts, line by line, against the rules, which go task by task.
 -- Assumes nothing.
-use Prim.Native.Nat.{ℕ, _≤_}
+use Prim.Native.Nat.{ℕ, _≤_, _<_}
 use mathlib.Core.Path.{_≡_, refl, sym, ap, _∙_}
 use mathlib.Core.Bool.{Bool, true, false, _&&_, and-false, and-assoc, and-comm}
 use mathlib.Core.List.{List, [], _∷_, _++_}
