@@ -15,6 +15,21 @@ from pathlib import Path
 OPTIMISED = "-O3"
 
 
+# a program that uses both engines, so that the compiler gets all of them; it reads no word and so links nothing
+BOTH_ENGINES = """fn main() {
+    let mut room = [0u8; 124];
+    let read = calls::read_record(&[7, 0, 0]);
+    let calls::Read::Record { call, count: _ } = read else {
+        return;
+    };
+    let s = supervisor::empty(0);
+    supervisor::step(s, call, &mut room);
+    let x = second::empty(0);
+    second::step(x, call, &mut room);
+}
+"""
+
+
 def stop(why):
     sys.exit(f"{Path(sys.argv[0]).name}: {why}")
 
@@ -70,13 +85,17 @@ exec "{self.clang}" "$@"
         found = ["std"]
         for name in crates:
             lower(name, rests_on(Path("crates.txt")), rests_on(self.root / "libs" / "libs.txt"), found)
-        words = [self.machine / "bin" / "rattle-cases", "--toolchain", self.watched(work), main, "--crate-name", crate]
+        words = [self.machine / "bin" / "rattle-cases", "--toolchain", self.watched(work), *self.linked(found), main, "--crate-name", crate]
         for name in found:
             ours = Path("crates") / name
             words += ["--lib", f"{name}={(ours if ours.exists() else self.root / 'libs' / name) / 'src' / 'lib.rt'}"]
         said = subprocess.run(words, capture_output=True, text=True, stdin=subprocess.DEVNULL)
         if not (work / "words").exists():
             stop(f"{main} was not compiled\n{said.stdout}{said.stderr}")
+
+    def linked(self, crates):
+        """The words that link what the crates call in C."""
+        return ["--link", self.root / "lib" / "libos_c.a"] if "os" in crates else []
 
     def words(self, work):
         """The words with which the compiler is called."""

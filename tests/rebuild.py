@@ -42,7 +42,8 @@ def in_crate_order(kit, functions):
     for crate in in_order(below, lambda crate: {"std", *below[crate]}):
         own = [name for name in functions if name.startswith(f"{crate}::")]
         # functions of C stand in the order of their declarations
-        names += own if crate == "libc" else in_order(own, calls.get)
+        foreign = [name for name in own if crate == "libc" or name.startswith("os::c::")]
+        names += foreign + in_order([name for name in own if name not in foreign], calls.get)
     return names
 
 
@@ -88,7 +89,7 @@ def build_program(kit, logic, work):
     made = compiled(kit, Path("crates/stepper/src/main.rt"), "stepper", work, False, logic)
     out = Path("target/bin/stepper")
     out.parent.mkdir(parents=True, exist_ok=True)
-    run(kit.machine / "bin" / "rattle-link", "--target", "x86_64-unknown-linux-gnu", "--toolchain", kit.tools, "-o", out, made)
+    run(kit.machine / "bin" / "rattle-link", "--target", "x86_64-unknown-linux-gnu", "--toolchain", kit.tools, "-o", out, made, kit.root / "lib" / "libos_c.a")
 
 
 def build_library(kit, logic, work):

@@ -5,10 +5,9 @@ use mathlib.Core.Path.{_≡_}
 use mathlib.Core.Bool.{Bool, true, false, _&&_}
 use mathlib.Core.List.{List, [], _∷_, _++_, map}
 use lib.ListN.{length}
-use Rattle.lists.proofs.MarkLaws.{out}
 use Rattle.rules.specs.declared.Item.{Item}
 use lib.Dec.{eqb}
-use Rattle.lists.specs.Lists.{if_then_else_, filter}
+use Rattle.lists.specs.Lists.{if_then_else_, filter, count}
 use Rattle.rules.specs.State.{State, placeOf, isQueued, partnerOf, running}
 use Rattle.rules.specs.Sound.{sound}
 use Rattle.rules.specs.Step.{Outcome, refused, took, takeCall, WAITS, ACCEPTED}
@@ -83,9 +82,13 @@ isCall (Advance n) = false
 abbrev pub comesBy : C.Call → ℕ → ℕ → Bool
 comesBy c result ended = isCall c && (eqb result WAITS && eqb ended 0)
 
+-- x is not in the list
+abbrev pub notIn : List ℕ → ℕ → Bool
+notIn l x = eqb (count x l) 0
+
 -- the line l of callers afterwards
 abbrev pub toldBy : C.Call → Item → List Item → List ℕ → List ℕ
-toldBy c a x l = filter (out (goneBy a x)) l ++ (if comesBy c (a .result) (length x) then a .task ∷ [] else [])
+toldBy c a x l = filter (notIn (goneBy a x)) l ++ (if comesBy c (a .result) (length x) then a .task ∷ [] else [])
 
 -- what the outcome says of the callers, where l is their line
 abbrev pub Told : C.Call → List ℕ → Outcome → Type 0
