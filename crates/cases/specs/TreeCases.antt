@@ -9,7 +9,7 @@ use lib.IntN.{pos}
 use lib.ListN.{replicate}
 use lib.Dec.{eqb}
 use Rattle.lists.specs.Lists.{if_then_else_}
-use Rattle.rules.specs.State.{State, empty, meeting}
+use Rattle.rules.specs.State.{empty, meeting}
 use Rattle.rules.specs.Whole.{pack, soundWhole}
 use Rattle.rules.specs.Questions.{priorityWhole}
 use Rattle.rules.specs.declared.Task.{Task}

@@ -3,14 +3,14 @@
 use Prim.Native.Nat.{ℕ, _≤_, _<_}
 use mathlib.Core.Path.{_≡_, refl, sym, _∙_, ap}
 use mathlib.Core.Logic.{inl, inr}
-use mathlib.Core.Bool.{Bool, true, false, not, _&&_}
+use mathlib.Core.Bool.{Bool, true, false, not}
 use mathlib.Core.List.{List, [], _∷_, _++_}
 use native.Mathlib.Omega.{arith}
 use lib.ListN.{length}
 use lib.Dec.{eqb, ltb}
 use borrow.Author.Tests.{eqb-true, eq-eqb, ne-eqb, le-ltb, lt-ltb, ltb-true}
 use Rattle.lists.specs.Lists.{if_then_else_, count, filter, remove, toHead}
-use Rattle.rules.specs.State.{State, taskOf, placeOf, currentOf, keptOf, isReady, level, atLevel, running, ranked, rank, move, wake, higher, meeting, meet, part}
+use Rattle.rules.specs.State.{State, placeOf, currentOf, keptOf, isReady, level, atLevel, running, rank, move, wake, higher, meeting, meet, part}
 use Rattle.rules.specs.EachStep.{Dispatched}
 use Rattle.rules.specs.Levels.{servedAt}
 use Rattle.rules.specs.declared.Task.{Task}

@@ -8,7 +8,7 @@ use native.Mathlib.Omega.{arith}
 use lib.ListN.{length}
 use lib.Dec.{eqb}
 use borrow.Author.Tests.{eq-eqb, ne-eqb}
-use Rattle.lists.specs.Lists.{if_then_else_, bit, count, filter, remove, last}
+use Rattle.lists.specs.Lists.{if_then_else_, bit, count, remove, last}
 use Rattle.rules.specs.State.{State, taskOf, placeOf, currentOf, keptOf, isHeld, partnerOf, heldBy, holds, higher, ranked, placed, rank, move, meet, meeting, part}
 use Rattle.rules.specs.Tree.{highestFrom}
 use Rattle.rules.specs.declared.Task.{Task}
@@ -17,7 +17,7 @@ use Rattle.rules.specs.declared.Timer.the-variants.{Off}
 use Rattle.rules.specs.declared.Meeting.{Meeting}
 use Rattle.rules.specs.declared.Place.{Place}
 use Rattle.rules.specs.declared.Place.the-variants.{Blank, Ready, Delayed, Queued, Held, Accepting, Completed}
-use Rattle.lists.proofs.ListLaws.{clash, by-eq, by-bool, count-remove-same, count-filter-no, count-filter-yes, count-filter-le}
+use Rattle.lists.proofs.ListLaws.{clash, by-eq, count-remove-same, count-filter-no, count-filter-yes, count-filter-le}
 use Rattle.rules.proofs.Invariant.{Sound}
 use Rattle.rules.proofs.Members.{last-in}
 use Rattle.rules.proofs.MoveLaws.{nth-set-same, nth-set-other, task-same, task-other, place-same, place-other, rank-place, rank-length, current-same, current-other}

@@ -8,7 +8,7 @@ use native.Mathlib.Omega.{arith}
 use lib.Dec.{eqb}
 use lib.ListN.{length}
 use lib.Seq.{length-take-le}
-use Rattle.lists.specs.Lists.{if_then_else_, bit, count, every, downFrom}
+use Rattle.lists.specs.Lists.{bit, count, every, downFrom}
 use Rattle.lists.specs.Line.{line}
 use Rattle.lists.specs.Marks as M
 use Rattle.lists.proofs.Tests.{same-test, and-both, and-first, and-second}
@@ -24,7 +24,7 @@ use Rattle.rules.specs.declared.Task.{Task}
 use Rattle.rules.proofs.Invariant.{Sound}
 use Rattle.rules.proofs.Members.{bit-true}
 use Rattle.rules.proofs.SoundTest.{in-down}
-use Rattle.rules.proofs.TreeLaws.{Tree, NoRing}
+use Rattle.rules.proofs.TreeLaws.{Tree}
 use Rattle.rules.proofs.TreeMoves.{held-in}
 use Rattle.rules.proofs.TreeTest.{keeps-test, keeps-of, tree-test, tree-of}
 use Rattle.table.specs.Tree.{holdersOf}
@@ -34,7 +34,7 @@ use Rattle.soundness.specs.TreeCheck.{topOf, passed, allClimbed, treeFou
 use Rattle.soundness.proofs.MarkLaws.{next-whole, next-none, none-has}
 use Rattle.soundness.proofs.TaskLaws.{named, called-none}
 use Rattle.soundness.proofs.LineLaws.{has-wanted}
-use Rattle.soundness.proofs.TreePass.{AllHeld, Apart, Right, start-top, pass-good, good-pass, passed-core}
+use Rattle.soundness.proofs.TreePass.{AllHeld, Apart, start-top, pass-good, good-pass, passed-core}
 use Rattle.soundness.proofs.TreeClimb.{Within, Known, all-known, all-climb}
 
 -- the words of the check: bit t is task t's

@@ -8,8 +8,8 @@ use native.Mathlib.Omega.{arith}
 use lib.Dec.{eqb, ltb}
 use lib.ListN.{length, set, length-set}
 use lib.Seq.{getD-set-same, getD-set-other}
-use borrow.Author.Tests.{eqb-true, eq-eqb, ne-eqb, ltb-true, ltb-false, le-ltb, not-false}
-use Rattle.lists.specs.Lists.{if_then_else_, count, filter}
+use borrow.Author.Tests.{eqb-true, eq-eqb, ne-eqb, ltb-false, le-ltb, not-false}
+use Rattle.lists.specs.Lists.{count, filter}
 use Rattle.lists.specs.Marks.{noMarks, markOf}
 use Rattle.lists.proofs.Tests.{and-both, and-first, and-second}
 use Rattle.lists.proofs.ListLaws.{by-eq, by-test}
@@ -17,14 +17,12 @@ use Rattle.lists.proofs.MarkLaws.{none-marked}
 use Rattle.rules.specs.State.{State, placeOf, priorityOf, currentOf, isHeld, partnerOf, keptOf, holds, higher}
 use Rattle.rules.specs.Callers.{withCallers}
 use Rattle.rules.specs.Tree.{highestFrom, keeps}
+use Rattle.rules.proofs.LevelLaws.{higher-least}
 use Rattle.soundness.specs.Marks.{Marks, Whole, hasMark, putMark, isNone}
 use Rattle.soundness.specs.TreeCheck.{topOf, passed}
 use Rattle.soundness.proofs.MarkLaws.{put-whole, has-put, none-has, has-all}
 
 -- ── the higher of two ──
-
-higher-le : (a b : ℕ) → a ≤ higher a b
-higher-le a b = by-test (λ (x : ℕ). a ≤ x) (ltb a b) (λ e. omega (arith, ltb-true a b e)) (λ _. omega arith)
 
 higher-up : (a b : ℕ) → a ≤ b → higher a b ≡ b
 higher-up a b h = by-test (λ (x : ℕ). x ≡ b) (ltb a b) (λ _. refl) (λ e. omega (arith, ltb-false a b e))
@@ -39,7 +37,7 @@ module _ (v : State) where
   mark-same : (m : List ℕ) (g x : ℕ) → length m ≡ 32 → g < 32 → topOf v (set m g (higher (topOf v m g) x)) g ≡ higher (topOf v m g) x
   mark-same m g x long few =
       ap (higher (priorityOf v g)) (getD-set-same m g (higher (topOf v m g) x) 0 (omega arith))
-      ∙ higher-up (priorityOf v g) (higher (topOf v m g) x) (omega (arith, higher-le (priorityOf v g) (markOf m g), higher-le (topOf v m g) x))
+      ∙ higher-up (priorityOf v g) (higher (topOf v m g) x) (omega (arith, higher-least (priorityOf v g) (markOf m g), higher-least (topOf v m g) x))
 
   mark-other : (m : List ℕ) (g x t : ℕ) → (t ≡ g → ⊥) → topOf v (set m g x) t ≡ topOf v m t
   mark-other m g x t n = ap (higher (priorityOf v t)) (getD-set-other m g t x 0 n)
