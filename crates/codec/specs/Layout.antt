@@ -213,6 +213,6 @@ placedAt b at piece = if leb (at + length piece) (length b) then putAt b at piec
 abbrev pub placedLines : List ℕ → List ℕ → List ℕ → List ℕ → List ℕ → List ℕ
 placedLines b ready callers held delays = placedAt (placedAt (placedAt (placedAt b readyAt ready) callersAt callers) heldAt held) delaysAt delays
 
--- lent bytes with a state put into them; bytes behind the 439th stay, and so do all where there are fewer
+-- lent bytes with a state put into them; bytes behind it stay, and so do all where there are too few
 unfoldable pub stored : Supervisor → List ℕ → List ℕ
 stored s b = if ltb (length b) stateSize then b else encode s ++ drop stateSize b

@@ -1,4 +1,6 @@
 // A supervisor in lent bytes: reading it, and putting it there.
+pub mod rows;
+
 ghost use mathlib.Core.Path.{_≡_};
 ghost use Prim.Native.Nat.{_+_, _≤_};
 ghost use mathlib.Core.List.{[], _∷_};

@@ -1,0 +1,11 @@
+use mathlib.Core.Path.{refl}
+use Rattle.codec.specs.Rows.{noRows}
+use Rattle.codec.proofs.rows.no_rows.Statement.{statement}
+use Rattle.codec.proofs.rows.no_rows.Tie as tie
+
+returns : tie.Need-returns
+unfolding noRows
+returns c = refl
+
+pub no-rows-spec : {M : Type 1} → statement M
+no-rows-spec = tie.close (tie.spec returns)
