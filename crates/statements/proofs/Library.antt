@@ -112,7 +112,7 @@ module _ (b : List ℕ) (u : CardUse) (k : KeepsCard b u) where
   -- with room, what is done is the step of what was read
   module _ (f : ltb (length (u .answer)) 7 ≡ false) (r : Read) (e : readOf (u .sent) ≡ r) where
     abbrev does : Whole
-    does = stepBy (stateIn b) (length (u .room)) r
+    does = stepBy stepWhole (stateIn b) (length (u .room)) r
 
     is : stepIn b u ≡ does
     is = step-by b (u .sent) (length (u .room)) r (sym e)

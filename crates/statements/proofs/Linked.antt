@@ -8,6 +8,12 @@ use Rattle.card.proofs.card_count.Met as card-count
 use Rattle.card.proofs.card_callable.Met as card-callable
 use Rattle.card.proofs.card_running.Met as card-running
 use Rattle.card.proofs.card_priority.Met as card-priority
+use Rattle.card.proofs.by_rows.second_empty.Met as second-empty
+use Rattle.card.proofs.by_rows.second_sound.Met as second-sound
+use Rattle.card.proofs.by_rows.second_step.Met as second-step
+use Rattle.card.proofs.by_rows.second_count.Met as second-count
+use Rattle.card.proofs.by_rows.second_callable.Met as second-callable
+use Rattle.card.proofs.by_rows.second_running.Met as second-running
 use Rattle.card.proofs.contacts.debounce_fresh.Met as debounce-fresh
 use Rattle.card.proofs.contacts.debounce_tick.Met as debounce-tick
 use Rattle.workspace.proofs.fresh.Met as fresh
@@ -32,6 +38,12 @@ linked = record {
   card-callable = card-callable.met;
   card-running = card-running.met;
   card-priority = card-priority.met;
+  second-empty = second-empty.met;
+  second-sound = second-sound.met;
+  second-step = second-step.met;
+  second-count = second-count.met;
+  second-callable = second-callable.met;
+  second-running = second-running.met;
   debounce-fresh = debounce-fresh.met;
   debounce-tick = debounce-tick.met;
   fresh = fresh.met;
@@ -52,6 +64,12 @@ linked = record {
   card-callable-asks = λ κs x. tt;
   card-running-asks = λ κs x. tt;
   card-priority-asks = λ κs x. tt;
+  second-empty-asks = λ κs x. tt;
+  second-sound-asks = λ κs x. tt;
+  second-step-asks = λ κs x. tt;
+  second-count-asks = λ κs x. tt;
+  second-callable-asks = λ κs x. tt;
+  second-running-asks = λ κs x. tt;
   debounce-fresh-asks = λ κs x. tt;
   debounce-tick-asks = λ κs x. tt;
   lent-asks = λ 𝓤 H A mem run. record { fresh = λ κs x. refl; request = λ κs x. refl; release = λ κs x. refl };

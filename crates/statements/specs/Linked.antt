@@ -16,6 +16,12 @@ use Rattle.card.proofs.card_count.Statement as card-count
 use Rattle.card.proofs.card_callable.Statement as card-callable
 use Rattle.card.proofs.card_running.Statement as card-running
 use Rattle.card.proofs.card_priority.Statement as card-priority
+use Rattle.card.proofs.by_rows.second_empty.Statement as second-empty
+use Rattle.card.proofs.by_rows.second_sound.Statement as second-sound
+use Rattle.card.proofs.by_rows.second_step.Statement as second-step
+use Rattle.card.proofs.by_rows.second_count.Statement as second-count
+use Rattle.card.proofs.by_rows.second_callable.Statement as second-callable
+use Rattle.card.proofs.by_rows.second_running.Statement as second-running
 use Rattle.card.proofs.contacts.debounce_fresh.Statement as debounce-fresh
 use Rattle.card.proofs.contacts.debounce_tick.Statement as debounce-tick
 use Rattle.card.proofs.card_empty.Reads as of-card-empty
@@ -25,6 +31,12 @@ use Rattle.card.proofs.card_count.Reads as of-card-count
 use Rattle.card.proofs.card_callable.Reads as of-card-callable
 use Rattle.card.proofs.card_running.Reads as of-card-running
 use Rattle.card.proofs.card_priority.Reads as of-card-priority
+use Rattle.card.proofs.by_rows.second_empty.Reads as of-second-empty
+use Rattle.card.proofs.by_rows.second_sound.Reads as of-second-sound
+use Rattle.card.proofs.by_rows.second_step.Reads as of-second-step
+use Rattle.card.proofs.by_rows.second_count.Reads as of-second-count
+use Rattle.card.proofs.by_rows.second_callable.Reads as of-second-callable
+use Rattle.card.proofs.by_rows.second_running.Reads as of-second-running
 use Rattle.card.proofs.contacts.debounce_fresh.Reads as of-debounce-fresh
 use Rattle.card.proofs.contacts.debounce_tick.Reads as of-debounce-tick
 use Rattle.workspace.proofs.fresh as fresh-contract
@@ -66,6 +78,12 @@ pub record Linked : Type 2 where
   pub card-callable : {M : Type 1} → card-callable.statement M
   pub card-running : {M : Type 1} → card-running.statement M
   pub card-priority : {M : Type 1} → card-priority.statement M
+  pub second-empty : {M : Type 1} → second-empty.statement M
+  pub second-sound : {M : Type 1} → second-sound.statement M
+  pub second-step : {M : Type 1} → second-step.statement M
+  pub second-count : {M : Type 1} → second-count.statement M
+  pub second-callable : {M : Type 1} → second-callable.statement M
+  pub second-running : {M : Type 1} → second-running.statement M
   pub debounce-fresh : {M : Type 1} → debounce-fresh.statement M
   pub debounce-tick : {M : Type 1} → debounce-tick.statement M
   pub fresh : {M : Type 1} → fresh.statement M
@@ -87,6 +105,12 @@ pub record Linked : Type 2 where
   pub card-callable-asks : AsksNothing of-card-callable.Asked
   pub card-running-asks : AsksNothing of-card-running.Asked
   pub card-priority-asks : AsksNothing of-card-priority.Asked
+  pub second-empty-asks : AsksNothing of-second-empty.Asked
+  pub second-sound-asks : AsksNothing of-second-sound.Asked
+  pub second-step-asks : AsksNothing of-second-step.Asked
+  pub second-count-asks : AsksNothing of-second-count.Asked
+  pub second-callable-asks : AsksNothing of-second-callable.Asked
+  pub second-running-asks : AsksNothing of-second-running.Asked
   pub debounce-fresh-asks : AsksNothing of-debounce-fresh.Asked
   pub debounce-tick-asks : AsksNothing of-debounce-tick.Asked
   pub lent-asks : {M : Type 1} (𝓤 : URA M) (H : Heap 𝓤) (A : Atoms 𝓤) (mem : Memory → SProp 𝓤) (run : Routine → Fun 𝓤) → LentAsks 𝓤 H A mem run

@@ -1,12 +1,12 @@
+use Prim.Native.Nat.{_<_}
 use mathlib.Core.Path.{_≡_, ap, _∙_}
-use lib.ListN.{length}
 use denote.Ref.{now}
 use Rattle.rules.specs.declared.Supervisor.{Supervisor}
 use Rattle.rules.specs.Questions.{countWhole}
 use Rattle.rules.specs.declared.Count.{Count}
 use Rattle.codec.specs.Layout.{stateIn}
 use Rattle.card.specs.Answers.{ifRoom, oneAfter}
-use Rattle.card.proofs.CardLaws.{count-small, one-as}
+use Rattle.card.proofs.CardLaws.{whole-small, one-as}
 use borrow.Author.Needs.{needs}
 use Rattle.card.proofs.card_count.Statement.{statement}
 use Rattle.card.proofs.card_count.Tie as tie
@@ -14,8 +14,8 @@ use Rattle.card.proofs.card_count.Tie as tie
 cast-put-one : tie.Need-cast-put-one
 cast-put-one c =
     let s = c .before .before .before .state-in .result in
-    let l : length (s .callers) ≡ 31 = search needs in
-    record { fits = count-small s (c .before .before .count .result) (c .before .before .before .before .before .before .args .task) (c .before .before .before .before .before .before .args .entry) l (c .before .before .count .ensures) }
+    let clock : s .core .clock < 4294967296 = search needs in
+    record { fits = whole-small s (c .before .before .count .result) (c .before .before .before .before .before .before .args .task) (c .before .before .before .before .before .before .args .entry) clock (c .before .before .count .ensures) }
 
 -- the state in the bytes was asked
 counted : (c : tie.After-count) → let a = c .before .before .before .before .args in c .count .result ≡ countWhole (stateIn (now (a .state))) (a .task) (a .entry)

@@ -3,8 +3,9 @@ use lib.ListN.{length}
 use denote.Ref.{now}
 use Rattle.rules.specs.Step.{roomAfter}
 use Rattle.rules.specs.Whole.{steppedOf, stepWhole}
+use Rattle.rules.specs.declared.Stepped.{Stepped}
 use Rattle.rules.specs.declared.Supervisor.{Supervisor}
-use Rattle.codec.specs.Layout.{stateIn}
+use Rattle.codec.specs.Layout.{stateIn, stored}
 use Rattle.card.proofs.CardLaws.{did-take, did-refuse}
 use borrow.Author.Needs.{needs}
 use Rattle.card.proofs.take_call.Statement.{statement}
@@ -22,7 +23,7 @@ returns c =
     let a = p .before .before .before .before .before .before .args in
     let n = length (now (a .room)) in
     let r = p .step .ensures .1 ∙ ap (λ (s : Supervisor). roomAfter (now (a .room)) (stepWhole s (a .c) n .ended)) (p .before .before .state-in .ensures) in
-    did-take (now (a .state)) (now (a .room)) (stepWhole (stateIn (now (a .state))) (a .c) n) (p .step .result) (stepped p) _ r _ (c .before .before .before .before .if1 .taken) (c .before .before .store .ensures)
+    did-take stored (now (a .state)) (now (a .room)) (stepWhole (stateIn (now (a .state))) (a .c) n) (p .step .result .answer) (ap (λ (k : Stepped). k .answer) (stepped p)) _ r (p .step .result .state) _ (ap (λ (k : Stepped). k .state) (stepped p)) (c .before .before .before .before .if1 .taken) (c .before .before .store .ensures)
 
 returns-2 : tie.Need-returns-2
 returns-2 c =
@@ -30,7 +31,7 @@ returns-2 c =
     let a = p .before .before .before .before .before .before .args in
     let n = length (now (a .room)) in
     let r = p .step .ensures .1 ∙ ap (λ (s : Supervisor). roomAfter (now (a .room)) (stepWhole s (a .c) n .ended)) (p .before .before .state-in .ensures) in
-    did-refuse (now (a .state)) (now (a .room)) (stepWhole (stateIn (now (a .state))) (a .c) n) (p .step .result) (stepped p) _ r (c .if1 .left)
+    did-refuse stored (now (a .state)) (now (a .room)) (stepWhole (stateIn (now (a .state))) (a .c) n) (p .step .result .answer) (ap (λ (k : Stepped). k .answer) (stepped p)) _ r (c .if1 .left)
 
 pub take-call-spec : {M : Type 1} → statement M
 take-call-spec =
