@@ -21,6 +21,10 @@ package Fuzgerlint is
    Room_Length   : constant := 124;
    Answer_Length : constant := 7;
 
+   --  The second engine's state: no line of callers, and a row of 31 for each task at the end
+
+   Second_State_Length : constant := State_Length - 31 + 31 * 31;
+
    --  The contact debouncer: its settings, its card (the supervisor's bytes, then five for each contact), and its report
 
    Settings_Length : constant := 48;
@@ -99,6 +103,35 @@ package Fuzgerlint is
      (State  : System.Address; State_Length : Interfaces.C.size_t; Task_Number : Byte;
       Answer : System.Address; Answer_Length : Interfaces.C.size_t) return Byte;
    pragma Import (C, Priority, "card_priority");
+   --  The same of the second engine, over states of Second_State_Length bytes
+
+   function Second_Empty
+     (State : System.Address; State_Length : Interfaces.C.size_t; Clock : Interfaces.Unsigned_32) return Byte;
+   pragma Import (C, Second_Empty, "second_empty");
+
+   function Second_Sound (State : System.Address; State_Length : Interfaces.C.size_t) return Byte;
+   pragma Import (C, Second_Sound, "second_sound");
+
+   function Second_Step
+     (State  : System.Address; State_Length  : Interfaces.C.size_t;
+      Rec    : System.Address; Rec_Length    : Interfaces.C.size_t;
+      Room   : System.Address; Room_Length   : Interfaces.C.size_t;
+      Answer : System.Address; Answer_Length : Interfaces.C.size_t) return Byte;
+   pragma Import (C, Second_Step, "second_step");
+
+   function Second_Count
+     (State  : System.Address; State_Length : Interfaces.C.size_t; Task_Number, Entry_Number : Byte;
+      Answer : System.Address; Answer_Length : Interfaces.C.size_t) return Byte;
+   pragma Import (C, Second_Count, "second_count");
+
+   function Second_Callable
+     (State  : System.Address; State_Length : Interfaces.C.size_t; Task_Number : Byte;
+      Answer : System.Address; Answer_Length : Interfaces.C.size_t) return Byte;
+   pragma Import (C, Second_Callable, "second_callable");
+
+   function Second_Running
+     (State : System.Address; State_Length : Interfaces.C.size_t; Answer : System.Address; Answer_Length : Interfaces.C.size_t) return Byte;
+   pragma Import (C, Second_Running, "second_running");
 
    function Debounce_Fresh
      (Card     : System.Address; Card_Length     : Interfaces.C.size_t;

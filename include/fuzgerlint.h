@@ -6,7 +6,7 @@
  *   the slices of one call do not overlap;
  *   until a call has returned no other call uses the same state: who ticks from an interrupt masks it around each call;
  *   what interrupts a call on the same stack leaves the 128 bytes below the stack pointer as they are.
- * Each function but card_sound answers a refusal number, 0 for none. A refused call changes nothing but the answer. Bytes behind those
+ * Each function but card_sound and second_sound answers a refusal number, 0 for none. A refused call changes nothing but the answer. Bytes behind those
  * named here are left as they are. docs/CARD.md has the layout of a state and of a debouncer's card, and the stack that each function takes.
  */
 #ifndef FUZGERLINT_H
@@ -22,7 +22,8 @@ extern "C" {
 enum {
     CARD_STATE = 501, /* bytes of a state: clock 4, created 1, 31 tasks of 12, lines ready, callers, held, delays of 31 */
     CARD_ROOM = 124,  /* bytes of room for ended waits: 31 items of task, result, entry, partner */
-    CARD_ANSWER = 7   /* bytes of an answer: refusal, result, task, entry, partner, ended waits, dispatched task */
+    CARD_ANSWER = 7,  /* bytes of an answer: refusal, result, task, entry, partner, ended waits, dispatched task */
+    CARD_SECOND_STATE = CARD_STATE - 31 + 31 * 31 /* bytes of a state of the second engine: no line of callers, and a row of 31 for each task at the end */
 };
 
 enum {
@@ -98,6 +99,16 @@ uint8_t card_count(const uint8_t *state, size_t state_length, uint8_t task, uint
 uint8_t card_callable(const uint8_t *state, size_t state_length, uint8_t task, uint8_t *answer, size_t answer_length);
 uint8_t card_running(const uint8_t *state, size_t state_length, uint8_t *answer, size_t answer_length);
 uint8_t card_priority(const uint8_t *state, size_t state_length, uint8_t task, uint8_t *answer, size_t answer_length);
+
+/* The same of the second engine, which keeps all calls to a task in one queue, whatever the entry: the same calls get the same answers. Its states
+ * have CARD_SECOND_STATE bytes; those of one engine are none of the other. */
+uint8_t second_empty(uint8_t *state, size_t state_length, uint32_t clock);
+uint8_t second_sound(const uint8_t *state, size_t state_length);
+uint8_t second_step(uint8_t *state, size_t state_length, const uint8_t *record, size_t record_length,
+                    uint8_t *room, size_t room_length, uint8_t *answer, size_t answer_length);
+uint8_t second_count(const uint8_t *state, size_t state_length, uint8_t task, uint8_t entry, uint8_t *answer, size_t answer_length);
+uint8_t second_callable(const uint8_t *state, size_t state_length, uint8_t task, uint8_t *answer, size_t answer_length);
+uint8_t second_running(const uint8_t *state, size_t state_length, uint8_t *answer, size_t answer_length);
 
 /* The contact debouncer. Makes a card of settings: every contact is open. Refusal 1 where there are fewer than DEBOUNCE_CARD bytes, then 17
  * for anything but settings, and then there is no card: nothing is written. */

@@ -13,15 +13,8 @@
 long read(int file, void *to, size_t bytes);
 long write(int file, const void *from, size_t bytes);
 
-uint8_t OWN(sound)(const uint8_t *state, size_t state_length);
-uint8_t OWN(step)(uint8_t *state, size_t state_length, const uint8_t *record, size_t record_length,
-                  uint8_t *room, size_t room_length, uint8_t *answer, size_t answer_length);
-uint8_t OWN(count)(const uint8_t *state, size_t state_length, uint8_t task, uint8_t entry, uint8_t *answer, size_t answer_length);
-uint8_t OWN(callable)(const uint8_t *state, size_t state_length, uint8_t task, uint8_t *answer, size_t answer_length);
-uint8_t OWN(running)(const uint8_t *state, size_t state_length, uint8_t *answer, size_t answer_length);
-
-/* The bytes of a state: the second engine has 31 rows of callers where the first has one line. */
-enum { TASKS = 31, card_state = CARD_STATE, second_state = CARD_STATE - TASKS + TASKS * TASKS, STATE = OWN(state) };
+/* The bytes of a state, by the engine's word. */
+enum { card_state = CARD_STATE, second_state = CARD_SECOND_STATE, STATE = OWN(state) };
 enum { CASE = STATE + 17, BEFORE = 165 };
 
 struct reply {
