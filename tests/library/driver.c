@@ -18,7 +18,7 @@ enum { card_state = CARD_STATE, second_state = CARD_SECOND_STATE, STATE = OWN(st
 enum { CASE = STATE + 17, BEFORE = 165 };
 
 struct reply {
-    uint8_t refusal, sound, answer[9], state[STATE + 9], room[255], questions[6];
+    uint8_t refusal, sound, answer[9], state[STATE + 9], room[255], questions[8];
 };
 
 static int whole(uint8_t *to, size_t bytes) {
@@ -54,6 +54,7 @@ static void put(struct reply *r, const uint8_t *given) {
     q[0] = OWN(count)(r->state, state, given[5], given[6], q + 1, 1);
     q[2] = OWN(callable)(r->state, state, given[5], q + 3, 1);
     q[4] = OWN(running)(r->state, state, q + 5, 1);
+    q[6] = OWN(priority)(r->state, state, given[5], q + 7, 1);
     r->refusal = OWN(step)(r->state, state, given + 7, given[4], r->room, given[2], r->answer, given[3]);
 }
 

@@ -23,6 +23,8 @@ pub enum Aim {
     CallFirst,
     /// A call of a task that holds a caller already.
     CallHolder,
+    /// A call of the task that runs next, by one whom nobody calls.
+    CallNext,
     CallAny,
     CallCompleted,
     CallBad,
@@ -183,6 +185,7 @@ fn call(aim: Aim, random: &mut Random, state: &Supervisor, running: u8) -> Optio
     }
     let target = match aim {
         Aim::CallFirst => (running != 1 && lives(1)).then_some(1),
+        Aim::CallNext => next(state, running).filter(|&task| lives(task) && sets(state, running).0 == 0),
         Aim::CallHolder => random.pick(&those(state, |t| t != running && lives(t) && holding(state, t))),
         Aim::CallCompleted => random.pick(&those(state, |t| has_entries(t) && !state.callable(t))),
         Aim::CallSelf => has_entries(running).then_some(running),
@@ -194,9 +197,15 @@ fn call(aim: Aim, random: &mut Random, state: &Supervisor, running: u8) -> Optio
         Aim::CallEqual => CallMode::Timed(equal(random, state)?),
         Aim::CallSelf if !random.once_in(10) => CallMode::Timed(random.between(-1, 2) as i32),
         Aim::CallQueue | Aim::CallFirst | Aim::CallHolder => queue_mode(random, state),
+        Aim::CallNext => CallMode::Simple,
         _ => call_mode(random, state),
     };
     Some(Call::Call { target, entry, mode })
+}
+
+/// The task that runs when the running one leaves.
+fn next(state: &Supervisor, running: u8) -> Option<u8> {
+    state.ready.iter().rev().flatten().copied().find(|&task| task != running)
 }
 
 fn call_acceptor(random: &mut Random, state: &Supervisor) -> Option<Call> {

@@ -14,6 +14,7 @@ mod own;
 mod scenes;
 mod steps;
 mod supervisor;
+mod tree;
 
 use flat::{Flat, STATE};
 use numbers::{refusal, ROOM};

@@ -8,6 +8,7 @@ mod flat;
 mod numbers;
 mod steps;
 mod supervisor;
+mod tree;
 
 use std::io::Write;
 

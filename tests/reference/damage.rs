@@ -5,7 +5,7 @@ use crate::engines::CORE;
 use crate::flat::{self, field, tag, Flat, Line, ALL_LINES, CREATED, FIRST_TASK, LINES, STATE, TASK};
 use crate::forge;
 use crate::generate;
-use crate::numbers::{ROOM, TASKS};
+use crate::numbers::{LEVELS, ROOM, TASKS};
 use crate::random::Random;
 use crate::supervisor::Supervisor;
 
@@ -15,7 +15,7 @@ pub fn states(seed: u64, count: usize) -> Vec<Vec<u8>> {
     let mut found = Vec::new();
     while found.len() < count {
         let log_seed = random.next();
-        for log in generate::generate(log_seed, 8, 120) {
+        for log in generate::generate(log_seed, generate::THEMES.len(), 120) {
             let mut state = Supervisor::empty(log.clock);
             let mut room = [0; ROOM];
             for record in log.records().0 {
@@ -120,7 +120,10 @@ fn one_field(random: &mut Random, bytes: &mut [u8]) {
 
 fn task_field(random: &mut Random, task: &mut [u8], field: usize, clock: u32) {
     match field {
-        0 => task[field::PRIORITY] = random.one_of(&[0, 1, 15, 16, 255]),
+        0 => {
+            task[field::PRIORITY] = random.one_of(&[0, 1, 15, 16, 255]);
+            task[field::CURRENT] = random.one_of(&[task[field::PRIORITY], task[field::CURRENT]]);
+        }
         1 => task[field::ENTRIES] = random.below(10) as u8,
         2 => task[field::TAG] = random.below(8) as u8,
         3 if task[field::TAG] == tag::ACCEPTING => task[field::FIRST] ^= 1 << random.below(8),
@@ -132,12 +135,21 @@ fn task_field(random: &mut Random, task: &mut [u8], field: usize, clock: u32) {
             task[field::TIMED] = 0;
             task[field::DUE..].fill(0);
         }
-        7 => task[field::CURRENT] = random.one_of(&[0, 1, 15, 16, 255]),
-        8 => task[field::KEPT] = random.one_of(&[0, 1, 15, 16, 255]),
+        7 => task[field::CURRENT] = other_level(random, task[field::CURRENT]),
+        8 => task[field::KEPT] = other_level(random, task[field::KEPT]),
         _ => {
             let ticks = random.one_of(&[0, 1, i32::MAX as u32, 1 << 31, u32::MAX, 5]);
             task[field::DUE..].copy_from_slice(&clock.wrapping_add(ticks).to_be_bytes());
         }
+    }
+}
+
+/// A priority that is another, by one for the most part.
+fn other_level(random: &mut Random, level: u8) -> u8 {
+    match random.below(4) {
+        0 => random.one_of(&[0, 1, 15, 16, 255]),
+        1 => level.saturating_sub(1),
+        _ => level.wrapping_add(1),
     }
 }
 
@@ -177,10 +189,13 @@ fn another_line(random: &mut Random, bytes: &mut [u8], from: Line) {
 
 /// Damage that leaves every task in one place, but not what tasks ask of each other: a caller's target completes or
 /// waits for the very entry that has the caller, or has the entry no more; or an acceptor's open set is another; or a
-/// wait's time does not suit its place.
+/// wait's time does not suit its place; or tasks hold each other in a ring, or stored priorities do not agree.
 fn one_relation(random: &mut Random, bytes: &mut [u8]) {
-    if random.once_in(4) {
-        return another_time(random, bytes);
+    match random.below(8) {
+        0 | 1 => return another_time(random, bytes),
+        2 => return ring(random, bytes),
+        3 => return another_priority(random, bytes),
+        _ => {}
     }
     let line = random.one_of(&[Line::Callers, Line::Held]);
     let Some(caller) = random.pick(Flat(bytes).members(line)).filter(|&task| task as usize <= TASKS) else {
@@ -206,6 +221,52 @@ fn stand_apart(bytes: &mut [u8], task: u8, place: [u8; 2]) {
     let at = FIRST_TASK + (task as usize - 1) * TASK;
     bytes[at + field::TAG..at + field::ENTRY].copy_from_slice(&place);
     bytes[at + field::ENTRY..at + TASK].fill(0);
+}
+
+/// Some tasks hold each other in a ring, or all do, of the highest priority, so that no stored one disagrees.
+fn ring(random: &mut Random, bytes: &mut [u8]) {
+    let created = Flat(bytes).created();
+    let all = random.once_in(3);
+    let lives = |&task: &u8| all || Flat(bytes).tag(task) != tag::COMPLETED;
+    let mut members: Vec<u8> = (1..=created).filter(lives).collect();
+    let longest = random.one_of(&[1, 2, 3, 5]);
+    while members.len() > longest && !all {
+        members.remove(random.below(members.len()));
+    }
+    for &task in &members {
+        stand_apart(bytes, task, [tag::HELD, 0]);
+    }
+    for (i, &task) in members.iter().enumerate() {
+        let end = Flat(bytes).members(Line::Held).len();
+        bytes[LINES + Line::Held as usize * TASKS + end] = task;
+        let holder = members[(i + 1) % members.len()];
+        let own = &mut bytes[FIRST_TASK + (task as usize - 1) * TASK..][..TASK];
+        own[field::PRIORITY] = LEVELS as u8;
+        own[field::CURRENT] = LEVELS as u8;
+        own[field::ENTRIES] = own[field::ENTRIES].max(1);
+        own[field::FIRST] = holder;
+        own[field::ENTRY] = 1;
+    }
+    for &caller in Flat(&bytes.to_vec()).members(Line::Held) {
+        if members.contains(&Flat(bytes).partner(caller)) {
+            bytes[FIRST_TASK + (caller as usize - 1) * TASK + field::KEPT] = LEVELS as u8;
+        }
+    }
+}
+
+/// The created priority of a task that holds or is held is another, or two who are held change places in the line.
+fn another_priority(random: &mut Random, bytes: &mut [u8]) {
+    let held = Flat(bytes).members(Line::Held).to_vec();
+    let Some(caller) = random.pick(&held) else { return };
+    let start = LINES + Line::Held as usize * TASKS;
+    let task = random.one_of(&[caller, Flat(bytes).partner(caller)]);
+    let field = random.one_of(&[field::PRIORITY, field::CURRENT, field::KEPT]);
+    let at = FIRST_TASK + (task as usize - 1) * TASK + field;
+    match random.below(3) {
+        0 => bytes.swap(start + random.below(held.len()), start + random.below(held.len())),
+        1 => bytes[at] = random.between(1, LEVELS as i64) as u8,
+        _ => bytes[at] = other_level(random, bytes[at]),
+    }
 }
 
 fn acceptor_field(random: &mut Random, bytes: &mut [u8]) {

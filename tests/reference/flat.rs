@@ -8,6 +8,7 @@
 use crate::calls::number;
 use crate::numbers::{ENTRIES, LEVELS, LONGEST, TASKS};
 use crate::supervisor::{Place, Supervisor, Task, Timer};
+use crate::tree;
 
 pub const STATE: usize = LINES + ALL_LINES.len() * TASKS;
 pub const CREATED: usize = 4;
@@ -56,7 +57,6 @@ pub enum Rule {
     Created,
     UnusedPlaces,
     PriorityAndEntries,
-    CurrentPriority,
     Place,
     Timer,
     Lines,
@@ -68,6 +68,9 @@ pub enum Rule {
     CompletedIsFree,
     OpenSet,
     OpenEntryWithoutCaller,
+    Ring,
+    CurrentPriority,
+    KeptPriority,
 }
 
 #[derive(Clone, Copy)]
@@ -139,14 +142,16 @@ pub fn broken(state: Flat) -> Option<Rule> {
     if let Some(rule) = ALL_LINES.iter().find_map(|&line| broken_line(state, line)) {
         return Some(rule);
     }
-    broken_delays(state).or_else(|| state.tasks().find_map(|task| broken_place(state, task)))
+    if let Some(rule) = broken_delays(state) {
+        return Some(rule);
+    }
+    state.tasks().find_map(|task| broken_place(state, task)).or_else(|| tree::broken(state))
 }
 
 /// A task's own bytes: each in its range, unused ones 0.
 fn broken_fields(state: Flat, task: u8) -> Option<Rule> {
     let f = state.task(task);
-    let level = |at: usize| (1..=LEVELS as u8).contains(&f[at]);
-    if !level(field::PRIORITY) || f[field::ENTRIES] > ENTRIES {
+    if !(1..=LEVELS as u8).contains(&f[field::PRIORITY]) || f[field::ENTRIES] > ENTRIES {
         return Some(Rule::PriorityAndEntries);
     }
     let blank = match f[field::TAG] {
@@ -158,9 +163,6 @@ fn broken_fields(state: Flat, task: u8) -> Option<Rule> {
     };
     if !blank {
         return Some(Rule::Place);
-    }
-    if !level(field::CURRENT) || f[field::TAG] == tag::HELD && !level(field::KEPT) {
-        return Some(Rule::CurrentPriority);
     }
     let timer = match f[field::TIMED] {
         0 => number(&f[field::DUE..]) == 0 && f[field::TAG] != tag::DELAYED,

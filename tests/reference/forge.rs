@@ -1,5 +1,4 @@
-//! Sound states put together at random, most of which no log reaches: rings of held tasks, holders that wait,
-//! queues in any order.
+//! Sound states put together at random, most of which no log reaches: holders that wait, held callers and queues in any order.
 
 use crate::flat::{tag, FIRST_TASK, LINES, STATE, TASK};
 use crate::numbers::{LONGEST, TASKS};
@@ -28,9 +27,13 @@ pub fn state(random: &mut Random) -> Vec<u8> {
         let chosen = place(random, &parts, i, busiest);
         parts[i] = chosen;
     }
+    if random.once_in(12) {
+        chain(random, &mut parts);
+    }
     close_called_entries(&mut parts);
-    keep_priorities(random, &mut parts);
-    bytes(random, clock, &parts)
+    let held = shuffled(random, &parts, |part| part.tag == tag::HELD);
+    keep_priorities(&mut parts, &held);
+    bytes(random, clock, &parts, &held)
 }
 
 /// Ready, delayed or completed: what needs no other task.
@@ -49,7 +52,7 @@ fn some_ticks(random: &mut Random) -> u32 {
     }
 }
 
-/// Some of the tasks wait for another: one that is not completed and has entries.
+/// Some of the tasks wait for another: one that is not completed and has entries. Nobody is held in a ring.
 fn place(random: &mut Random, parts: &[Part], i: usize, busiest: u8) -> Part {
     let part = Part { ticks: None, ..parts[i] };
     let callable = |&task: &u8| parts[task as usize - 1].tag != tag::COMPLETED && parts[task as usize - 1].entries > 0;
@@ -69,9 +72,25 @@ fn place(random: &mut Random, parts: &[Part], i: usize, busiest: u8) -> Part {
         return Part { tag, first: open, ticks, ..part };
     }
     let first = random.one_of(&partners);
+    if tag == tag::HELD && way_up(parts, first as usize - 1).contains(&i) {
+        return parts[i];
+    }
     let entry = random.between(1, parts[first as usize - 1].entries as i64) as u8;
     let ticks = if tag == tag::QUEUED { timed } else { None };
     Part { tag, first, entry, ticks, ..part }
+}
+
+/// Each task is held by the next, in any order of their numbers; the last is ready.
+fn chain(random: &mut Random, parts: &mut [Part]) {
+    let order = shuffled(random, parts, |_| true);
+    for (i, &task) in order.iter().enumerate() {
+        let entries = random.between(1, 8) as u8;
+        let part = Part { entries, ticks: None, first: 0, entry: 0, ..parts[task as usize - 1] };
+        parts[task as usize - 1] = match order.get(i + 1) {
+            Some(&holder) => Part { tag: tag::HELD, first: holder, entry: 1, ..part },
+            None => Part { tag: tag::READY, ..part },
+        };
+    }
 }
 
 /// An acceptor's open entries have no caller; one that loses its last open entry becomes ready.
@@ -89,21 +108,32 @@ fn close_called_entries(parts: &mut [Part]) {
     }
 }
 
-/// Some tasks have another current priority than their own; what a holder had before is no more than it has now.
-fn keep_priorities(random: &mut Random, parts: &mut [Part]) {
-    for part in parts.iter_mut() {
-        if random.once_in(4) {
-            part.current = random.between(1, 15) as u8;
+/// The next on the way from a task, numbered from 0, to its holder.
+fn holder(parts: &[Part], i: usize) -> Option<usize> {
+    (parts[i].tag == tag::HELD).then(|| parts[i].first as usize - 1)
+}
+
+fn way_up(parts: &[Part], i: usize) -> Vec<usize> {
+    std::iter::successors(Some(i), |&at| holder(parts, at)).collect()
+}
+
+/// The current priorities follow from the created ones, and what is kept from the order of the line of held callers.
+fn keep_priorities(parts: &mut [Part], held: &[u8]) {
+    for i in 0..parts.len() {
+        for at in way_up(parts, i) {
+            parts[at].current = parts[at].current.max(parts[i].priority);
         }
     }
-    for i in 0..parts.len() {
-        if parts[i].tag == tag::HELD {
-            parts[i].kept = random.between(1, parts[parts[i].first as usize - 1].current as i64) as u8;
-        }
+    let mut had: Vec<u8> = parts.iter().map(|part| part.priority).collect();
+    for &caller in held {
+        let caller = caller as usize - 1;
+        let holder = parts[caller].first as usize - 1;
+        parts[caller].kept = had[holder];
+        had[holder] = had[holder].max(parts[caller].current);
     }
 }
 
-fn bytes(random: &mut Random, clock: u32, parts: &[Part]) -> Vec<u8> {
+fn bytes(random: &mut Random, clock: u32, parts: &[Part], held: &[u8]) -> Vec<u8> {
     let mut bytes = clock.to_be_bytes().to_vec();
     bytes.push(parts.len() as u8);
     for part in parts {
@@ -114,10 +144,11 @@ fn bytes(random: &mut Random, clock: u32, parts: &[Part]) -> Vec<u8> {
     }
     debug_assert_eq!(bytes.len(), FIRST_TASK + parts.len() * TASK);
     bytes.resize(LINES, 0);
-    for tag in [tag::READY, tag::QUEUED, tag::HELD] {
-        let mut line = shuffled(random, parts, |part| part.tag == tag);
-        line.resize(TASKS, 0);
+    let ready = shuffled(random, parts, |part| part.tag == tag::READY);
+    let callers = shuffled(random, parts, |part| part.tag == tag::QUEUED);
+    for line in [&ready, &callers, held] {
         bytes.extend(line);
+        bytes.resize(bytes.len() + TASKS - line.len(), 0);
     }
     let mut delays = shuffled(random, parts, |part| part.ticks.is_some());
     delays.sort_by_key(|&task| parts[task as usize - 1].ticks);

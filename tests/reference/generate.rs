@@ -9,7 +9,7 @@ use crate::spoil;
 use crate::supervisor::Supervisor;
 
 /// A log's theme: how often each aim is tried, and how tasks are made.
-struct Theme {
+pub struct Theme {
     weights: &'static [(Aim, usize)],
     /// Tasks made at the start.
     tasks: (i64, i64),
@@ -24,8 +24,8 @@ struct Theme {
 const PLAIN: Theme =
     Theme { weights: &[], tasks: (3, 10), priorities: (1, 15), entries: (1, 3), low_first: false, short: false };
 
-const THEMES: [Theme; 11] =
-    [MIXED, MEETINGS, SPOILT, NESTED, TIMES, CROWD, SPOILT, ENDINGS, MISTAKES, LEVELS, INVERSION];
+pub const THEMES: [Theme; 12] =
+    [MIXED, MEETINGS, SPOILT, NESTED, TIMES, CROWD, SPOILT, ENDINGS, MISTAKES, LEVELS, INVERSION, DEEP];
 
 const MIXED: Theme = Theme {
     weights: &[
@@ -228,6 +228,21 @@ const INVERSION: Theme = Theme {
     priorities: (1, 9),
     entries: (1, 3),
     low_first: true,
+    ..PLAIN
+};
+
+/// A task that holds another calls the next one, which accepts it, and so on.
+const DEEP: Theme = Theme {
+    weights: &[
+        (Aim::Delay, 1),
+        (Aim::DelayNone, 1),
+        (Aim::CallNext, 80),
+        (Aim::SelectCaller, 120),
+        (Aim::End, 3),
+        (Aim::Tick, 1),
+    ],
+    tasks: (29, 31),
+    entries: (1, 2),
     ..PLAIN
 };
 

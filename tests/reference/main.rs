@@ -27,6 +27,7 @@ mod states;
 mod steps;
 mod supervisor;
 mod tally;
+mod tree;
 mod words;
 
 use engines::Engine;

@@ -165,6 +165,7 @@ impl Ledger {
             demand(waits.begun == waits.ended + usize::from(waiting), "begun are ended and the one it is in")?;
             demand(waits.ticks_left != Some(0), "no wait outlives its time")?;
             demand(waits.ticks_left.is_some() == after.timer(task).is_some(), "a time runs while its wait does")?;
+            demand(after.task(task).current == after.priority(task), "a current priority is that of the tree below")?;
             let above = after.task(task).place == Place::Ready
                 && (a.next == 0 || after.task(task).current > after.task(a.next).current);
             demand(!above, "the highest ready level runs")?;

@@ -1,4 +1,5 @@
-//! What an accepted step does to current priorities: the events of document 02 (i) that must occur in the generated logs.
+//! What an accepted step does to current priorities and to the tree of held callers: the events of document 02 (i) and (xi) that must occur
+//! in the generated logs.
 
 use crate::calls::Call;
 use crate::numbers::result;
@@ -18,7 +19,7 @@ pub struct Move<'a> {
 
 type Event = (&'static str, fn(&Move) -> bool);
 
-pub const EVENTS: [Event; 21] = [
+pub const EVENTS: [Event; 26] = [
     ("CALL raises a resumed acceptor", |m| m.resumed().is_some_and(|task| m.raised(task))),
     ("CALL raises a resumed acceptor, others ready on its new level", |m| {
         m.resumed().is_some_and(|task| m.raised(task) && m.level(task) > 1)
@@ -63,6 +64,15 @@ pub const EVENTS: [Event; 21] = [
     ("a raised task waits", |m| m.answer.result == result::WAITS && is_raised(m.before.task(m.running))),
     ("a wait of a raised task ends by time", |m| {
         m.ticks() && m.ended.iter().any(|&task| is_raised(m.after.task(task)))
+    }),
+    ("a rendezvous makes a chain of 10 moves or more", |m| m.longest_chain() >= 10),
+    ("a rendezvous makes a chain of 30 moves", |m| m.longest_chain() == 30),
+    ("a task holds two who hold others", |m| {
+        m.begins().is_some_and(|task| m.after.task(task).held.iter().filter(|&&held| m.holds(held)).count() > 1)
+    }),
+    ("END in a chain of 10 moves or more", |m| *m.call == Call::End && m.chain(m.running) >= 10),
+    ("a priority that comes from two moves below or more", |m| {
+        m.begins().is_some_and(|task| m.latest(task).is_some_and(|caller| caller.priority < m.after.task(task).current))
     }),
     ("TICK preempts a raised task", |m| {
         m.ticks() && m.running != 0 && is_raised(m.before.task(m.running)) && m.answer.next != m.running
@@ -111,6 +121,22 @@ impl Move<'_> {
     /// The caller that the task holds since this step.
     fn latest(&self, task: u8) -> Option<&Task> {
         self.after.task(task).held.last().map(|&caller| self.before.task(caller))
+    }
+
+    fn holds(&self, task: u8) -> bool {
+        !self.after.task(task).held.is_empty()
+    }
+
+    /// The most moves that lead up to a task that holds: before its END, behind any other call.
+    fn chain(&self, task: u8) -> usize {
+        let state = if *self.call == Call::End { self.before } else { self.after };
+        let moves = |below: u8| state.way_up(below).position(|above| above == task);
+        (1..=state.tasks.len() as u8).filter_map(moves).max().unwrap_or(0)
+    }
+
+    /// The most moves that lead up to the acceptor of a rendezvous that begins.
+    fn longest_chain(&self) -> usize {
+        self.begins().map_or(0, |task| self.chain(task))
     }
 
     /// Whether the other's priority lies between the created one of a task and its current one.

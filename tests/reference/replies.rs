@@ -4,7 +4,7 @@
 //! the room, for the answer and for the record, and the task and the entry that are asked about; and ten bytes that begin
 //! with the record. What is lent lies at the start of a longer stretch that is filled with 165. A reply is the refusal that the
 //! step returns; 1 if the state is sound; the stretches of the answer (9), of the state (9 more than it has) and of
-//! the room (255) afterwards; refusal and number of COUNT, of CALLABLE and of the dispatched task.
+//! the room (255) afterwards; refusal and number of COUNT, of CALLABLE, of the dispatched task and of the priority.
 
 use crate::calls::{self, Read};
 use crate::engines::Engine;
@@ -18,6 +18,8 @@ const BEHIND: usize = 9;
 /// What lent bytes hold before.
 const BEFORE: u8 = 165;
 const END_OF_LOG: u8 = 12;
+/// Bytes of the replies to the questions.
+const QUESTIONS: usize = 8;
 
 /// The bytes of a case.
 pub fn case_size(engine: Engine) -> usize {
@@ -25,7 +27,7 @@ pub fn case_size(engine: Engine) -> usize {
 }
 
 pub fn reply_size(engine: Engine) -> usize {
-    2 + ANSWER_STRETCH + engine.size() + BEHIND + ROOM_STRETCH + 6
+    2 + ANSWER_STRETCH + engine.size() + BEHIND + ROOM_STRETCH + QUESTIONS
 }
 
 /// How much is lent, and what is asked.
@@ -75,9 +77,10 @@ fn step(state: &mut Option<Supervisor>, record: &[u8], room: &mut [u8]) -> Answe
 pub fn reply_to(engine: Engine, case: &[u8]) -> Vec<u8> {
     let (bytes, lent, record) = parts(engine, case);
     let mut state = state_of(engine, bytes, lent.state);
+    let [task, entry] = lent.asked;
     let questions = match &state {
-        Some(s) => [0, s.count(lent.asked[0], lent.asked[1]), 0, u8::from(s.callable(lent.asked[0])), 0, s.running()],
-        None => [refusal::BAD_STATE, 0, refusal::BAD_STATE, 0, refusal::BAD_STATE, 0],
+        Some(s) => [0, s.count(task, entry), 0, u8::from(s.callable(task)), 0, s.running(), 0, s.priority(task)],
+        None => [refusal::BAD_STATE, 0].repeat(QUESTIONS / 2).try_into().unwrap_or([0; QUESTIONS]),
     };
     let sound = u8::from(state.is_some());
     let mut answer = [BEFORE; ANSWER_STRETCH];

@@ -8,6 +8,7 @@ mod numbers;
 mod states;
 mod steps;
 mod supervisor;
+mod tree;
 
 fn main() -> std::io::Result<()> {
     let files: Vec<String> = std::env::args().skip(1).collect();

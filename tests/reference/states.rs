@@ -2,11 +2,10 @@
 
 use crate::flat::{self, Flat, Rule, STATE};
 
-const RULES: [Rule; 15] = [
+const RULES: [Rule; 17] = [
     Rule::Created,
     Rule::UnusedPlaces,
     Rule::PriorityAndEntries,
-    Rule::CurrentPriority,
     Rule::Place,
     Rule::Timer,
     Rule::Lines,
@@ -18,6 +17,9 @@ const RULES: [Rule; 15] = [
     Rule::CompletedIsFree,
     Rule::OpenSet,
     Rule::OpenEntryWithoutCaller,
+    Rule::Ring,
+    Rule::CurrentPriority,
+    Rule::KeptPriority,
 ];
 
 /// The states of an input; bytes behind the last whole one are left out.

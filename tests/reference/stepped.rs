@@ -8,6 +8,7 @@ mod numbers;
 mod replies;
 mod steps;
 mod supervisor;
+mod tree;
 
 use engines::Engine;
 use std::io::Write;

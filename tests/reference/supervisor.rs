@@ -121,6 +121,34 @@ impl Supervisor {
         self.created(task) && self.task(task).place != Place::Completed
     }
 
+    /// From a task to its holder, and on; itself comes first. In a ring it would not end: no way has more tasks than there are.
+    pub fn way_up(&self, task: u8) -> impl Iterator<Item = u8> + '_ {
+        let holder = |task: &u8| match self.task(*task).place {
+            Place::Held { holder, .. } => Some(holder),
+            _ => None,
+        };
+        std::iter::successors(Some(task), holder).take(TASKS + 1)
+    }
+
+    /// For each task the highest created priority among itself and everyone below it in the tree of held callers, task 1 at 0.
+    fn worked_out(&self) -> Vec<u8> {
+        let mut highest = vec![0; self.tasks.len()];
+        for (i, below) in self.tasks.iter().enumerate() {
+            for task in self.way_up(i as u8 + 1) {
+                highest[task as usize - 1] = below.priority.max(highest[task as usize - 1]);
+            }
+        }
+        highest
+    }
+
+    /// A task's priority, worked out afresh; 0 for a number not created.
+    pub fn priority(&self, task: u8) -> u8 {
+        if !self.created(task) {
+            return 0;
+        }
+        self.worked_out()[task as usize - 1]
+    }
+
     /// How many ticks are left until `due`, counted round the clock.
     pub fn left(&self, due: u32) -> u32 {
         due.wrapping_sub(self.clock)
@@ -140,16 +168,13 @@ impl Supervisor {
             && self.callers_sound(&mut seen)
             && self.others_sound(&mut seen)
             && self.delays_sound()
+            && self.holders_sound()
     }
 
     fn tasks_sound(&self) -> bool {
         self.tasks.iter().all(|task| {
             let idle = task.held.is_empty() && task.queues.iter().all(|queue| queue.is_empty());
-            let kept = match task.place {
-                Place::Held { kept, .. } => kept,
-                _ => 1,
-            };
-            [task.priority, task.current, kept].iter().all(|level| (1..=LEVELS as u8).contains(level))
+            (1..=LEVELS as u8).contains(&task.priority)
                 && task.queues.len() <= 8
                 && (task.place != Place::Completed || idle)
         })
@@ -222,6 +247,26 @@ impl Supervisor {
         let closed = |k: u8| open & (1 << k) == 0;
         (0..8).all(|k| closed(k) || queues.get(k as usize).is_some_and(|queue| queue.is_empty()))
             && (open != 0 || self.timer(task).is_some())
+    }
+
+    /// No ring of holders, and the stored priorities are those worked out afresh: a kept one is what the holder had before.
+    fn holders_sound(&self) -> bool {
+        let ring = (1..=self.tasks.len() as u8).any(|task| self.way_up(task).count() > TASKS);
+        let current = |(task, worked_out): (&Task, &u8)| task.current == *worked_out;
+        !ring
+            && self.tasks.iter().zip(&self.worked_out()).all(current)
+            && self.tasks.iter().all(|task| self.kept_before(task))
+    }
+
+    /// Whether what is kept for each whom the task holds is what it had before: its own and those held by then.
+    fn kept_before(&self, task: &Task) -> bool {
+        let mut had = task.priority;
+        task.held.iter().all(|&caller| {
+            let caller = self.task(caller);
+            let right = matches!(caller.place, Place::Held { kept, .. } if kept == had);
+            had = had.max(caller.current);
+            right
+        })
     }
 
     fn delays_sound(&self) -> bool {
