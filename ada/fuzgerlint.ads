@@ -133,6 +133,11 @@ package Fuzgerlint is
      (State : System.Address; State_Length : Interfaces.C.size_t; Answer : System.Address; Answer_Length : Interfaces.C.size_t) return Byte;
    pragma Import (C, Second_Running, "second_running");
 
+   function Second_Priority
+     (State  : System.Address; State_Length : Interfaces.C.size_t; Task_Number : Byte;
+      Answer : System.Address; Answer_Length : Interfaces.C.size_t) return Byte;
+   pragma Import (C, Second_Priority, "second_priority");
+
    function Debounce_Fresh
      (Card     : System.Address; Card_Length     : Interfaces.C.size_t;
       Settings : System.Address; Settings_Length : Interfaces.C.size_t) return Byte;

@@ -108,6 +108,7 @@ uint8_t second_step(uint8_t *state, size_t state_length, const uint8_t *record, 
                     uint8_t *room, size_t room_length, uint8_t *answer, size_t answer_length);
 uint8_t second_count(const uint8_t *state, size_t state_length, uint8_t task, uint8_t entry, uint8_t *answer, size_t answer_length);
 uint8_t second_callable(const uint8_t *state, size_t state_length, uint8_t task, uint8_t *answer, size_t answer_length);
+uint8_t second_priority(const uint8_t *state, size_t state_length, uint8_t task, uint8_t *answer, size_t answer_length);
 uint8_t second_running(const uint8_t *state, size_t state_length, uint8_t *answer, size_t answer_length);
 
 /* The contact debouncer. Makes a card of settings: every contact is open. Refusal 1 where there are fewer than DEBOUNCE_CARD bytes, then 17

@@ -13,6 +13,7 @@ use Rattle.card.proofs.by_rows.second_sound.Reads as second-sound
 use Rattle.card.proofs.by_rows.second_step.Reads as second-step
 use Rattle.card.proofs.by_rows.second_count.Reads as second-count
 use Rattle.card.proofs.by_rows.second_callable.Reads as second-callable
+use Rattle.card.proofs.by_rows.second_priority.Reads as second-priority
 use Rattle.card.proofs.by_rows.second_running.Reads as second-running
 use Rattle.card.proofs.contacts.debounce_fresh.Reads as debounce-fresh
 use Rattle.card.proofs.contacts.debounce_tick.Reads as debounce-tick
@@ -57,6 +58,9 @@ second-count-once κs x r r′ y y′ p q = (p .0 ∙ sym (q .0), p .1 ∙ sym (
 
 pub second-callable-once : (κs : _) (x : _) (r r′ : _) (y y′ : _) → second-callable.Learnt κs x r y → second-callable.Learnt κs x r′ y′ → (r ≡ r′) × (now (y .1 .1 .0) ≡ now (y′ .1 .1 .0))
 second-callable-once κs x r r′ y y′ p q = (p .0 ∙ sym (q .0), p .1 ∙ sym (q .1))
+
+pub second-priority-once : (κs : _) (x : _) (r r′ : _) (y y′ : _) → second-priority.Learnt κs x r y → second-priority.Learnt κs x r′ y′ → (r ≡ r′) × (now (y .1 .1 .0) ≡ now (y′ .1 .1 .0))
+second-priority-once κs x r r′ y y′ p q = (p .0 ∙ sym (q .0), p .1 ∙ sym (q .1))
 
 pub second-running-once : (κs : _) (x : _) (r r′ : _) (y y′ : _) → second-running.Learnt κs x r y → second-running.Learnt κs x r′ y′ → (r ≡ r′) × (now (y .1 .0) ≡ now (y′ .1 .0))
 second-running-once κs x r r′ y y′ p q = (p .0 ∙ sym (q .0), p .1 ∙ sym (q .1))

@@ -3,7 +3,7 @@ ghost use mathlib.Core.List.{_++_};
 ghost use mathlib.Core.Path.{_≡_};
 ghost use lib.ListN.{length, drop};
 ghost use Rattle.lists.specs.Lists.{bit};
-ghost use Rattle.rules.specs.Second.{startSecond, soundSecond, stepSecond, countSecond, callableSecond, runningSecond};
+ghost use Rattle.rules.specs.Second.{startSecond, soundSecond, stepSecond, countSecond, callableSecond, runningSecond, prioritySecond};
 ghost use Rattle.rules.specs.Step.{roomAfter};
 ghost use Rattle.rules.specs.Whole.{answerOf};
 ghost use Rattle.codec.specs.Rows.{secondSize, secondIn, storedSecond};
@@ -127,4 +127,15 @@ pub extern "C" fn second_running(state: &[u8], answer: &mut [u8]) -> u8
     let x = second_in(state);
     let k = second::running(x);
     put_one(answer, k.refusal, k.task)
+}
+
+// The priority of a task, worked out afresh; 0 for a number not created.
+#[no_mangle]
+pub extern "C" fn second_priority(state: &[u8], task: u8, answer: &mut [u8]) -> u8
+    ensures { λ r. ⌜ r ≡ ifRoom 1 (now (answer .entry)) 1 (prioritySecond (secondIn (now (state .entry))) task .refusal) ⌝ }
+    ensures { λ _. ⌜ now (answer .exit) ≡ oneAfter (now (answer .entry)) (prioritySecond (secondIn (now (state .entry))) task .priority) ⌝ }
+{
+    let x = second_in(state);
+    let k = second::priority(x, task);
+    put_one(answer, k.refusal, k.priority)
 }

@@ -13,6 +13,7 @@ use Rattle.card.proofs.by_rows.second_sound.Met as second-sound
 use Rattle.card.proofs.by_rows.second_step.Met as second-step
 use Rattle.card.proofs.by_rows.second_count.Met as second-count
 use Rattle.card.proofs.by_rows.second_callable.Met as second-callable
+use Rattle.card.proofs.by_rows.second_priority.Met as second-priority
 use Rattle.card.proofs.by_rows.second_running.Met as second-running
 use Rattle.card.proofs.contacts.debounce_fresh.Met as debounce-fresh
 use Rattle.card.proofs.contacts.debounce_tick.Met as debounce-tick
@@ -43,6 +44,7 @@ linked = record {
   second-step = second-step.met;
   second-count = second-count.met;
   second-callable = second-callable.met;
+  second-priority = second-priority.met;
   second-running = second-running.met;
   debounce-fresh = debounce-fresh.met;
   debounce-tick = debounce-tick.met;
@@ -69,6 +71,7 @@ linked = record {
   second-step-asks = λ κs x. tt;
   second-count-asks = λ κs x. tt;
   second-callable-asks = λ κs x. tt;
+  second-priority-asks = λ κs x. tt;
   second-running-asks = λ κs x. tt;
   debounce-fresh-asks = λ κs x. tt;
   debounce-tick-asks = λ κs x. tt;

@@ -21,6 +21,7 @@ use Rattle.card.proofs.by_rows.second_sound.Statement as second-sound
 use Rattle.card.proofs.by_rows.second_step.Statement as second-step
 use Rattle.card.proofs.by_rows.second_count.Statement as second-count
 use Rattle.card.proofs.by_rows.second_callable.Statement as second-callable
+use Rattle.card.proofs.by_rows.second_priority.Statement as second-priority
 use Rattle.card.proofs.by_rows.second_running.Statement as second-running
 use Rattle.card.proofs.contacts.debounce_fresh.Statement as debounce-fresh
 use Rattle.card.proofs.contacts.debounce_tick.Statement as debounce-tick
@@ -36,6 +37,7 @@ use Rattle.card.proofs.by_rows.second_sound.Reads as of-second-sound
 use Rattle.card.proofs.by_rows.second_step.Reads as of-second-step
 use Rattle.card.proofs.by_rows.second_count.Reads as of-second-count
 use Rattle.card.proofs.by_rows.second_callable.Reads as of-second-callable
+use Rattle.card.proofs.by_rows.second_priority.Reads as of-second-priority
 use Rattle.card.proofs.by_rows.second_running.Reads as of-second-running
 use Rattle.card.proofs.contacts.debounce_fresh.Reads as of-debounce-fresh
 use Rattle.card.proofs.contacts.debounce_tick.Reads as of-debounce-tick
@@ -83,6 +85,7 @@ pub record Linked : Type 2 where
   pub second-step : {M : Type 1} → second-step.statement M
   pub second-count : {M : Type 1} → second-count.statement M
   pub second-callable : {M : Type 1} → second-callable.statement M
+  pub second-priority : {M : Type 1} → second-priority.statement M
   pub second-running : {M : Type 1} → second-running.statement M
   pub debounce-fresh : {M : Type 1} → debounce-fresh.statement M
   pub debounce-tick : {M : Type 1} → debounce-tick.statement M
@@ -110,6 +113,7 @@ pub record Linked : Type 2 where
   pub second-step-asks : AsksNothing of-second-step.Asked
   pub second-count-asks : AsksNothing of-second-count.Asked
   pub second-callable-asks : AsksNothing of-second-callable.Asked
+  pub second-priority-asks : AsksNothing of-second-priority.Asked
   pub second-running-asks : AsksNothing of-second-running.Asked
   pub debounce-fresh-asks : AsksNothing of-debounce-fresh.Asked
   pub debounce-tick-asks : AsksNothing of-debounce-tick.Asked
