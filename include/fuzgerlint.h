@@ -101,7 +101,7 @@ uint8_t card_running(const uint8_t *state, size_t state_length, uint8_t *answer,
 uint8_t card_priority(const uint8_t *state, size_t state_length, uint8_t task, uint8_t *answer, size_t answer_length);
 
 /* The same of the second engine, which keeps all calls to a task in one queue, whatever the entry: the same calls get the same answers. Its states
- * have CARD_SECOND_STATE bytes; those of one engine are none of the other. */
+ * have CARD_SECOND_STATE bytes. A state stays with the engine that made it: functions given the other's bytes may take them for a state. */
 uint8_t second_empty(uint8_t *state, size_t state_length, uint32_t clock);
 uint8_t second_sound(const uint8_t *state, size_t state_length);
 uint8_t second_step(uint8_t *state, size_t state_length, const uint8_t *record, size_t record_length,
