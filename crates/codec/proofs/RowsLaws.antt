@@ -1,26 +1,25 @@
 -- The second engine's bytes: its rows one behind the other, and what is put is read back, whatever bytes follow. Assumes nothing.
-use Prim.Native.Nat.{ℕ, zero, suc, _+_, _-_, _*_, _<_, _≤_}
+use Prim.Native.Nat.{ℕ, suc, _+_, _-_, _*_, _<_, _≤_}
 use mathlib.Core.Path.{_≡_, refl, sym, ap, _∙_}
-use mathlib.Core.Bool.{true, false}
+use mathlib.Core.Bool.{false}
 use mathlib.Core.List.{List, [], _∷_, _++_, append-assoc, append-nil}
 use native.Mathlib.Numerals.{add-one}
 use native.Mathlib.Omega.{arith}
 use borrow.Author.Tests.{lt-ltb, le-ltb, ltb-true}
 use lib.Dec.{ltb}
-use lib.ListN.{length, replicate, set, take, drop, take-append-drop, length-append, length-take, length-drop, drop-of-length-le}
+use lib.ListN.{length, replicate, set, take, drop, take-append-drop, length-append, length-take, drop-of-length-le}
 use lib.Seq.{take-at, drop-at, drop-drop, take-all, take-suc-set, append-snoc}
 use Rattle.lists.proofs.ListLaws.{by-bool}
 use Rattle.lists.proofs.Tests.{if-true, if-false}
 use Rattle.rules.specs.Second.{soundSecond}
-use Rattle.rules.specs.Whole.{TypedCore}
 use Rattle.rules.specs.declared.Core.{Core}
 use Rattle.rules.specs.declared.Row.{Row}
 use Rattle.rules.specs.declared.Second.{Second}
 use Rattle.rules.specs.declared.Supervisor.{Supervisor}
-use Rattle.codec.specs.Layout.{tasksSize, stateSize, tasksBytes, encode, isEncoding, decode, lost, stateIn, putAt, stored}
-use Rattle.codec.specs.Rows.{rowsAt, rowPlace, secondSize, coreBytes, rowsBytes, encodeSecond, rowsIn, noRows, coreFrom, asFirst, lostSecond, secondIn, putRows, storedSecond}
+use Rattle.codec.specs.Layout.{stateSize, encode, isEncoding, decode, lost, stateIn, putAt, stored}
+use Rattle.codec.specs.Rows.{rowsAt, rowPlace, secondSize, coreBytes, rowsBytes, encodeSecond, rowsIn, coreFrom, asFirst, lostSecond, secondIn, putRows, storedSecond}
 use Rattle.codec.proofs.CodecLaws.{turns, tasks-long}
-use Rattle.codec.proofs.Kept.{Sized, encode-long, kept}
+use Rattle.codec.proofs.Kept.{Sized, kept}
 
 -- ── the rows are read ──
 

@@ -1,13 +1,12 @@
 use native.Mathlib.Omega.{arith}
 use borrow.Author.Needs.{needs}
-use Prim.Native.Nat.{ℕ, _+_, _-_, _≤_, _<_}
+use Prim.Native.Nat.{ℕ, _+_, _-_, _≤_}
 use mathlib.Core.Path.{_≡_, refl, sym, ap, _∙_}
 use mathlib.Core.List.{List, [], _∷_}
 use lib.ListN.{length, getD, drop}
 use Rattle.lists.proofs.ListLaws.{mapped-long}
 use Rattle.lists.proofs.Turns.{rest-cons}
 use Rattle.rules.specs.declared.Row.{Row}
-use Rattle.codec.specs.Layout.{putAt}
 use Rattle.codec.specs.Rows.{rowPlace, secondSize, putRows}
 use Rattle.codec.proofs.CodecLaws.{put-length, placed-fits}
 use Rattle.codec.proofs.RowsLaws.{put-row, put-rows-end}

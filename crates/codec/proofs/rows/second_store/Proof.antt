@@ -1,13 +1,13 @@
 use native.Mathlib.Omega.{arith}
 use borrow.Author.Needs.{needs}
 use Prim.Native.Nat.{_≤_}
-use mathlib.Core.Path.{_≡_, ap, _∙_}
+use mathlib.Core.Path.{ap, _∙_}
 use lib.ListN.{length}
 use denote.Ref.{now}
 use Rattle.lists.proofs.ListLaws.{mapped-long}
 use Rattle.rules.specs.declared.Supervisor.{Supervisor}
 use Rattle.codec.specs.Layout.{stored}
-use Rattle.codec.specs.Rows.{secondSize, asFirst}
+use Rattle.codec.specs.Rows.{secondSize}
 use Rattle.codec.proofs.RowsLaws.{SizedCore, stored-second-short, stored-second-long}
 use Rattle.codec.proofs.rows.second_store.Statement.{statement}
 use Rattle.codec.proofs.rows.second_store.Tie as tie
