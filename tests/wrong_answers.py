@@ -34,7 +34,7 @@ WALKED = {
 # the declarations of a walk that say which code is walked
 CODE = {"code-walked", "begins"}
 # what the prover says of two sides that are not equal, or of a goal that does not follow
-FACT = re.compile(r"first differ|differ only|the two types|does not follow|no proof of|what it leaves must be")
+FACT = re.compile(r"first differ|differ only|the two types|the two values|does not follow|no proof of|what it leaves must be")
 
 
 def crates():
@@ -51,9 +51,11 @@ def function_of(file, text, at):
     return path + (CONTRACT if CLAUSE.match(lines[-1]) else "") if names else None
 
 
-def proof_of(where):
-    """The proof file of a function."""
-    return "proofs/" + where.replace("::", "/") + "/Proof.antt"
+def proof_of(crate, where):
+    """The proof file of a function; that of one that calls itself stands under `+NAME`."""
+    *modules, name = where.split("::")
+    own = "/".join(["proofs", *modules, "+" + name, "Proof.antt"])
+    return own if (Path("crates") / crate / own).exists() else own.replace("+" + name, name)
 
 
 def refusing(wrong):
@@ -69,7 +71,7 @@ def amiss_with(wrong):
     if (wrong.law is None) != in_body:
         yield "a law is named for a definition and for a contract, and for nothing else"
     if wrong.at and wrong.where:
-        proof = Path("crates") / wrong.crate / proof_of(wrong.where)
+        proof = Path("crates") / wrong.crate / proof_of(wrong.crate, wrong.where)
         if not proof.exists() or not re.search(rf"(?m)^(?:pub )?{re.escape(wrong.at)} :", proof.read_text()):
             yield f"{wrong.at} is not declared in {proof}"
 
@@ -169,8 +171,8 @@ def refused(log, wrong):
     the search that stands in for a proof."""
     if not wrong.law and not wrong.at and re.search(rf"(?m)^fn {wrong.crate}::{wrong.where}: no proof: .*`search` does not close", log):
         return True
-    proof = wrong.law[0] if wrong.law else proof_of(wrong.where)
-    said = re.findall(rf"(?m)^\S*/{proof}:\d+:\d+: error: `([^`]*)`: (.*(?:\n  .*)*)", log)
+    proof = wrong.law[0] if wrong.law else proof_of(wrong.crate, wrong.where)
+    said = re.findall(rf"(?m)^\S*/{re.escape(proof)}:\d+:\d+: error: `([^`]*)`: (.*(?:\n  .*)*)", log)
     facts = {part for part, why in said if FACT.search(why)}
     if wrong.law or wrong.at:
         return (wrong.at or wrong.law[1]) in facts

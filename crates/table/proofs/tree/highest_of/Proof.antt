@@ -6,10 +6,6 @@ use Rattle.table.specs.Tree.{highestIn}
 use Rattle.table.proofs.tree.highest_of.Statement.{statement}
 use Rattle.table.proofs.tree.highest_of.Tie as tie
 
--- 30 levels are looked at, below some task
-levels : (c : tie.After-highest) → (t : ℕ) × (c .highest .result ≡ highestIn (line (c .before .before .before .before .args .s .held)) (c .before .before .holders-of .result) (c .before .priorities-of .result) 30 t)
-levels c = (_, c .highest .ensures)
-
 -- it is task t below which some levels are looked at
 whose : (c : tie.After-highest) → (n : ℕ) × (c .highest .result ≡ highestIn (line (c .before .before .before .before .args .s .held)) (c .before .before .holders-of .result) (c .before .priorities-of .result) n (c .before .before .before .before .args .t))
 whose c = (_, c .highest .ensures)
