@@ -29,7 +29,7 @@ PROGRAM = """fn main() {
     card::card_empty(&mut state, 0);
     card::card_step(&mut state, &[7, 0, 0], &mut room, &mut answer);
     card::card_running(&state, &mut answer);
-    let mut debouncer = [0u8; 479];
+    let mut debouncer = [0u8; 541];
     card::contacts::debounce_fresh(&mut debouncer, &[]);
     card::contacts::debounce_tick(&mut debouncer, 0, &mut answer);
 }
