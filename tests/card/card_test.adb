@@ -206,10 +206,10 @@ procedure Card_Test is
          At_Byte := At_Byte + 3 + Natural (Held (At_Byte + 2));
       end loop;
       for T in Byte range 1 .. 3 loop
-         Refusal := Priority (State'Address, State'Length, T, One'Address, 1);
+         Refusal := Fuzgerlint.Priority (State'Address, State'Length, T, One'Address, 1);
          Put_Line (Image (Refusal) & " " & Image (One (1)));
       end loop;
-      Put_Line ("no answer " & Image (Priority (State'Address, State'Length, 1, Null_Address, 0)));
+      Put_Line ("no answer " & Image (Fuzgerlint.Priority (State'Address, State'Length, 1, Null_Address, 0)));
    end Priorities;
 
    --  Debounces raw bits: of each contact the last two samples count, and those of even number are sampled every other tick.
