@@ -22,7 +22,7 @@ use stream::line::{Kind, Lines, Piece, behind, first, front};
 use workspace::{Answer, Stretch, Tables, Used};
 
 // The tables, and the lines on their way.
-#[derive(Drop)]
+#[derive(Clone, Copy)]
 struct State {
     tables: Tables,
     lines: Lines,

@@ -2,7 +2,7 @@
 
 // The letter of an operation, how many numbers stand behind it, and the last three of them; the letter is 0 where the line is none. After a
 // space a number is due.
-#[derive(Drop)]
+#[derive(Clone, Copy)]
 pub struct Operation {
     pub letter: u8,
     pub many: u8,

@@ -5,7 +5,7 @@ ghost use Rattle.calls.specs.Record.{call_mode, call_time, select_mode, select_t
 use super::{CallMode, SelectMode};
 
 // The number of a mode, and its duration, 0 where it has none.
-#[derive(Drop)]
+#[derive(Clone, Copy)]
 pub struct Mode {
     pub number: u8,
     pub time: i32,

@@ -21,7 +21,8 @@ fn put(bytes: &[u8], room: &mut [u8]) -> Written
             count: 0,
         };
     }
-    let n = bytes::copy(bytes, room);
+    let n = bytes.len();
+    room[0..n].copy_from_slice(bytes);
     Written {
         refusal: 0,
         count: n,
@@ -29,7 +30,7 @@ fn put(bytes: &[u8], room: &mut [u8]) -> Written
 }
 
 // A record before it is put: its bytes, with 0 behind them, and how many they are.
-#[derive(Drop)]
+#[derive(Clone, Copy)]
 struct Packet {
     bytes: [u8; 10],
     count: usize,

@@ -124,7 +124,7 @@ fn timer_from(tag: u8, due: u32) -> Timer
 }
 
 // The numbers that stand in the bytes of a task.
-#[derive(Drop)]
+#[derive(Clone, Copy)]
 struct Fields {
     priority: u8,
     current: u8,
@@ -214,7 +214,7 @@ fn line_from(b: &[u8], at: usize) -> [u8; 31]
 {
     let mut line = [0u8; 31];
     let e = at + 31;
-    bytes::copy(&b[at..e], &mut line);
+    line.copy_from_slice(&b[at..e]);
     line
 }
 
@@ -297,7 +297,7 @@ pub fn put_at(room: &mut [u8], at: usize, piece: &[u8])
         return;
     }
     let e = at + n;
-    bytes::copy(piece, &mut room[at..e]);
+    room[at..e].copy_from_slice(piece);
 }
 
 // Puts the tasks of a state behind the clock and the number of tasks.

@@ -20,7 +20,7 @@ pub const BAD_SETTING: u8 = 17;
 
 // A contact: its setting (n samples must agree, p ticks lie between two samples), whether it is reported closed, and how many of its
 // latest samples in a row say otherwise.
-#[derive(Drop)]
+#[derive(Clone, Copy)]
 pub struct Contact {
     pub n: u8,
     pub p: u16,
@@ -29,7 +29,7 @@ pub struct Contact {
 }
 
 // The input card: the supervisor, in which task k serves contact k, and the contacts.
-#[derive(Drop)]
+#[derive(Clone, Copy)]
 pub struct Card {
     pub supervisor: Supervisor,
     pub contacts: [Contact; 8],
@@ -37,14 +37,14 @@ pub struct Card {
 
 // What making a card gives: a refusal (0 if none), and the card; where the settings are refused no card is made, and the blank one stands
 // in its place, which every tick refuses.
-#[derive(Drop)]
+#[derive(Clone, Copy)]
 pub struct Made {
     pub refusal: u8,
     pub card: Card,
 }
 
 // What a tick gives: the card, a refusal (0 if none), and the report: bit k - 1 for contact k, 1 for closed.
-#[derive(Drop)]
+#[derive(Clone, Copy)]
 pub struct Ticked {
     pub card: Card,
     pub refusal: u8,

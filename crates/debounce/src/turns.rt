@@ -13,7 +13,7 @@ use rules::{Stepped, Supervisor};
 const ROOM: usize = 124;
 
 // What a turn gives: the card, and who runs then.
-#[derive(Drop)]
+#[derive(Clone, Copy)]
 pub struct Turned {
     pub card: Card,
     pub next: u8,

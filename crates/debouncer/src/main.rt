@@ -5,7 +5,7 @@ use stream::flow::{Flow, begun, done, fed, passed};
 use text::{least, put_byte, put_number};
 
 // The flow of input and output, the card, and the number of the next tick; 0 before the settings are read.
-#[derive(Drop)]
+#[derive(Clone, Copy)]
 struct State {
     flow: Flow,
     card: Card,

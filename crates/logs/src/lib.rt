@@ -21,7 +21,7 @@ use text::least;
 const ENDLESS: u64 = u64::MAX;
 
 // A log: the flow of input and output, the clock that it starts with, the bytes that it still has, and whether it goes on.
-#[derive(Drop)]
+#[derive(Clone, Copy)]
 pub struct Log {
     pub flow: Flow,
     pub clock: u32,
@@ -263,7 +263,7 @@ pub fn run_input(clock: u32) {
 }
 
 // What is skipped of a log: the window on the input, the bytes that the log still has, and whether more of them may come.
-#[derive(Drop)]
+#[derive(Clone, Copy)]
 pub struct Rest {
     pub window: Window,
     pub left: u64,

@@ -1,21 +1,21 @@
 // The state of the supervisor, the calls and the answers: types and numbers. All else stands in specs/.
 pub mod numbers;
 
-#[derive(Drop)]
+#[derive(Clone, Copy)]
 pub enum Timer {
     Off,
     Due(u32),
 }
 
 // A caller in a queue: whom it has called, and at which entry.
-#[derive(Drop)]
+#[derive(Clone, Copy)]
 pub struct Waiting {
     pub target: u8,
     pub entry: u8,
 }
 
 // A caller in a rendezvous: who holds it, at which entry, and what the holder's current priority was before.
-#[derive(Drop)]
+#[derive(Clone, Copy)]
 pub struct Meeting {
     pub holder: u8,
     pub entry: u8,
@@ -23,12 +23,12 @@ pub struct Meeting {
 }
 
 // A task that waits to accept: the set of its open entries.
-#[derive(Drop)]
+#[derive(Clone, Copy)]
 pub struct Offer {
     pub opens: u8,
 }
 
-#[derive(Drop)]
+#[derive(Clone, Copy)]
 pub enum Place {
     Blank,
     Ready,
@@ -40,7 +40,7 @@ pub enum Place {
 }
 
 // A task: the priority with which it was created, the current one, its entries, its place and its time.
-#[derive(Drop)]
+#[derive(Clone, Copy)]
 pub struct Task {
     pub priority: u8,
     pub current: u8,
@@ -50,7 +50,7 @@ pub struct Task {
 }
 
 // All of a state but its callers: what both engines have.
-#[derive(Drop)]
+#[derive(Clone, Copy)]
 pub struct Core {
     pub clock: u32,
     pub created: u8,
@@ -61,27 +61,27 @@ pub struct Core {
 }
 
 // The first engine: all callers in one line.
-#[derive(Drop)]
+#[derive(Clone, Copy)]
 pub struct Supervisor {
     pub core: Core,
     pub callers: [u8; 31],
 }
 
 // The calls to one task, whatever the entry.
-#[derive(Drop)]
+#[derive(Clone, Copy)]
 pub struct Row {
     pub line: [u8; 31],
 }
 
 // The second engine: a queue of callers for each task.
-#[derive(Drop)]
+#[derive(Clone, Copy)]
 pub struct Second {
     pub core: Core,
     pub rows: [Row; 31],
 }
 
 // Task, result, entry, partner: an ended wait, and the same four numbers of an answer.
-#[derive(Drop)]
+#[derive(Clone, Copy)]
 pub struct Item {
     pub task: u8,
     pub result: u8,
@@ -91,7 +91,7 @@ pub struct Item {
 
 // What a step answers: a refusal (0 if none), the result with its task, entry and partner, the number of ended waits, and
 // the dispatched task afterwards (0 if none).
-#[derive(Drop)]
+#[derive(Clone, Copy)]
 pub struct Answer {
     pub refusal: u8,
     pub result: u8,
@@ -103,42 +103,42 @@ pub struct Answer {
 }
 
 // What a step gives: the state afterwards, and the answer.
-#[derive(Drop)]
+#[derive(Clone, Copy)]
 pub struct Stepped {
     pub state: Supervisor,
     pub answer: Answer,
 }
 
 // What a step of the second engine gives.
-#[derive(Drop)]
+#[derive(Clone, Copy)]
 pub struct SecondStepped {
     pub state: Second,
     pub answer: Answer,
 }
 
 // What COUNT answers: a refusal (0 if none), and how many are queued.
-#[derive(Drop)]
+#[derive(Clone, Copy)]
 pub struct Count {
     pub refusal: u8,
     pub count: usize,
 }
 
 // What CALLABLE answers: a refusal (0 if none), and yes or no.
-#[derive(Drop)]
+#[derive(Clone, Copy)]
 pub struct Callable {
     pub refusal: u8,
     pub yes: bool,
 }
 
 // What the question who runs answers: a refusal (0 if none), and the task, 0 where nobody is ready.
-#[derive(Drop)]
+#[derive(Clone, Copy)]
 pub struct Running {
     pub refusal: u8,
     pub task: u8,
 }
 
 // What the question for a task's priority answers: a refusal (0 if none), and the priority, 0 for a number not created.
-#[derive(Drop)]
+#[derive(Clone, Copy)]
 pub struct Priority {
     pub refusal: u8,
     pub priority: u8,

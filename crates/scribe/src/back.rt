@@ -6,7 +6,7 @@ use stream::flow::{Flow, begun, done, fed, passed};
 use text::{least, put_byte};
 
 // The flow of input and output, and the number of the record that comes next.
-#[derive(Drop)]
+#[derive(Clone, Copy)]
 struct Records {
     flow: Flow,
     number: u64,

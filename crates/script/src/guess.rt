@@ -11,7 +11,7 @@ use calls::{Call, CallMode, SelectMode};
 const BITS: [u8; 16] = [0, 1, 2, 4, 8, 16, 32, 64, 128, 0, 0, 0, 0, 0, 0, 0];
 
 // What a word is by its digits: a byte, an open set, and a number of 32 bits.
-#[derive(Drop)]
+#[derive(Clone, Copy)]
 pub struct Word {
     pub byte: u8,
     pub set: u8,
@@ -20,7 +20,7 @@ pub struct Word {
 
 // What is seen of a line: the sum of its letters, whether there is a minus, and its four last words: of the fourth, the third and the second
 // the byte, of the third and the second the open set too (`far` and `near`), and the last.
-#[derive(Drop)]
+#[derive(Clone, Copy)]
 pub struct Seen {
     pub letters: u64,
     pub minus: bool,

@@ -10,7 +10,7 @@ pub use print::{put_call, put_record};
 pub use reader::read_line;
 
 // What a line says: nothing (it is empty, or a comment), a call, or what cannot be read.
-#[derive(Drop)]
+#[derive(Clone, Copy)]
 pub enum Line {
     Nothing,
     Says(Call),

@@ -5,7 +5,7 @@ ghost use Rattle.script.specs.Rows.{text_in, Grown};
 
 use text::{put_byte, put_number};
 
-#[derive(Drop)]
+#[derive(Clone, Copy)]
 pub struct Row {
     pub bytes: [u8; 64],
     pub place: usize,

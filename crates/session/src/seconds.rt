@@ -11,14 +11,14 @@ use report::put_line;
 use rules::Second;
 
 // A log on its way: the second engine's supervisor, and the number of the next line.
-#[derive(Drop)]
+#[derive(Clone, Copy)]
 pub struct SecondSession {
     pub state: Second,
     pub step: u64,
 }
 
 // What a turn gave: the session, the bytes of the input that it took, the place behind what it printed, and how it goes on.
-#[derive(Drop)]
+#[derive(Clone, Copy)]
 pub struct SecondTurned {
     pub session: SecondSession,
     pub count: usize,

@@ -11,14 +11,14 @@ use report::put_line;
 use rules::Supervisor;
 
 // A log on its way: the supervisor, and the number of the next line.
-#[derive(Drop)]
+#[derive(Clone, Copy)]
 pub struct Session {
     pub state: Supervisor,
     pub step: u64,
 }
 
 // How it goes on: with another turn, with more bytes of input first, or not at all.
-#[derive(Drop)]
+#[derive(Clone, Copy)]
 pub enum Next {
     Again,
     More,
@@ -26,7 +26,7 @@ pub enum Next {
 }
 
 // What a turn gave: the session, the bytes of the input that it took, the place behind what it printed, and how it goes on.
-#[derive(Drop)]
+#[derive(Clone, Copy)]
 pub struct Turned {
     pub session: Session,
     pub count: usize,

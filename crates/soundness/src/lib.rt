@@ -35,7 +35,7 @@ fn all_unused(s: Core) -> bool
 
 // What is told of the created tasks: whether each is good, beside the task that it has called; for each line which of them belong into
 // it; and which have another current priority than the one with which they were created.
-#[derive(Drop)]
+#[derive(Clone, Copy)]
 struct Told {
     good: bool,
     ready: u32,
@@ -96,7 +96,7 @@ fn lines_hold(s: Core, told: Told) -> bool
 }
 
 // Whether a core is sound but for the callers, and who belongs into their queues: task 1 is bit 0.
-#[derive(Drop)]
+#[derive(Clone, Copy)]
 pub struct Checked {
     pub good: bool,
     pub callers: u32,

@@ -11,7 +11,7 @@ use table::place::{is_queued, partner_of};
 use table::tasks::shown;
 
 // A row that was walked: whether each was to be met there, and who is still to be met.
-#[derive(Drop)]
+#[derive(Clone, Copy)]
 pub struct Met {
     pub ok: bool,
     pub rest: u32,

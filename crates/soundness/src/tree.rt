@@ -13,7 +13,7 @@ use table::place::{higher_of, kept_of, partner_of};
 use table::tasks::{index_of, shown};
 
 // What a climb has reached: whether one that was known before, and who is still to be met.
-#[derive(Drop)]
+#[derive(Clone, Copy)]
 struct Reached {
     good: bool,
     rest: u32,
@@ -58,7 +58,7 @@ fn all_climb(held: [u8; 31], holders: [u8; 32], word: u32) -> bool
 }
 
 // What the pass over those held finds: whether the stored priorities agree, and the holder of each.
-#[derive(Drop)]
+#[derive(Clone, Copy)]
 struct Seen {
     good: bool,
     holders: [u8; 32],

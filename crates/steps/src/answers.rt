@@ -6,7 +6,7 @@ ghost use Rattle.steps.specs.Taken.{answer_by};
 use rules::{Answer, Core};
 
 // What a call gave: the state, a refusal (0 if none), the four numbers of the answer, and the number of ended waits.
-#[derive(Drop)]
+#[derive(Clone, Copy)]
 pub struct Taken {
     pub state: Core,
     pub refusal: u8,
@@ -19,7 +19,7 @@ pub struct Taken {
 
 // The call is refused: the state stays, and all other numbers are 0.
 pub fn refused_by(s: Core, why: u8) -> Taken
-    ensures* { λ r. ⌜ r ≡ record { state = s; refusal = why; task = 0; result = 0; entry = 0; partner = 0; ended = 0 } ⌝ }
+    ensures { result ≡ record { state = s; refusal = why; task = 0; result = 0; entry = 0; partner = 0; ended = 0 } }
 {
     Taken {
         state: s,
@@ -34,7 +34,7 @@ pub fn refused_by(s: Core, why: u8) -> Taken
 
 // The call is taken: s is the state afterwards.
 pub fn answered(s: Core, t: u8, res: u8, entry: u8, partner: u8, ended: u8) -> Taken
-    ensures* { λ r. ⌜ r ≡ record { state = s; refusal = 0; task = t; result = res; entry = entry; partner = partner; ended = ended } ⌝ }
+    ensures { result ≡ record { state = s; refusal = 0; task = t; result = res; entry = entry; partner = partner; ended = ended } }
 {
     Taken {
         state: s,

@@ -14,7 +14,7 @@ use table::place::{entry_of, is_between, is_open, is_queued, partner_of};
 use table::tasks::{index_of, shown};
 
 // A caller, and the open entry that it has called; entry 9, which no task has, stands for none.
-#[derive(Drop)]
+#[derive(Clone, Copy)]
 pub struct Caller {
     pub task: u8,
     pub entry: u8,

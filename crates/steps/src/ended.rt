@@ -70,7 +70,7 @@ fn put_items(s: Core, l: [u8; 31], failed: bool, room: &mut [u8]) -> u8
 }
 
 // What is left when a line of tasks was woken: the state, and how many they were.
-#[derive(Drop)]
+#[derive(Clone, Copy)]
 pub struct Woken {
     pub state: Core,
     pub count: u8,

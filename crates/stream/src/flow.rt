@@ -7,7 +7,7 @@ use crate::output::{drained, flushed};
 use crate::window::{Window, refilled, unread};
 
 // The window on the input, how much output waits, and whether it goes on.
-#[derive(Drop)]
+#[derive(Clone, Copy)]
 pub struct Flow {
     pub window: Window,
     pub waits: usize,

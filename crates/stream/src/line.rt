@@ -10,7 +10,7 @@ use crate::flow::{Flow, begun, done, fed, passed};
 use text::least;
 
 // The flow of input and output, the number of the line that comes next, and whether that is the rest of one that is too long.
-#[derive(Drop)]
+#[derive(Clone, Copy)]
 pub struct Lines {
     pub flow: Flow,
     pub number: u64,
@@ -19,7 +19,7 @@ pub struct Lines {
 
 // What stands at the front of the window: a line; the rest of one that is too long, to its end; bytes that fill the buffer without a line end;
 // less than a line, of which more may come; or nothing, and nothing comes.
-#[derive(Drop)]
+#[derive(Clone, Copy)]
 pub enum Kind {
     Line,
     Rest,
@@ -29,7 +29,7 @@ pub enum Kind {
 }
 
 // Where in the buffer it begins, where it ends, without its line end, and what it is.
-#[derive(Drop)]
+#[derive(Clone, Copy)]
 pub struct Piece {
     pub from: usize,
     pub to: usize,

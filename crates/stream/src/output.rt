@@ -10,7 +10,7 @@ use text::least;
 const SPARE: usize = 8192;
 
 // How much output waits, and whether what does not could be written.
-#[derive(Drop)]
+#[derive(Clone, Copy)]
 pub struct Output {
     pub waits: usize,
     pub writes: bool,

@@ -7,7 +7,7 @@ use libc::{STDERR_FILENO, STDIN_FILENO};
 use text::least;
 
 // What stands in the buffer from `at` to `end`; `last` where no more bytes come.
-#[derive(Drop)]
+#[derive(Clone, Copy)]
 pub struct Window {
     pub at: usize,
     pub end: usize,

@@ -7,7 +7,7 @@ ghost use Rattle.table.specs.Best.{better_of, last_of};
 use rules::Core;
 
 // A task and its current priority.
-#[derive(Drop)]
+#[derive(Clone, Copy)]
 pub struct Best {
     pub task: u8,
     pub priority: u8,

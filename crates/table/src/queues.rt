@@ -12,7 +12,7 @@ use super::tasks::{index_of, shown};
 use rules::{Core, Place, Task, Timer};
 
 // What picks a queue out of a line.
-#[derive(Drop)]
+#[derive(Clone, Copy)]
 pub enum Test {
     QueuedOn { target: u8, entry: u8 },
     HeldBy { holder: u8 },

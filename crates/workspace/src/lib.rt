@@ -15,21 +15,21 @@ use lent::{look_at, stored};
 use steps::{made, released, requested};
 
 // `length` units from `start` on; an unused place of a table is 0 and 0.
-#[derive(Drop)]
+#[derive(Clone, Copy)]
 pub struct Stretch {
     pub start: u32,
     pub length: u32,
 }
 
 // The number of places used in the table of blocks and in the table of free stretches.
-#[derive(Drop)]
+#[derive(Clone, Copy)]
 pub struct Used {
     pub blocks: usize,
     pub free: usize,
 }
 
 // The refusal number or 0; the start of the block requested or the length of the one released; and the places used from now on.
-#[derive(Drop)]
+#[derive(Clone, Copy)]
 pub struct Answer {
     pub refusal: u8,
     pub value: u32,
@@ -37,7 +37,7 @@ pub struct Answer {
 }
 
 // Two tables of 32 places by value, and the last answer, which has the places used.
-#[derive(Drop)]
+#[derive(Clone, Copy)]
 pub struct Tables {
     pub blocks: [Stretch; 32],
     pub free: [Stretch; 32],
@@ -45,7 +45,7 @@ pub struct Tables {
 }
 
 // What is seen of a lent table: its first 32 places, and whether all places behind them are unused.
-#[derive(Drop)]
+#[derive(Clone, Copy)]
 struct Table {
     places: [Stretch; 32],
     clear: bool,
@@ -53,7 +53,7 @@ struct Table {
 
 // What is seen of the two lent tables: the first 32 places of each, whether there are 31 and 32, whether all places behind them are
 // unused, and the place of the first free stretch that is long enough.
-#[derive(Drop)]
+#[derive(Clone, Copy)]
 struct Look {
     blocks: [Stretch; 32],
     free: [Stretch; 32],
@@ -63,7 +63,7 @@ struct Look {
 }
 
 // What is to be written to the two tables, and the answer.
-#[derive(Drop)]
+#[derive(Clone, Copy)]
 struct Done {
     blocks: Table,
     free: Table,
@@ -71,7 +71,7 @@ struct Done {
 }
 
 // What a search looks for: a stretch that starts at a number, behind it, or that has so many units.
-#[derive(Drop)]
+#[derive(Clone, Copy)]
 enum Test {
     StartsAt,
     StartsBehind,
@@ -79,7 +79,7 @@ enum Test {
 }
 
 // How far the check has come: the unit reached, the places passed in each table, and whether the last stretch was free.
-#[derive(Drop)]
+#[derive(Clone, Copy)]
 struct Reach {
     at: u64,
     i: usize,

@@ -1,0 +1,14 @@
+use borrow.Author.Rules.{rules}
+use borrow.Author.Tests.{lt-ltb, le-ltb}
+use Rattle.calls.specs.Parts.{bad_frame}
+use Rattle.calls.proofs.reader.bad_frame.Goals as goal
+
+pub returns-then-s-lt3 : goal.returns-then-s-lt3
+unfolding bad_frame
+returns-then-s-lt3 c = simp (lt-ltb _ _ c.if-s-lt3.true)
+
+pub returns : goal.returns
+unfolding bad_frame
+returns c =
+    let k = c.before.before.before in
+    simp (le-ltb _ _ c.if-s-lt3.false, k.is_unknown.ensures, c.half.ensures, k.length_of-n.ensures)

@@ -1,0 +1,5 @@
+use borrow.Author.Rules.{rules}
+use Rattle.calls.proofs.reader.bad_mode.Goals as goal
+
+pub returns : goal.returns
+returns c = rw c.four_from-d.ensures

@@ -1,0 +1,5 @@
+use Rattle.std.proofs.Common.{rules}
+use Rattle.debounce.proofs.blank_card.Goals as goal
+
+pub returns : goal.returns
+returns c = cc

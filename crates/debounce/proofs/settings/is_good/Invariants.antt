@@ -1,0 +1,10 @@
+use Rattle.std.proofs.Common.{◌≡◌, ◌-◌, ◌≤◌, true, false, length, sym, refl, ◌∙◌, arith}
+use Rattle.debounce.specs.Settings.{good_from}
+use Rattle.debounce.proofs.CodeLaws.{fields_next, fields_stop, fields_done, fields_are, wrong_length}
+use Rattle.debounce.proofs.settings.is_good.Given as goal
+
+abbrev pub invariant-loop-i : goal.invariant-loop-i
+invariant-loop-i l = (l.i ≤ 8) × (length l.b ≡ 48) × (good_from 8 0 l.b ≡ good_from (8 - l.i) l.i l.b)
+
+abbrev pub decreases-loop-i : goal.decreases-loop-i
+decreases-loop-i l = 8 - l.i

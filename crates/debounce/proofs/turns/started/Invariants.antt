@@ -1,0 +1,12 @@
+use Rattle.std.proofs.Common.{◌≡◌, ◌+◌, ◌-◌, ◌≤◌, length, drop, sym, refl, ap, ◌∙◌, arith, rules}
+use Rattle.rules.specs.declared.Supervisor.{Supervisor}
+use Rattle.lists.proofs.ListLaws.{mapped_long}
+use Rattle.debounce.specs.Card.{start_all}
+use Rattle.debounce.proofs.CodeLaws.{start_next, start_done}
+use Rattle.debounce.proofs.turns.started.Given as goal
+
+abbrev pub invariant-loop-i : goal.invariant-loop-i
+invariant-loop-i l = (l.i ≤ 8) × (length l.cs ≡ 8) × (start_all l.initial.s l.cs ≡ start_all l.s (drop l.i l.cs))
+
+abbrev pub decreases-loop-i : goal.decreases-loop-i
+decreases-loop-i l = 8 - l.i

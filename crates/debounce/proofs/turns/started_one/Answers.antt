@@ -1,0 +1,8 @@
+use Rattle.std.proofs.Common.{pos, ap, ◌∙◌, rules}
+use Rattle.calls.specs.declared.Call.TheVariants.{Delay}
+use Rattle.rules.specs.declared.Stepped.{Stepped}
+use Rattle.debounce.specs.Card.{takes}
+use Rattle.debounce.proofs.turns.started_one.Goals as goal
+
+pub returns : goal.returns
+returns c = ap (λ (k : Stepped). k.state) c.delayed-out.ensures ∙ ap (λ (k : Stepped). (takes k.state (Delay (pos c.args.p))).state) c.stepped-made.ensures

@@ -1,0 +1,20 @@
+use native.Mathlib.Omega.{arith}
+use borrow.Author.Rules.{rules}
+use Prim.Native.Nat.{◌-◌}
+use mathlib.Core.Path.{refl}
+use mathlib.Core.List.{◌∷◌}
+use Rattle.lists.specs.Line.{line}
+use Rattle.lists.proofs.Turns.{Filling, fill_start, fill_keep, fill_last, fill_full}
+use Rattle.lines.proofs.in_front.Goals as goal
+
+pub returns-then-x-eq0 : goal.returns-then-x-eq0
+returns-then-x-eq0 c = fill_last c.loop-i.invariant (search rules) (search rules) c.if-x-eq0.true refl
+
+pub loop-i-preserved : goal.loop-i-preserved
+loop-i-preserved c = fill_keep c.loop-i.invariant (search rules) (search rules) c.if-x-eq0.false refl
+
+pub returns : goal.returns
+returns c = fill_full c.loop-i.invariant (omega arith)
+
+pub loop-i-init : goal.loop-i-init
+loop-i-init c = fill_start

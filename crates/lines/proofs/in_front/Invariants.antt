@@ -1,0 +1,15 @@
+use native.Mathlib.Omega.{arith}
+use borrow.Author.Rules.{rules}
+use Prim.Native.Nat.{◌-◌}
+use mathlib.Core.Path.{refl}
+use mathlib.Core.List.{◌∷◌}
+use Rattle.lists.specs.Line.{line}
+use Rattle.lists.proofs.Turns.{Filling, fill_start, fill_keep, fill_last, fill_full}
+use Rattle.lines.proofs.in_front.Given as goal
+
+-- `carry` comes next, and then the rest of the line.
+abbrev pub invariant-loop-i : goal.invariant-loop-i
+invariant-loop-i at = Filling (at.t ∷ line at.a) (λ l. at.carry ∷ l) at.a at.r at.i at.i
+
+abbrev pub decreases-loop-i : goal.decreases-loop-i
+decreases-loop-i l = 31 - l.i

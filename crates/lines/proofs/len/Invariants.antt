@@ -1,0 +1,14 @@
+use Prim.Native.Nat.{◌+◌, ◌-◌, ◌≤◌}
+use native.Mathlib.Omega.{arith}
+use borrow.Author.Rules.{rules}
+use mathlib.Core.Path.{◌≡◌, ap}
+use lib.ListN.{length, drop}
+use Rattle.lists.specs.Line.{line}
+use Rattle.lists.proofs.Turns.{rest_blank, rest_entry, rest_end}
+use Rattle.lines.proofs.len.Given as goal
+
+abbrev pub invariant-loop-i : goal.invariant-loop-i
+invariant-loop-i l = (l.i ≤ 31) × (length (line l.a) ≡ l.i + length (line (drop l.i l.a)))
+
+abbrev pub decreases-loop-i : goal.decreases-loop-i
+decreases-loop-i l = 31 - l.i

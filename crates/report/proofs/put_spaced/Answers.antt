@@ -1,0 +1,8 @@
+use Rattle.text.proofs.Puts.{then_put}
+use Rattle.text.specs.Text.{spaced}
+use borrow.Author.Rules.{rules}
+use Rattle.report.proofs.put_spaced.Goals as goal
+
+pub returns : goal.returns
+unfolding spaced
+returns c = then_put c.put_byte-k.ensures c.put_number.ensures

@@ -1,0 +1,39 @@
+use Rattle.script.proofs.Loops.{next_part, no_part, comment}
+use Rattle.script.proofs.Growing.{growing_on, growing_done}
+use Rattle.script.specs.Rows.{text_in, cut}
+use Rattle.script.specs.Words.{words_from, words_of}
+use borrow.Author.Rules.{rules}
+use native.Mathlib.Omega.{arith}
+use mathlib.Core.Bool.{false}
+use mathlib.Core.Path.{◌≡◌, sym, ap}
+use mathlib.Core.List.{List, ◌++◌}
+use lib.ListN.{length, drop}
+use Prim.Native.Nat.{ℕ, ◌-◌, ◌≤◌}
+use Rattle.script.proofs.reader.words_of.Goals as goal
+
+pub loop-i-init : goal.loop-i-init
+loop-i-init c =
+    let l = c.args.line.now in
+    (omega arith, (search rules, sym (ap (λ (t : List ℕ). cut (t ++ words_from false l)) c.empty-words.ensures)))
+
+pub returns-then-b-eq35 : goal.returns-then-b-eq35
+unfolding words_of
+returns-then-b-eq35 c =
+    let l = c.loop-i in
+    let w = c.args.line.now in
+    growing_done l.words _ _ l.invariant.1.0 (comment w l.inside l.i (omega arith) c.if-b-eq35.true) l.invariant.1.1
+
+pub loop-i-preserved : goal.loop-i-preserved
+loop-i-preserved c =
+    let p = c.before in
+    let l = p.loop-i in
+    let w = p.args.line.now in
+    rw c.is_blank-inside.ensures
+    (omega arith, (p.with_part-words.ensures.long, growing_on _ p.with_part-words.ensures (next_part w l.inside l.i (omega arith) p.if-b-eq35.false) l.invariant.1.1))
+
+pub returns : goal.returns
+unfolding words_of
+returns c =
+    let l = c.loop-i in
+    let w = c.args.line.now in
+    growing_done l.words _ _ l.invariant.1.0 (no_part w l.inside l.i (omega arith)) l.invariant.1.1

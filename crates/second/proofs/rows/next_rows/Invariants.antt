@@ -1,0 +1,19 @@
+use native.Mathlib.Omega.{arith}
+use borrow.Author.Rules.{rules}
+use Prim.Native.Nat.{◌+◌, ◌-◌, ◌≤◌}
+use mathlib.Core.Path.{◌≡◌, refl, sym, ◌∙◌}
+use mathlib.Core.List.{◌++◌}
+use lib.ListN.{length, take, drop, length-set}
+use Rattle.lists.proofs.Tests.{ways}
+use Rattle.lists.proofs.ListLaws.{mapped_long}
+use Rattle.rules.specs.declared.Row.{Row}
+use Rattle.second.specs.Rows.{next_rows}
+use Rattle.second.proofs.RowLaws.{rows_touched, rows_skipped, rows_end}
+use Rattle.second.proofs.rows.next_rows.Given as goal
+
+-- The invariant: the rows so far, and from here on those that are still to be made, are all rows.
+abbrev pub invariant-loop-i : goal.invariant-loop-i
+invariant-loop-i l = (l.i ≤ 31) × (length l.n ≡ 31) × (next_rows l.left l.gone l.g l.t 1 l.initial.n ≡ take l.i l.n ++ next_rows l.left l.gone l.g l.t (l.i + 1) (drop l.i l.n))
+
+abbrev pub decreases-loop-i : goal.decreases-loop-i
+decreases-loop-i l = 31 - l.i

@@ -1,0 +1,21 @@
+use Rattle.std.proofs.Common.{◌≡◌, ◌+◌, ◌-◌, ◌≤◌, length, ap, ◌∙◌, arith, rules}
+use Rattle.lists.proofs.ListLaws.{mapped_long}
+use Rattle.rules.specs.declared.Task.{Task}
+use Rattle.table.proofs.LeafLaws.{shown_at, index_next}
+use Rattle.soundness.specs.Rows.{called_by}
+use Rattle.soundness.proofs.RowLaws.{TargetsTo, targets_on, targets_none}
+use Rattle.soundness.proofs.rows.targets_of.Goals as goal
+
+pub loop-i-init : goal.loop-i-init
+loop-i-init c = (omega arith, search (rules, mapped_long), targets_none c.args.s)
+
+pub loop-i-preserved : goal.loop-i-preserved
+loop-i-preserved c =
+    let h = c.before in
+    let l = h.loop-i in
+    let s = h.args.s in
+    let e = shown_at s (l.i + 1) l.i h.shown-x.result l.invariant.1 (index_next l.i (omega arith)) h.shown-x.ensures in
+    (omega arith, l.invariant.1, targets_on s l.targets l.i c.called-g.result (omega arith) l.invariant.2 (c.called-g.ensures ∙ ap (λ (x : Task). called_by x.place) e))
+
+pub returns : goal.returns
+returns c = λ t k. c.loop-i.invariant.2.1 t (omega arith)

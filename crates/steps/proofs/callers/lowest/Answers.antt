@@ -1,0 +1,40 @@
+use Rattle.std.proofs.Common.{◌≡◌, ◌-◌, ◌≤◌, length, get_or, drop, sym, refl, ap, ◌∙◌, arith, rules}
+use Rattle.lists.specs.Line.{line}
+use Rattle.lists.proofs.Turns.{rest_blank, rest_entry, rest_end}
+use Rattle.lists.proofs.ListLaws.{mapped_long}
+use Rattle.rules.specs.Whole.{view_core}
+use Rattle.rules.specs.declared.Task.{Task}
+use Rattle.table.proofs.LeafLaws.{shown_at}
+use Rattle.steps.specs.Lowest.{open_call, call_of, nobody, lowest_of}
+use Rattle.steps.proofs.LowestLaws.{lower_turn}
+use Rattle.steps.proofs.callers.lowest.Lts as lts
+use Rattle.steps.proofs.callers.lowest.Reads as reads
+use Rattle.steps.proofs.callers.lowest.Tie as tie
+use Rattle.steps.proofs.callers.lowest.Goals as goal
+
+pub loop-i-init : goal.loop-i-init
+loop-i-init c = (omega arith, search (rules, mapped_long), search (rules, mapped_long), refl)
+
+pub returns-then-c-eq0 : goal.returns-then-c-eq0
+returns-then-c-eq0 c =
+    let l = c.loop-i in
+    sym (rw (rest_blank c.args.mine l.i (omega arith) c.if-c-eq0.true) at l.invariant.3)
+
+-- the open entry that the caller at place i has called
+call_here : (c : (lts.After-open_call tie.the-claims reads.Pre reads.Post goal.the-invariant-loop-i goal.the-decreases-loop-i)) → let a = c.args in c.open_call.result ≡ call_of (view_core a.s) a.t a.o (get_or a.mine c.loop-i.i 0)
+call_here c =
+    let a = c.args in
+    let l = c.loop-i in
+    c.open_call.ensures ∙ ap (λ (x : Task). open_call a.t a.o x.place) (shown_at a.s (get_or a.mine l.i 0) _ _ l.invariant.1 c.index_of-at.ensures.0 refl)
+
+pub loop-i-preserved : goal.loop-i-preserved
+loop-i-preserved c =
+    let l = c.loop-i in
+    let a = c.args in
+    let rest = rest_entry a.mine l.i (omega arith) c.if-c-eq0.false in
+    (omega arith, l.invariant.1, l.invariant.2, l.invariant.3 ∙ lower_turn (call_of (view_core a.s) a.t a.o) l.b c.lower-b.result _ c.open_call.result _ _ rest (call_here c.before) c.lower-b.ensures)
+
+pub returns : goal.returns
+returns c =
+    let l = c.loop-i in
+    sym (rw (rest_end c.args.mine l.i (omega arith)) at l.invariant.3)

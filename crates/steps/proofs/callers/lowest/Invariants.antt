@@ -1,0 +1,18 @@
+use Rattle.std.proofs.Common.{◌≡◌, ◌-◌, ◌≤◌, length, get_or, drop, sym, refl, ap, ◌∙◌, arith, rules}
+use Rattle.lists.specs.Line.{line}
+use Rattle.lists.proofs.Turns.{rest_blank, rest_entry, rest_end}
+use Rattle.lists.proofs.ListLaws.{mapped_long}
+use Rattle.rules.specs.Whole.{view_core}
+use Rattle.rules.specs.declared.Task.{Task}
+use Rattle.table.proofs.LeafLaws.{shown_at}
+use Rattle.steps.specs.Lowest.{open_call, call_of, nobody, lowest_of}
+use Rattle.steps.proofs.LowestLaws.{lower_turn}
+use Rattle.steps.proofs.callers.lowest.Given as goal
+
+-- The lowest of the rest of the line, from the lowest so far, is that of the line.
+abbrev pub invariant-loop-i : goal.invariant-loop-i
+invariant-loop-i l =
+    (l.i ≤ 31) × (length l.s.tasks ≡ 31) × (length l.mine ≡ 31) × (lowest_of (call_of (view_core l.s) l.t l.o) nobody (line l.mine) ≡ lowest_of (call_of (view_core l.s) l.t l.o) l.b (line (drop l.i l.mine)))
+
+abbrev pub decreases-loop-i : goal.decreases-loop-i
+decreases-loop-i l = 31 - l.i

@@ -1,0 +1,24 @@
+use Rattle.std.proofs.Common.{◌≡◌, ℕ, ◌-◌, ◌*◌, ◌≤◌, drop, sym, ap, ◌∙◌, arith, rules}
+use Rattle.lists.specs.Marks.{marked}
+use Rattle.steps.specs.Change.{one, bytes_in}
+use Rattle.steps.proofs.ChangeLaws.{bytes_on, bytes_end}
+use Rattle.steps.proofs.change.marks_in.Goals as goal
+
+pub loop-i-init : goal.loop-i-init
+loop-i-init c =
+    let a = c.args in
+    let z : a.n - 0 ≡ a.n = omega arith in
+    (omega arith, ap (λ (k : ℕ). marked one (bytes_in a.field k a.room.now) a.first) (sym z))
+
+pub loop-i-preserved : goal.loop-i-preserved
+loop-i-preserved c =
+    let b = c.before in
+    let l = b.loop-i in
+    let a = b.args in
+    (omega arith, l.invariant.1 ∙ bytes_on a.field a.room.now l.marks c.with_mark-next.result a.n l.i b.byte_at-t.result (omega arith) b.byte_at-t.ensures c.with_mark-next.ensures)
+
+pub returns : goal.returns
+returns c =
+    let l = c.loop-i in
+    let a = c.args in
+    sym (l.invariant.1 ∙ bytes_end a.field a.room.now l.marks a.n l.i (omega arith))
