@@ -4,8 +4,24 @@ use Rattle.workspace.proofs.steps.request_refusal.Goals as goal
 
 pub returns-then-not-kept : goal.returns-then-not-kept
 unfolding request_refusal
-returns-then-not-kept c = let k = c.if-not-kept.true in ?
+returns-then-not-kept c = rw c.if-not-kept.true refl
 
 pub returns-then-not-sized : goal.returns-then-not-sized
 unfolding request_refusal
-returns-then-not-sized c = let k = c.if-not-kept.false in let s = c.if-not-sized.true in ?
+returns-then-not-sized c = rw (c.if-not-kept.false, c.if-not-sized.true) refl
+
+pub returns-then-m-ge31 : goal.returns-then-m-ge31
+unfolding request_refusal
+returns-then-m-ge31 c = rw (c.if-not-kept.false, c.if-not-sized.false, le-ltb c.args.m 31 c.if-m-ge31.true) refl
+
+pub returns-then-n-place : goal.returns-then-n-place
+unfolding request_refusal
+returns-then-n-place c =
+    let a = c.args in
+    rw (c.if-not-kept.false, c.if-not-sized.false, lt-ltb a.m 31 c.if-m-ge31.false, le-ltb a.place a.n c.if-n-place.true) refl
+
+pub returns : goal.returns
+unfolding request_refusal
+returns c =
+    let a = c.args in
+    rw (c.if-not-kept.false, c.if-not-sized.false, lt-ltb a.m 31 c.if-m-ge31.false, lt-ltb a.place a.n c.if-n-place.false) refl
