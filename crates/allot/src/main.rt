@@ -12,6 +12,8 @@
 //
 // A line of the output has the refusal, the value and the places used in each table; then, behind `|`, place, start and length
 // of each block, and behind another `|` those of each free stretch. Unused places are left out.
+#![tactic(auto)]
+
 mod operation; // operation.rt: what a line says
 mod print; // print.rt: a line is put together
 

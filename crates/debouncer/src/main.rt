@@ -1,5 +1,7 @@
 // Reads 48 bytes of settings from standard input, then the raw bits, one byte a tick, and prints a line for each tick: its number and the
 // reports of contacts 1 to 8. Settings that are refused get one line, with the refusal.
+#![tactic(auto)]
+
 use debounce::{Card, Made, Ticked};
 use stream::flow::{Flow, begun, done, fed, passed};
 use text::{least, put_byte, put_number};

@@ -1,5 +1,7 @@
 // Calls as text to records, and records back to text: `scribe` and `scribe back`, from standard input to standard output.
 // What cannot be read is told on standard error with the number of its line or record, and so is output that cannot be written.
+#![tactic(auto)]
+
 mod back; // back.rt: records to text
 mod errors; // errors.rt: what is told of a line
 mod forth; // forth.rt: text to records

@@ -1,6 +1,8 @@
 // Standard input as a window on a buffer, cut into lines or not, standard output gathered in a buffer, and what is told on standard error: what the
 // programs share.
 // Nothing says that the input ends and a proved loop has to: each loop over input counts its turns down from a number that no run uses up.
+#![tactic(auto)]
+
 pub mod errors;
 pub mod flow;
 pub mod line;

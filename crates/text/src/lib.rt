@@ -1,5 +1,7 @@
 // Text in lent room: bytes and decimal numbers, each put from a place on, with the place behind it as the answer.
 // Room that is too short cuts the text off: no byte behind the room, and no refusal.
+#![tactic(auto)]
+
 ghost use Rattle.std.specs.Prelude.{min, ◌≡◌, [], ◌∷◌};
 ghost use Rattle.text.specs.Text.{Put, decimal};
 
