@@ -24,8 +24,8 @@ loop-i-preserved c =
     let v = l.invariant in
     let rest = rest_entry s.ready l.i (omega arith) c.if-t-eq0.false in
     elim c.if-t-n.branch [
-        then-t-n w ↦ (omega arith, v.1, v.2, v.3, rw w.b-is (v.4 ∙ best_turn s l.b _ _ _ _ rest _ _ c.if-t-eq0.false v.3 w.if-t-n.true refl w.better-b.ensures))
-        | else-t-n w ↦ (omega arith, v.1, v.2, v.3, rw w.b-is (v.4 ∙ best_skip s l.b _ _ _ _ rest v.1 v.3 w.if-t-n.false))
+      | then-t-n w ↦ (omega arith, v.1, v.2, v.3, rw w.b-is (v.4 ∙ best_turn s l.b _ _ _ _ rest _ _ c.if-t-eq0.false v.3 w.if-t-n.true refl w.better-b.ensures))
+      | else-t-n w ↦ (omega arith, v.1, v.2, v.3, rw w.b-is (v.4 ∙ best_skip s l.b _ _ _ _ rest v.1 v.3 w.if-t-n.false))
     ]
 
 pub returns : goal.returns

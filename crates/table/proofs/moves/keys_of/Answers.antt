@@ -22,9 +22,9 @@ loop-i-preserved c =
     let rest = rest_entry a.a l.i (search rules) c.if-x-eq0.false in
     let left = left_at a.s x _ _ l.invariant.1 c.index_of-at.ensures.0 c.left_of-left.ensures in
     elim c.if-x-lt32.branch [
-        then-x-lt32 w ↦
-            (omega arith, l.invariant.1, rw w.keys-is (length-set {A = ℕ} l.keys _ c.left_of-left.result ∙ l.invariant.2), rw w.keys-is (l.invariant.3 ∙ mark_on (left_of a.s) _ _ _ l.keys c.left_of-left.result rest left))
-        | else-x-lt32 w ↦ (omega arith, l.invariant.1, rw w.keys-is l.invariant.2, rw w.keys-is (l.invariant.3 ∙ mark_off (left_of a.s) _ _ _ l.keys rest (omega arith)))
+      | then-x-lt32 w ↦
+          (omega arith, l.invariant.1, rw w.keys-is (length-set {A = ℕ} l.keys _ c.left_of-left.result ∙ l.invariant.2), rw w.keys-is (l.invariant.3 ∙ mark_on (left_of a.s) _ _ _ l.keys c.left_of-left.result rest left))
+      | else-x-lt32 w ↦ (omega arith, l.invariant.1, rw w.keys-is l.invariant.2, rw w.keys-is (l.invariant.3 ∙ mark_off (left_of a.s) _ _ _ l.keys rest (omega arith)))
     ]
 
 pub returns : goal.returns

@@ -23,8 +23,8 @@ loop-i-preserved c =
     -- what the code says of the task at place i is what the test says of it
     let e = c.passes.ensures ∙ ap (λ (x : Task). is_picked x a.q) (shown_at a.s (get_or a.a l.i 0) _ _ l.invariant.1 c.index_of-at.ensures.0 c.shown.ensures) in
     elim c.if-passes.branch [
-        then-passes w ↦ (rw (w.r-is, w.j-is) (fill_keep l.invariant.0 (search rules) (search rules) c.if-x-eq0.false (rw (sym e ∙ w.if-passes.true))), l.invariant.1)
-        | else-passes w ↦ (rw (w.r-is, w.j-is) (fill_skip l.invariant.0 (search rules) (search rules) c.if-x-eq0.false (rw (sym e ∙ w.if-passes.false))), l.invariant.1)
+      | then-passes w ↦ (rw (w.r-is, w.j-is) (fill_keep l.invariant.0 (search rules) (search rules) c.if-x-eq0.false (rw (sym e ∙ w.if-passes.true))), l.invariant.1)
+      | else-passes w ↦ (rw (w.r-is, w.j-is) (fill_skip l.invariant.0 (search rules) (search rules) c.if-x-eq0.false (rw (sym e ∙ w.if-passes.false))), l.invariant.1)
     ]
 
 pub returns : goal.returns

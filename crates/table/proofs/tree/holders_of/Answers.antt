@@ -31,9 +31,9 @@ loop-i-preserved c =
     -- the holder of the one at place i
     let mark = g.ensures ∙ ap (λ (x : Task). partner_of x.place) (shown_at s (get_or s.held l.i 0) _ _ l.invariant.1 c.index_of-at.ensures.0 c.shown-x.ensures) in
     elim c.if-c-lt32.branch [
-        then-c-lt32 w ↦
-            (omega arith, l.invariant.1, l.invariant.2, rw w.marks-is (length-set {A = ℕ} l.marks _ g.result ∙ l.invariant.3), rw w.marks-is (l.invariant.4 ∙ mark_on (holder s) _ _ _ l.marks g.result rest mark))
-        | else-c-lt32 w ↦ (omega arith, l.invariant.1, l.invariant.2, rw w.marks-is l.invariant.3, rw w.marks-is (l.invariant.4 ∙ mark_off (holder s) _ _ _ l.marks rest (omega arith)))
+      | then-c-lt32 w ↦
+          (omega arith, l.invariant.1, l.invariant.2, rw w.marks-is (length-set {A = ℕ} l.marks _ g.result ∙ l.invariant.3), rw w.marks-is (l.invariant.4 ∙ mark_on (holder s) _ _ _ l.marks g.result rest mark))
+      | else-c-lt32 w ↦ (omega arith, l.invariant.1, l.invariant.2, rw w.marks-is l.invariant.3, rw w.marks-is (l.invariant.4 ∙ mark_off (holder s) _ _ _ l.marks rest (omega arith)))
     ]
 
 pub returns : goal.returns

@@ -24,8 +24,8 @@ loop-t-preserved c =
     -- the priority of task t
     let mark = ap (λ (x : Task). x.priority) (shown_at s l.t _ _ v.0 c.index_of-at.ensures.0 x.ensures) in
     elim c.if-t-lt32.branch [
-        then-t-lt32 w ↦ (v.0, rw w.known-is (length-set {A = ℕ} l.known _ x.result.priority ∙ v.1), rw w.known-is (v.2 ∙ mark_on (priority_of (view_core s)) _ _ _ l.known x.result.priority rest mark))
-        | else-t-lt32 w ↦ (v.0, rw w.known-is v.1, rw w.known-is (v.2 ∙ mark_off (priority_of (view_core s)) _ _ _ l.known rest (omega arith)))
+      | then-t-lt32 w ↦ (v.0, rw w.known-is (length-set {A = ℕ} l.known _ x.result.priority ∙ v.1), rw w.known-is (v.2 ∙ mark_on (priority_of (view_core s)) _ _ _ l.known x.result.priority rest mark))
+      | else-t-lt32 w ↦ (v.0, rw w.known-is v.1, rw w.known-is (v.2 ∙ mark_off (priority_of (view_core s)) _ _ _ l.known rest (omega arith)))
     ]
 
 pub returns : goal.returns
