@@ -1,4 +1,6 @@
 // Whole logs, from standard input to standard output: what stepper and replay share.
+#![tactic(auto)]
+
 ghost use Rattle.std.specs.Prelude.{◌-◌, ◌≤◌, min, ◌≡◌, true};
 ghost use Rattle.text.specs.Text.{Uncut};
 ghost use Rattle.report.specs.Lines.{header, longest_line};
