@@ -1,5 +1,7 @@
 // A supervisor whose state lies in lent bytes, for programs in C and Ada. Each function takes every input; a slice is passed as a
 // pointer and a number of bytes, and lent slices do not overlap.
+#![tactic(auto)]
+
 pub mod by_rows;
 pub mod contacts;
 

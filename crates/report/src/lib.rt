@@ -1,5 +1,7 @@
 // The lines that stepper prints: the header, and a line for each call. Each goes into lent room from a place on, and the
 // answer is the place behind it; room that is too short cuts it off.
+#![tactic(auto)]
+
 ghost use Rattle.std.specs.Prelude.{◌≤◌, length};
 ghost use Rattle.text.specs.Text.{spaced, Put};
 ghost use Rattle.report.specs.Lines.{header, barred, waits, line_text, longest_line};

@@ -2,6 +2,8 @@
 //
 // The caller lends two tables, of at least 31 places for blocks and at least 32 for free stretches, and keeps the number of places
 // used in each, as the last answer gave it. The rules that both tables keep, and what each operation does, are in specs/.
+#![tactic(auto)]
+
 mod lent; // lent.rt: the lent tables, searched, read and written
 mod places; // places.rt: 32 places by value: searched, set, taken out, put in
 mod rules; // rules.rt: the check that two tables keep the rules
