@@ -1,6 +1,6 @@
 -- Laws of tables' places: loaded, taken out and put in, place by place.
 -- Assumes nothing.
-use Rattle.std.proofs.Common.{◌≡◌, ℕ, zero, suc, ◌+◌, ◌-◌, ◌<◌, ◌≤◌, Bool, true, false, ◌&&◌, ◌||◌, ltb, List, [], ◌∷◌, ◌++◌, length, get_or, take, drop, set, replicate, sym, refl, ap, ◌∙◌, zero-le, le_of_suc-le-suc, not-suc-le-zero, add-one, arith, length-append, drop_of_length-le, take_all, ltb-false, ltb-true, le-ltb, lt-ltb}
+use Rattle.std.proofs.Common.{◌≡◌, ℕ, zero, suc, ◌+◌, ◌<◌, ◌≤◌, Bool, true, false, ◌&&◌, ◌||◌, ltb, List, [], ◌∷◌, ◌++◌, length, get_or, take, drop, set, replicate, sym, refl, ap, ◌∙◌, zero-le, le_of_suc-le-suc, not-suc-le-zero, add-one, arith, length-append, drop_of_length-le, take_all, ltb-false, ltb-true, le-ltb, lt-ltb}
 use mathlib.Core.Bool.{and-true}
 use lib.Seq.{drop-nil}
 use Rattle.workspace.specs.declared.Stretch.{Stretch}

@@ -1,6 +1,6 @@
 -- The steps whose parts are put together by hand: each law has an equation for each call's result.
 -- Assumes nothing.
-use Rattle.std.proofs.Common.{◌≡◌, ℕ, zero, suc, ◌+◌, ◌-◌, ◌%◌, ◌<◌, ◌≤◌, Bool, true, false, ◌&&◌, eqb, ltb, leb, List, [], ◌∷◌, length, get_or, take, drop, set, sym, refl, ap, ◌∙◌, zero-le, arith, ltb-true, le-ltb, lt-ltb, ne_eqb, leb-true}
+use Rattle.std.proofs.Common.{◌≡◌, ℕ, zero, suc, ◌+◌, ◌-◌, ◌%◌, ◌<◌, ◌≤◌, Bool, true, false, ◌&&◌, eqb, ltb, leb, List, [], ◌∷◌, get_or, take, drop, set, sym, refl, ap, ◌∙◌, zero-le, arith, ltb-true, le-ltb, lt-ltb, ne_eqb, leb-true}
 use mir.Val.{bool_byte}
 use Rattle.lists.specs.Lists.{if◌then◌else◌, bit, every}
 use Rattle.lists.proofs.Tests.{no, each, and_first, byte_bit}
