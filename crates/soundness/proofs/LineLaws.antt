@@ -1,6 +1,6 @@
 -- A walk that meets each task of the line once, in order, has seen what the rules ask of the line.
 -- Assumes nothing.
-use Rattle.std.proofs.Common.{◌≡◌, ℕ, zero, suc, ◌+◌, ◌-◌, ◌^◌, ◌<◌, ◌≤◌, Bool, true, false, ◌&&◌, eqb, ltb, leb, List, [], ◌∷◌, sym, refl, ap, ◌∙◌, arith, ltb-false, ltb-true, le-ltb, lt-ltb, eq-eqb, ne_eqb}
+use Rattle.std.proofs.Common.{◌≡◌, ℕ, zero, suc, ◌+◌, ◌-◌, ◌^◌, ◌<◌, ◌≤◌, Bool, true, false, ◌&&◌, eqb, ltb, leb, List, [], ◌∷◌, sym, refl, ap, subst, ◌∙◌, arith, ltb-false, ltb-true, le-ltb, lt-ltb, eq-eqb, ne_eqb}
 use mathlib.Core.Bool.{and-true, and-false, and_assoc}
 use Rattle.lists.specs.Line.{line, blanks, tidy}
 use Rattle.lists.specs.Lists.{if◌then◌else◌, bit, count, every, down_from}
@@ -112,7 +112,8 @@ met n m x l w k e = every_same _ _ n (λ t a b. one t)
     one t =
         rw (has_without m x t w k e)
         (by_eq t x
-        (λ q. rw (q, eq-eqb x x refl, e) (eqb_suc (count x l)))
+        (λ q. subst (λ (u : ℕ). eqb (count u l) (bit (if eqb u x then false else has_mark m u)) ≡ eqb (count u (x ∷ l)) (bit (has_mark m u))) (sym q)
+        (rw (eq-eqb x x refl, e) (eqb_suc (count x l))))
         (λ q. rw (ne_eqb t x q, ne_eqb x t (λ z. q (sym z))) (ap (λ (k : ℕ). eqb k (bit (has_mark m t))) (omega arith))))
 
 -- x is not to be met: the list has it too often
