@@ -39,10 +39,10 @@ loop-i-preserved c =
     let a = t.args.a in
     let b = t.args.b in
     let h = t.loop-i-test.true in
-    (v.0, (λ e. v.1.0 (and_first l.is_same-1 (eqb (get_or a.bytes l.i 0) (get_or b.bytes l.i 0)) e), (omega (arith, h), v.1.1.1 ∙ rows_next a b l.is_same-1 l.i v.0 v.1.0 h)))
+    (v.0, (λ e. v.1.0 (and_first l.is_same (eqb (get_or a.bytes l.i 0) (get_or b.bytes l.i 0)) e), (omega (arith, h), v.1.1.1 ∙ rows_next a b l.is_same l.i v.0 v.1.0 h)))
 
 pub returns : goal.returns
 returns c =
     let l = c.loop-i in
     let s = c.args in
-    sym (l.invariant.1.1.1 ∙ rows_done s.a s.b l.is_same-1 l.i l.invariant.0 l.invariant.1.0 c.loop-i-test.false)
+    sym (l.invariant.1.1.1 ∙ rows_done s.a s.b l.is_same l.i l.invariant.0 l.invariant.1.0 c.loop-i-test.false)
