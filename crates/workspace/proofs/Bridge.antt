@@ -3,6 +3,7 @@
 use Rattle.std.proofs.Common.{◌≡◌, ℕ, ◌+◌, ◌-◌, ◌%◌, ◌<◌, ◌≤◌, true, ◌&&◌, ltb, leb, List, [], ◌∷◌, ◌++◌, length, get_or, take, drop, set, replicate, sym, refl, ap, ◌∙◌, subst, le_trans, arith, ltb-true, le-ltb, lt-ltb, leb-true}
 use Rattle.workspace.specs.declared.Stretch.{Stretch}
 use Rattle.workspace.specs.declared.Used.{Used}
+use Rattle.workspace.specs.declared.Look.{Look}
 use Rattle.workspace.specs.declared.Done.{Done}
 use Rattle.lists.specs.Lists.{if◌then◌else◌, bit}
 use Rattle.workspace.specs.Rules.{units, stretch, none, end, has_places, rules_kept}
@@ -218,3 +219,10 @@ release_says b f u a =
     (λ e₁. rw (m ∙ e, e, t ∙ e₁, e₁) (release_took b f u s a e₁))
     (λ e₁. rw (m ∙ e, e, t ∙ e₁, e₁) (says_refused b f 0 u 16)))
     (λ e. rw (m ∙ e, e) (says_refused b f 0 u 2))
+
+-- ---- lent tables, where F is done to what is seen of them, and written to both: the answer and the tables are what the outcome says
+pub lent_is : (b f : List Stretch) (n : ℕ) (F : Look → Done) {u : Used} {o : Outcome} {s : Look} {d : Done} {b' f' : List Stretch} → Says (F (look_of b f n)) b f u o → s ≡ look_of b f n → d ≡ F s → b' ≡ laid d.blocks b → f' ≡ laid d.free f
+    → (d.answer ≡ answer_of u o) × (b' ≡ blocks_after b o) × (f' ≡ free_after f o)
+lent_is b f n F {u = u} {o = o} {d = d} says sees done eb ef =
+    let w : Says d b f u o = subst (λ (z : Done). Says z b f u o) (sym (done ∙ ap F sees)) says in
+    (w.answers, eb ∙ w.writes, ef ∙ w.frees)
