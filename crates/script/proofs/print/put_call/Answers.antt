@@ -13,6 +13,6 @@ returns c =
     let call = c.args.c in
     let row = c.with_call-row in
     let text : take (c.least-n.result - 0) row.result.bytes ≡ text_of call =
-        text_taken row.result c.least-n.result (text_of call) row.ensures.grown.long c.least-n.ensures
-        (alone c.empty.ensures row.ensures.grown) (omega (arith, text_short call row.ensures.fits)) in
+    text_taken row.result c.least-n.result (text_of call) row.ensures.grown.long c.least-n.ensures
+    (alone c.empty.ensures row.ensures.grown) (omega (arith, text_short call row.ensures.fits)) in
     same_text text c.put_bytes.ensures

@@ -1,9 +1,8 @@
 use Prim.Native.Nat.{ℕ}
-use mathlib.Core.List.{List, ◌∷◌}
+use mathlib.Core.List.{List}
 use mathlib.Core.Path.{◌≡◌, sym, ap, subst, ◌∙◌}
 use lib.ListN.{length, take}
 use native.Mathlib.Omega.{arith}
-use Rattle.script.specs.CallText.{text_of}
 use Rattle.script.specs.Rows.{text_in}
 use Rattle.script.specs.Words.{words_of}
 use Rattle.script.specs.Says.{Says}

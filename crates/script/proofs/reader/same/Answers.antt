@@ -1,14 +1,14 @@
-use Rattle.script.proofs.Loops.{even, Rows, rows_begin, rows_next, rows_done}
+use Rattle.script.proofs.Loops.{Rows, rows_begin, rows_next, rows_done}
 use Rattle.script.specs.Guess.{alike}
 use Rattle.script.specs.Rows.{text_in}
 use Rattle.lists.proofs.Tests.{and_first}
 use borrow.Author.Rules.{rules}
 use native.Mathlib.Omega.{arith}
 use lib.Dec.{eqb}
-use lib.ListN.{get_or, drop}
-use mathlib.Core.Bool.{Bool, true, ◌&&◌}
-use mathlib.Core.Path.{◌≡◌, sym, ap, ◌∙◌}
-use Prim.Native.Nat.{ℕ, ◌-◌, ◌≤◌}
+use lib.ListN.{get_or}
+use mathlib.Core.Bool.{Bool, ◌&&◌}
+use mathlib.Core.Path.{sym, ap, ◌∙◌}
+use Prim.Native.Nat.{ℕ}
 use Rattle.script.proofs.reader.same.Goals as goal
 
 pub loop-i-init : goal.loop-i-init
