@@ -10,7 +10,7 @@ use lib.ListN.{length, replicate, set, take, drop, take-append-drop, length-appe
 use lib.Seq.{take_at, drop_at, drop-drop, take_all, take-suc-set, append_snoc, take-length}
 use borrow.Rule.Slice.PartMut.{put_mid}
 use borrow.Author.Tests.{le-leb, lt-leb, lt-ltb, le-ltb}
-use Rattle.lists.specs.Lists.{if◌then◌else◌}
+use Rattle.lists.specs.Lists.{when◌then◌else◌}
 use Rattle.calls.specs.Duration.{bytes_of}
 use Rattle.rules.specs.declared.Task.{Task}
 use Rattle.rules.specs.declared.Supervisor.{Supervisor}
@@ -150,6 +150,6 @@ pub state_short : (b : List ℕ) (r : Supervisor) → length b < state_size → 
 unfolding state_in is_encoding
 state_short b r h e = rw (lt-leb state_size (length b) h) e
 
-pub state_tested : (b : List ℕ) (r : Supervisor) (t : Bool) → state_size ≤ length b → are_tasks 31 (drop 5 b) ≡ t → r ≡ (if t then decode b else lost) → r ≡ state_in b
+pub state_tested : (b : List ℕ) (r : Supervisor) (t : Bool) → state_size ≤ length b → are_tasks 31 (drop 5 b) ≡ t → r ≡ (when t then decode b else lost) → r ≡ state_in b
 unfolding state_in is_encoding
 state_tested b r t h a e = rw (le-leb state_size (length b) h, a) e
