@@ -363,6 +363,7 @@ fn next_log<R: Input + Eprint>(rt: &R, w: Window, f: Flow, buf: &mut [u8]) -> Lo
 }
 
 // Runs a log, and gives the next one. The rest of a log that stopped is skipped.
+#[tactic(auto, unfolding(crate::specs::Rests::head_of))]
 fn run_next<R: Input + Print + Eprint>(rt: &R, l: Log, second: bool, buf: &mut [u8], out: &mut [u8]) -> Log
     requires goes_value { l.goes ≡ true }
     requires free { Free spare out.old l.flow.waits }
@@ -374,6 +375,7 @@ fn run_next<R: Input + Print + Eprint>(rt: &R, l: Log, second: bool, buf: &mut [
 }
 
 // All logs of standard input, each from an empty supervisor with its own clock, with the second engine or the first.
+#[tactic(auto, unfolding(crate::specs::Rests::head_of))]
 fn run_logs_with<R: Input + Print + Eprint>(rt: &R, second: bool) {
     let mut buf = [0u8; 65536];
     let mut out = [0u8; 65536];
