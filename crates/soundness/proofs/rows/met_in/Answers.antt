@@ -1,5 +1,5 @@
 use Rattle.std.proofs.Common.{◌≡◌, ◌+◌, false, ◌&&◌, eqb, get_or, drop, sym, refl, ap, ◌∙◌, arith, rules}
-use Rattle.lists.specs.Lists.{if◌then◌else◌}
+use Rattle.lists.specs.Lists.{when◌then◌else◌}
 use Rattle.soundness.specs.Marks.{Marks, without_mark}
 use Rattle.soundness.specs.Rows.{met_in}
 use Rattle.soundness.proofs.RowLaws.{met_blank, met_on, met_end}

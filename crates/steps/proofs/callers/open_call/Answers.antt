@@ -1,5 +1,5 @@
 use Rattle.std.proofs.Common.{◌≡◌, Bool, ◌&&◌, eqb, sym, ap, ◌∙◌}
-use Rattle.lists.specs.Lists.{if◌then◌else◌}
+use Rattle.lists.specs.Lists.{when◌then◌else◌}
 use Rattle.rules.specs.declared.Task.{Task}
 use Rattle.table.specs.Numbers.{shown_of}
 use Rattle.steps.specs.Lowest.{open_call}
