@@ -10,6 +10,7 @@ use rules::Answer;
 use text::{least, put_byte, put_bytes, put_number};
 
 // The header.
+#[tactic(auto, unfolding(crate::specs::Lines::header))]
 pub fn put_header(out: &mut [u8], at: usize) -> usize
     ensures { Put out.old at header out.new result }
 {

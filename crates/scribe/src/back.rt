@@ -41,7 +41,13 @@ fn over<R: Print + Eprint>(rt: &R, r: Records, bad: bool, out: &[u8]) -> Records
 }
 
 // Where n bytes are no record: it is over, unless they are fewer than the longest has and more may come.
-fn without<R: Input + Print + Eprint>(rt: &R, r: Records, n: usize, buf: &mut [u8], out: &[u8]) -> Records {
+fn without<R: Input + Print + Eprint>(
+    rt: &R,
+    r: Records,
+    n: usize,
+    buf: &mut [u8],
+    out: &[u8],
+) -> Records {
     if r.flow.window.last | (10 <= n) {
         return over(rt, r, 0 < n, out);
     }

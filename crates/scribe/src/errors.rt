@@ -46,7 +46,11 @@ fn tell_form<R: Eprint>(rt: &R, number: u64, a: u8, b: u8) {
         return;
     }
     if (a == b'd') & (b == b'e') {
-        tell_line(rt, number, b"DELAY 3, a number from -2147483648 to 2147483647");
+        tell_line(
+            rt,
+            number,
+            b"DELAY 3, a number from -2147483648 to 2147483647",
+        );
         return;
     }
     if (a == b'c') & (b == b'a') {

@@ -140,7 +140,14 @@ fn over<R: Print + Eprint>(rt: &R, l: Lines, out: &[u8]) -> Lines
 }
 
 // Behind what stands at the front of the window, with output for it up to `place`. Where that is less than a line, there is more input instead.
-pub fn behind<R: Input + Print + Eprint>(rt: &R, l: Lines, p: Piece, place: usize, buf: &mut [u8], out: &[u8]) -> Lines
+pub fn behind<R: Input + Print + Eprint>(
+    rt: &R,
+    l: Lines,
+    p: Piece,
+    place: usize,
+    buf: &mut [u8],
+    out: &[u8],
+) -> Lines
     ensures number_value { (result.number ≡ number_behind p.kind l.number) × (result.skips ≡ skips_behind p.kind l.skips) }
     ensures window_behind { WindowBehind p.kind p.to l.flow.window buf.old result.flow.window buf.new }
 {

@@ -49,9 +49,6 @@ module _ (s : Supervisor) (c : C.Call) (n : ℕ) where
   unfolding step_whole
   step_sound h q = rw (h, q)
 
-pub by_whole : {w q : Whole} {r : Stepped} (x y : List ℕ) → w ≡ q → r ≡ stepped_of q → x ≡ room_after y q.ended → (r ≡ stepped_of w) × (x ≡ room_after y w.ended)
-by_whole x y e h k = (h ∙ sym (ap stepped_of e), k ∙ sym (ap (λ (w : Whole). room_after y w.ended) e))
-
 -- the core and the callers afterwards are those of the next state
 pub state_is : (s : Supervisor) (c : C.Call) (k : Taken) (room after m l : List ℕ) (b : Bool) → Typed s → sound_whole s ≡ true → k ≡ taken_of s.core (take_call (view s) c)
     → after ≡ room_after room (ended_by (take_call (view s) c)) → m ≡ marked one (accepted_in k.result k.partner ++ bytes_in task_at k.ended after) no_marks

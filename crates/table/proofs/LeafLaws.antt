@@ -7,7 +7,7 @@ use Rattle.lists.specs.Line.{line, pad}
 use Rattle.lists.proofs.ListLaws.{by_bool, by_eq, clash}
 use Rattle.lists.proofs.LineLaws.{left_over, line_picked}
 use Rattle.lists.proofs.MarkLaws.{insert_by_lem}
-use Rattle.lists.specs.Lists.{if◌then◌else◌, remove, rejoin}
+use Rattle.lists.specs.Lists.{when◌then◌else◌, remove, rejoin}
 use Rattle.lists.specs.Marks.{no_marks, mark_of, marked, with_mark, insert_by}
 use Rattle.rules.specs.State.{blank, nth, set_nth, task_of, is_ready, is_held, kept_of, retime, ticks_left, placed, ranked, higher, meeting}
 use Rattle.rules.specs.Whole.{view_core}
@@ -81,7 +81,7 @@ pub left_at : (s : Core) (t at d : ℕ) → length s.tasks ≡ 31 → at ≡ ind
 left_at s t at d l e q = q ∙ ap (λ (x : Task). ticks_left s.clock x.timer) (shown_at s t at (shown_of s.created t (get_or s.tasks at blank)) l e refl)
 
 -- where t is no task's number, what stood at the place is put back
-pub put_back : (ts : List Task) (t : ℕ) (x : Task) → length ts ≡ 31 → set ts (index_of t) (if is_number t then x else get_or ts (index_of t) blank) ≡ set_nth ts t x
+pub put_back : (ts : List Task) (t : ℕ) (x : Task) → length ts ≡ 31 → set ts (index_of t) (when is_number t then x else get_or ts (index_of t) blank) ≡ set_nth ts t x
 put_back ts t x l =
     by_bool (ltb 0 t)
     (λ p. by_bool (leb t 31)
@@ -101,9 +101,9 @@ module _ (f : Task → Task) (n t : ℕ) (k : Task) where
 pub changed_put : (f : Task → Task) (s : Core) (t at : ℕ) (z : Task) → length s.tasks ≡ 31 → at ≡ index_of t → z ≡ changed_task f s.created t (get_or s.tasks at blank)
     → set s.tasks at z ≡ set_nth s.tasks t (f (task_of (view_core s) t))
 changed_put f s t at z l ea ez =
-    let back : ℕ → Task = λ i. if is_number t then f (task_of (view_core s) t) else get_or s.tasks i blank in
+    let back : ℕ → Task = λ i. when is_number t then f (task_of (view_core s) t) else get_or s.tasks i blank in
     let e : z ≡ back at =
-    ez ∙ ap (λ (k : Task). if is_number t then f k else get_or s.tasks at blank) (shown_at s t at (shown_of s.created t (get_or s.tasks at blank)) l ea refl) in
+    ez ∙ ap (λ (k : Task). when is_number t then f k else get_or s.tasks at blank) (shown_at s t at (shown_of s.created t (get_or s.tasks at blank)) l ea refl) in
     ap (set s.tasks at) e ∙ ap (λ (i : ℕ). set s.tasks i (back i)) ea ∙ put_back s.tasks t (f (task_of (view_core s) t)) l
 
 -- ---- the move, from what its parts answer

@@ -5,7 +5,7 @@ use Rattle.std.proofs.Common.{◌≡◌, ℕ, false, List, [], ◌∷◌, refl}
 use denote.Enum.Declared.{tag_of}
 use types.Run.{OneOf, miss}
 use mir.Val.{has_key}
-use Rattle.lists.specs.Lists.{if◌then◌else◌}
+use Rattle.lists.specs.Lists.{when◌then◌else◌}
 use Rattle.lists.proofs.ListLaws.{by_bool}
 use Rattle.rules.specs.contracts.Place.{the_type}
 use Rattle.rules.specs.State.{is_ready, is_queued, is_held, is_completed, partner_of, entry_of, kept_of, accepts}
@@ -22,7 +22,7 @@ Among ks p = OneOf ks (tag_of the_type p)
 
 -- what is asked of a place: nothing where its number is none of the list
 abbrev Asked : List ℕ → ℕ → Type 0 → Type 0
-Asked ks n G = if has_key ks n then G else Unit {0}
+Asked ks n G = when has_key ks n then G else Unit {0}
 
 asked : (ks : List ℕ) (n : ℕ) (G : Type 0) → Asked ks n G → OneOf ks n → G
 asked ks n G a k = by_bool (has_key ks n) (λ e. rw e at a) (λ e. absurd (miss ks n (rw e tt) k))

@@ -3,8 +3,9 @@
 use Rattle.std.proofs.Common.{◌≡◌, ℕ, ◌+◌, ◌-◌, ◌%◌, ◌<◌, ◌≤◌, true, ◌&&◌, ltb, leb, List, [], ◌∷◌, ◌++◌, length, get_or, take, drop, set, replicate, sym, refl, ap, ◌∙◌, subst, le_trans, arith, ltb-true, le-ltb, lt-ltb, leb-true}
 use Rattle.workspace.specs.declared.Stretch.{Stretch}
 use Rattle.workspace.specs.declared.Used.{Used}
+use Rattle.workspace.specs.declared.Look.{Look}
 use Rattle.workspace.specs.declared.Done.{Done}
-use Rattle.lists.specs.Lists.{if◌then◌else◌, bit}
+use Rattle.lists.specs.Lists.{when◌then◌else◌, bit}
 use Rattle.workspace.specs.Rules.{units, stretch, none, end, has_places, rules_kept}
 use Rattle.workspace.specs.Operations.{placed, fits, fit_start, cut, starts_at, length_at, without, joined, Outcome, refused, took, fresh_of, request_of, release_of, blocks_after, free_after, answer_of, unused}
 use Rattle.workspace.specs.declared.Test.TheVariants.{StartsAt, StartsBehind, HasUnits}
@@ -114,8 +115,8 @@ module _ (b f : List Stretch) (u : Used) (s : Stands b f u) where
 
     free_then : cut_at (place_of (passes_of HasUnits n) f) n (table_of f).places ≡ pad 32 (cut n fl)
     free_then =
-        (λ i. if ltb n (there i).length then set (free_seen_lem b f u s i) (found i) (stretch (((there i).start + n) % 4294967296) ((there i).length - n)) else remove_at (found i) (free_seen_lem b f u s i))
-        ∙ ap (λ (a : ℕ). if ltb n x.length then set (pad 32 fl) p (stretch a (x.length - n)) else remove_at p (pad 32 fl)) sum_fits ∙ pad_cut 32 n fl (at_most_32 b f u s) e
+        (λ i. when ltb n (there i).length then set (free_seen_lem b f u s i) (found i) (stretch (((there i).start + n) % 4294967296) ((there i).length - n)) else remove_at (found i) (free_seen_lem b f u s i))
+        ∙ ap (λ (a : ℕ). when ltb n x.length then set (pad 32 fl) p (stretch a (x.length - n)) else remove_at p (pad 32 fl)) sum_fits ∙ pad_cut 32 n fl (at_most_32 b f u s) e
 
     blocks_count : u.blocks + 1 ≡ length (placed block bl)
     blocks_count = let c : length bl ≡ u.blocks = count_blocks b f u s in let k : length (placed block bl) ≡ length bl + 1 = placed_length block bl in omega (arith, c, k)
@@ -218,3 +219,10 @@ release_says b f u a =
     (λ e₁. rw (m ∙ e, e, t ∙ e₁, e₁) (release_took b f u s a e₁))
     (λ e₁. rw (m ∙ e, e, t ∙ e₁, e₁) (says_refused b f 0 u 16)))
     (λ e. rw (m ∙ e, e) (says_refused b f 0 u 2))
+
+-- ---- lent tables, where F is done to what is seen of them, and written to both: the answer and the tables are what the outcome says
+pub lent_is : (b f : List Stretch) (n : ℕ) (F : Look → Done) {u : Used} {o : Outcome} {s : Look} {d : Done} {b' f' : List Stretch} → Says (F (look_of b f n)) b f u o → s ≡ look_of b f n → d ≡ F s → b' ≡ laid d.blocks b → f' ≡ laid d.free f
+    → (d.answer ≡ answer_of u o) × (b' ≡ blocks_after b o) × (f' ≡ free_after f o)
+lent_is b f n F {u = u} {o = o} {d = d} says sees done eb ef =
+    let w : Says d b f u o = subst (λ (z : Done). Says z b f u o) (sym (done ∙ ap F sees)) says in
+    (w.answers, eb ∙ w.writes, ef ∙ w.frees)

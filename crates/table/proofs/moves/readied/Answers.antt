@@ -17,15 +17,14 @@ returns-then-t-eq0 c =
 
 pub loop-i-preserved : goal.loop-i-preserved
 loop-i-preserved c =
-    let i = c.before.before in
-    let e = i.before in
-    let s = e.loop-i in
-    let t = e.args.l in (
+    let s = c.loop-i in
+    let l = c.args.l in
+    let t = get_or l s.i 0 in (
       omega arith,
       length-set {A = Task} s.n.tasks _ c.placed_task.result ∙ s.invariant.1,
       s.invariant.2
-          ∙ readied_on s.n (get_or t s.i 0) _ _ _ (rest_entry t s.i (search rules) e.if-t-eq0.false)
-          (changed_put (λ x. placed x Ready Off) s.n (get_or t s.i 0) _ _ s.invariant.1 i.index_of-at.ensures.0 c.placed_task.ensures),
+          ∙ readied_on s.n t _ _ _ (rest_entry l s.i (search rules) c.if-t-eq0.false)
+          (changed_put (λ x. placed x Ready Off) s.n t _ _ s.invariant.1 c.index_of-at.ensures.0 c.placed_task.ensures),
     )
 
 pub returns : goal.returns

@@ -24,4 +24,4 @@ returns-else-p-used c =
 pub returns-else-keeps : goal.returns-else-keeps
 returns-else-keeps c =
     let a = c.args in
-    release_unsound a.seen a.used a.start c.keeps.ensures c.if-keeps.false c.refused.ensures
+    release_unsound a.seen a.used a.start c.keeps.ensures c.if-keeps.false c.refused-else-keeps.ensures
