@@ -4,7 +4,7 @@ use Rattle.std.proofs.Common.{◌≡◌, ℕ, zero, suc, ◌+◌, ◌<◌, ◌�
 use mathlib.Core.Bool.{and-true, and-false, and_assoc}
 use lib.ListN.{get_or-eq_default}
 use Rattle.lists.specs.Line.{line, tidy, blanks}
-use Rattle.lists.specs.Lists.{if◌then◌else◌, bit, count, every, down_from}
+use Rattle.lists.specs.Lists.{when◌then◌else◌, bit, count, every, down_from}
 use Rattle.lists.specs.Marks.{no_marks, mark_of}
 use Rattle.lists.proofs.Tests.{and_first}
 use Rattle.lists.proofs.ListLaws.{clash, by_bool, by_eq}
@@ -88,10 +88,10 @@ module _ (T : List ℕ) (g m : ℕ) (l : List ℕ) (i : ℕ) where
   met_blank h e = rw (drop-cons l i 0 h, e)
 
   pub met_on : i < length l → (get_or l i 0 ≡ 0 → ⊥) → (b : Bool) → b ≡ (has_mark m (get_or l i 0) && eqb (mark_of T (get_or l i 0)) g)
-      → met_in T g m (drop i l) ≡ (if b then met_in T g (without_mark m (get_or l i 0)) (drop (i + 1) l) else record { ok = false; rest = m })
+      → met_in T g m (drop i l) ≡ (when b then met_in T g (without_mark m (get_or l i 0)) (drop (i + 1) l) else record { ok = false; rest = m })
   met_on h n b e = rw (e, drop-cons l i 0 h, add-one i) (number (get_or l i 0) n)
     where
-      number : (x : ℕ) → (x ≡ 0 → ⊥) → met_in T g m (x ∷ drop (suc i) l) ≡ (if has_mark m x && eqb (mark_of T x) g then met_in T g (without_mark m x) (drop (suc i) l) else record { ok = false; rest = m })
+      number : (x : ℕ) → (x ≡ 0 → ⊥) → met_in T g m (x ∷ drop (suc i) l) ≡ (when has_mark m x && eqb (mark_of T x) g then met_in T g (without_mark m x) (drop (suc i) l) else record { ok = false; rest = m })
       number zero n = absurd (n refl)
       number (suc x) n = refl
 

@@ -1,6 +1,6 @@
 -- An area as pieces that lie end to end: the form of the rules that the proofs use. `Words.antt` shows that it is the rules.
 -- Assumes nothing.
-use Rattle.std.proofs.Common.{◌≡◌, ℕ, ◌+◌, ◌-◌, ◌<◌, ◌≤◌, Bool, true, false, List, [], ◌∷◌, length, refl, ap, subst, true≢false, le_trans, arith}
+use Rattle.std.proofs.Common.{◌≡◌, ℕ, ◌+◌, ◌<◌, ◌≤◌, Bool, true, false, List, [], ◌∷◌, length, refl, ap, subst, true≢false, le_trans, arith}
 use Rattle.lists.specs.Lists.{bit}
 use Rattle.workspace.specs.declared.Stretch.{Stretch}
 use Rattle.workspace.specs.Rules.{units, stretch, end, total}

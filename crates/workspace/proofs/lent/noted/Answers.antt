@@ -1,5 +1,4 @@
 use Rattle.workspace.proofs.SeenLaws.{note_law}
-use Rattle.std.proofs.Common.{rules}
 use Rattle.workspace.proofs.lent.noted.Goals as goal
 
 pub returns : goal.returns

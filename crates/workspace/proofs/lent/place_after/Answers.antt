@@ -1,4 +1,4 @@
-use Rattle.std.proofs.Common.{refl, ◌∙◌, rules, le-ltb, lt-ltb}
+use Rattle.std.proofs.Common.{refl, ◌∙◌, le-ltb, lt-ltb}
 use Rattle.workspace.proofs.lent.place_after.Goals as goal
 
 pub returns-then-i-lt32 : goal.returns-then-i-lt32

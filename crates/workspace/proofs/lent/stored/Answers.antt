@@ -1,9 +1,8 @@
-use Rattle.std.proofs.Common.{◌≡◌, ◌<◌, ◌≤◌, List, length, take, set, sym, ap, ◌∙◌, slice_index_or, arith, rules}
-use Rattle.lists.specs.Over.{over}
+use Rattle.std.proofs.Common.{◌≡◌, ◌<◌, ◌≤◌, List, length, set, sym, ap, ◌∙◌, slice_index_or, arith, rules}
 use Rattle.lists.proofs.OverLaws.{over_nil}
 use Rattle.workspace.specs.declared.Stretch.{Stretch}
 use Rattle.workspace.specs.Rules.{none}
-use Rattle.workspace.specs.Seen.{place_after, laid}
+use Rattle.workspace.specs.Seen.{place_after}
 use Rattle.workspace.proofs.PlaceLaws.{mapped_long}
 use Rattle.workspace.proofs.SeenLaws.{lay_next, lay_all}
 use Rattle.workspace.proofs.lent.stored.Goals as goal

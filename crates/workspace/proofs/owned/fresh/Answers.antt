@@ -1,4 +1,4 @@
-use Rattle.std.proofs.Common.{◌≡◌, rules}
+use Rattle.std.proofs.Common.{◌≡◌}
 use Rattle.workspace.specs.Owning.{owned_fresh, tables_as}
 use Rattle.workspace.specs.Steps.{fresh_seen}
 use Rattle.workspace.proofs.Bridge.{fresh_says}

@@ -1,5 +1,4 @@
-use Rattle.std.proofs.Common.{◌≡◌, ◌-◌, ◌<◌, ◌≤◌, length, drop, sym, refl, ap, ◌∙◌, arith, rules}
-use Rattle.lists.specs.Lists.{every}
+use Rattle.std.proofs.Common.{◌≡◌, ◌<◌, ◌≤◌, length, sym, refl, ap, ◌∙◌, arith, rules}
 use Rattle.lists.proofs.Turns.{every_pass, every_fail, every_done}
 use Rattle.workspace.specs.Rules.{none, is_none}
 use Rattle.workspace.proofs.PlaceLaws.{mapped_long}

@@ -1,8 +1,6 @@
-use Rattle.std.proofs.Common.{◌≡◌, ◌-◌, ◌<◌, ◌≤◌, length, drop, sym, refl, ap, ◌∙◌, arith, rules}
+use Rattle.std.proofs.Common.{◌≡◌, ◌-◌, length, drop}
 use Rattle.lists.specs.Lists.{every}
-use Rattle.lists.proofs.Turns.{every_pass, every_fail, every_done}
-use Rattle.workspace.specs.Rules.{none, is_none}
-use Rattle.workspace.proofs.PlaceLaws.{mapped_long}
+use Rattle.workspace.specs.Rules.{is_none}
 use Rattle.workspace.proofs.places.all_none.Given as goal
 
 abbrev pub invariant-loop-i : goal.invariant-loop-i

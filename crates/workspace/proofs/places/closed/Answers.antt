@@ -1,6 +1,6 @@
-use Rattle.std.proofs.Common.{◌-◌, ◌<◌, sym, ◌∙◌, arith, rules}
+use Rattle.std.proofs.Common.{◌<◌, sym, ◌∙◌, arith, rules}
 use Rattle.workspace.specs.Places.{remove_at}
-use Rattle.workspace.proofs.PlaceLaws.{mapped_long, Written, write_next, write_all, remove_length, remove_behind, remove_front}
+use Rattle.workspace.proofs.PlaceLaws.{mapped_long, write_next, write_all, remove_length, remove_behind, remove_front}
 use Rattle.workspace.proofs.places.closed.Goals as goal
 
 pub loop-i-init : goal.loop-i-init

@@ -1,6 +1,6 @@
-use Rattle.std.proofs.Common.{◌-◌, ◌<◌, sym, ◌∙◌, arith, rules}
+use Rattle.std.proofs.Common.{◌-◌}
 use Rattle.workspace.specs.Places.{remove_at}
-use Rattle.workspace.proofs.PlaceLaws.{mapped_long, Written, write_next, write_all, remove_length, remove_behind, remove_front}
+use Rattle.workspace.proofs.PlaceLaws.{Written}
 use Rattle.workspace.proofs.places.closed.Given as goal
 
 abbrev pub invariant-loop-i : goal.invariant-loop-i

@@ -1,7 +1,6 @@
-use Rattle.std.proofs.Common.{◌≡◌, ◌-◌, ◌<◌, length, get_or, sym, ◌∙◌, arith, rules}
-use Rattle.workspace.specs.Rules.{none}
+use Rattle.std.proofs.Common.{◌≡◌, ◌<◌, length, sym, ◌∙◌, arith, rules}
 use Rattle.workspace.specs.Places.{insert_at}
-use Rattle.workspace.proofs.PlaceLaws.{mapped_long, Written, write_next, write_all, insert_length, insert_here, insert_behind, insert_front}
+use Rattle.workspace.proofs.PlaceLaws.{mapped_long, write_next, write_all, insert_length, insert_here, insert_behind, insert_front}
 use Rattle.workspace.proofs.places.opened.Goals as goal
 
 pub loop-i-init : goal.loop-i-init

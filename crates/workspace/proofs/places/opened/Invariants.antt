@@ -1,7 +1,7 @@
-use Rattle.std.proofs.Common.{◌≡◌, ◌-◌, ◌<◌, length, get_or, sym, ◌∙◌, arith, rules}
+use Rattle.std.proofs.Common.{◌≡◌, ◌-◌, ◌<◌, get_or}
 use Rattle.workspace.specs.Rules.{none}
 use Rattle.workspace.specs.Places.{insert_at}
-use Rattle.workspace.proofs.PlaceLaws.{mapped_long, Written, write_next, write_all, insert_length, insert_here, insert_behind, insert_front}
+use Rattle.workspace.proofs.PlaceLaws.{Written}
 use Rattle.workspace.proofs.places.opened.Given as goal
 
 -- y is what belongs at the place i

@@ -1,7 +1,7 @@
-use Rattle.std.proofs.Common.{◌≡◌, ◌-◌, ◌<◌, ◌≤◌, length, take, sym, ◌∙◌, zero-le, arith, length-take-le, get_or-take, rules}
+use Rattle.std.proofs.Common.{◌≡◌, ◌<◌, ◌≤◌, length, take, sym, ◌∙◌, zero-le, arith, length-take-le, get_or-take, rules}
 use Rattle.workspace.specs.Rules.{none}
 use Rattle.workspace.specs.Places.{passes_of}
-use Rattle.workspace.proofs.PlaceLaws.{mapped_long, Passed, begin, pass, found, passed_all}
+use Rattle.workspace.proofs.PlaceLaws.{mapped_long, begin, pass, found, passed_all}
 use Rattle.workspace.proofs.places.place_of.Goals as goal
 
 pub loop-i-init : goal.loop-i-init

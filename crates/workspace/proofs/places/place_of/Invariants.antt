@@ -1,7 +1,6 @@
-use Rattle.std.proofs.Common.{◌≡◌, ◌-◌, ◌<◌, ◌≤◌, length, take, sym, ◌∙◌, zero-le, arith, length-take-le, get_or-take, rules}
-use Rattle.workspace.specs.Rules.{none}
+use Rattle.std.proofs.Common.{◌≡◌, ◌-◌, ◌≤◌, length, take}
 use Rattle.workspace.specs.Places.{passes_of}
-use Rattle.workspace.proofs.PlaceLaws.{mapped_long, Passed, begin, pass, found, passed_all}
+use Rattle.workspace.proofs.PlaceLaws.{Passed}
 use Rattle.workspace.proofs.places.place_of.Given as goal
 
 abbrev pub invariant-loop-i : goal.invariant-loop-i

@@ -1,4 +1,4 @@
-use Rattle.std.proofs.Common.{take, sym, ◌∙◌, arith, length-take, get_or-take, rules}
+use Rattle.std.proofs.Common.{take, sym, ◌∙◌, arith, length-take, get_or-take}
 use lib.ListN.{get_or-eq_default}
 use Rattle.workspace.specs.Rules.{none}
 use Rattle.workspace.proofs.places.used_at.Goals as goal

@@ -1,4 +1,3 @@
-use Rattle.std.proofs.Common.{rules}
 use Rattle.workspace.proofs.CheckLaws.{block_reached, free_reached, none_reached}
 use Rattle.workspace.proofs.rules.reached.Goals as goal
 

@@ -1,7 +1,6 @@
-use Rattle.std.proofs.Common.{◌≡◌, ℕ, ◌+◌, ◌-◌, ◌*◌, ◌<◌, ◌≤◌, false, length, take, sym, refl, ap, ◌∙◌, zero-le, arith, length-take-le, rules}
+use Rattle.std.proofs.Common.{◌≡◌, ◌-◌, ◌*◌, ◌≤◌, false, length, take}
 use Rattle.workspace.specs.Check.{tiled}
-use Rattle.workspace.proofs.PlaceLaws.{mapped_long}
-use Rattle.workspace.proofs.CheckLaws.{Rest, stop_law, again_law, bounds-law}
+use Rattle.workspace.proofs.CheckLaws.{Rest}
 use Rattle.workspace.proofs.rules.tiles.Given as goal
 
 abbrev pub invariant-loop-k : goal.invariant-loop-k

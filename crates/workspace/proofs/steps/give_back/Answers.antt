@@ -1,4 +1,3 @@
-use Rattle.std.proofs.Common.{rules}
 use Rattle.workspace.proofs.StepLaws.{give_low, give_lone}
 use Rattle.workspace.proofs.steps.give_back.Goals as goal
 

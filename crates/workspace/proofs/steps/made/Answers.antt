@@ -1,4 +1,4 @@
-use Rattle.std.proofs.Common.{replicate, refl, ◌∙◌, rules}
+use Rattle.std.proofs.Common.{replicate, refl, ◌∙◌}
 use Rattle.workspace.specs.Rules.{none}
 use Rattle.workspace.specs.Steps.{done_as, fresh_seen}
 use Rattle.workspace.proofs.steps.made.Goals as goal

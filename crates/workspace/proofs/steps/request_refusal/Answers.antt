@@ -1,6 +1,10 @@
-use Rattle.std.proofs.Common.{refl, le-ltb, lt-ltb}
+use Rattle.std.proofs.Common.{◌≡◌, true, ltb, refl, le-ltb, lt-ltb, arith}
 use Rattle.workspace.specs.Steps.{request_refusal}
 use Rattle.workspace.proofs.steps.request_refusal.Goals as goal
+
+-- fewer than 31 blocks are taken where that test is passed
+few : (c : goal.Then-n-place) → ltb c.args.m 31 ≡ true
+few c = lt-ltb c.args.m 31 (omega arith)
 
 pub returns-then-not-kept : goal.returns-then-not-kept
 unfolding request_refusal
@@ -16,12 +20,8 @@ returns-then-m-ge31 c = rw (c.if-not-kept.false, c.if-not-sized.false, le-ltb c.
 
 pub returns-then-n-place : goal.returns-then-n-place
 unfolding request_refusal
-returns-then-n-place c =
-    let a = c.args in
-    rw (c.if-not-kept.false, c.if-not-sized.false, lt-ltb a.m 31 c.if-m-ge31.false, le-ltb a.place a.n c.if-n-place.true) refl
+returns-then-n-place c = rw (c.if-not-kept.false, c.if-not-sized.false, few c, le-ltb c.args.place c.args.n c.if-n-place.true) refl
 
 pub returns : goal.returns
 unfolding request_refusal
-returns c =
-    let a = c.args in
-    rw (c.if-not-kept.false, c.if-not-sized.false, lt-ltb a.m 31 c.if-m-ge31.false, lt-ltb a.place a.n c.if-n-place.false) refl
+returns c = rw (c.if-not-kept.false, c.if-not-sized.false, lt-ltb c.args.m 31 (omega arith), lt-ltb c.args.place c.args.n c.if-n-place.false) refl

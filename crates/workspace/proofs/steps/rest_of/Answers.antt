@@ -1,4 +1,4 @@
-use Rattle.std.proofs.Common.{refl, ◌∙◌, rules}
+use Rattle.std.proofs.Common.{refl, ◌∙◌}
 use Rattle.workspace.proofs.steps.rest_of.Goals as goal
 
 pub returns-then-high : goal.returns-then-high

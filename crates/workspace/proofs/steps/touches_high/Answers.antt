@@ -1,4 +1,4 @@
-use Rattle.std.proofs.Common.{eqb, rules}
+use Rattle.std.proofs.Common.{eqb}
 use Rattle.workspace.specs.Rules.{end}
 use Rattle.workspace.proofs.steps.touches_high.Goals as goal
 

@@ -1,4 +1,3 @@
-use Rattle.std.proofs.Common.{rules}
 use Rattle.workspace.proofs.StepLaws.{low_law}
 use Rattle.workspace.proofs.steps.touches_low.Goals as goal
 
