@@ -90,7 +90,14 @@ fn place_behind(w: Window, count: usize) -> usize
 }
 
 // The log behind a turn that took `count` bytes and put output up to `place`.
-fn advanced<R: Print + Eprint>(rt: &R, l: Log, count: usize, place: usize, goes: bool, out: &[u8]) -> Log
+fn advanced<R: Print + Eprint>(
+    rt: &R,
+    l: Log,
+    count: usize,
+    place: usize,
+    goes: bool,
+    out: &[u8],
+) -> Log
     ensures { Moved l count place goes out.now result }
 {
     let at = place_behind(l.flow.window, count);
@@ -210,7 +217,13 @@ fn run_second_log<R: Input + Print + Eprint>(rt: &R, l: Log, buf: &mut [u8], out
 }
 
 // A log to its end, with the second engine or the first.
-fn run_with<R: Input + Print + Eprint>(rt: &R, l: Log, second: bool, buf: &mut [u8], out: &mut [u8]) -> Log
+fn run_with<R: Input + Print + Eprint>(
+    rt: &R,
+    l: Log,
+    second: bool,
+    buf: &mut [u8],
+    out: &mut [u8],
+) -> Log
     requires goes_value { l.goes ≡ true }
     requires free { Free spare out.old l.flow.waits }
     ensures { Free spare out.new result.flow.waits }
@@ -363,7 +376,14 @@ fn next_log<R: Input + Eprint>(rt: &R, w: Window, f: Flow, buf: &mut [u8]) -> Lo
 }
 
 // Runs a log, and gives the next one. The rest of a log that stopped is skipped.
-fn run_next<R: Input + Print + Eprint>(rt: &R, l: Log, second: bool, buf: &mut [u8], out: &mut [u8]) -> Log
+#[tactic(auto, unfolding(crate::specs::Rests::head_of))]
+fn run_next<R: Input + Print + Eprint>(
+    rt: &R,
+    l: Log,
+    second: bool,
+    buf: &mut [u8],
+    out: &mut [u8],
+) -> Log
     requires goes_value { l.goes ≡ true }
     requires free { Free spare out.old l.flow.waits }
     ensures { Free spare out.new result.flow.waits }
@@ -374,6 +394,7 @@ fn run_next<R: Input + Print + Eprint>(rt: &R, l: Log, second: bool, buf: &mut [
 }
 
 // All logs of standard input, each from an empty supervisor with its own clock, with the second engine or the first.
+#[tactic(auto, unfolding(crate::specs::Rests::head_of))]
 fn run_logs_with<R: Input + Print + Eprint>(rt: &R, second: bool) {
     let mut buf = [0u8; 65536];
     let mut out = [0u8; 65536];

@@ -3,7 +3,6 @@
 use Rattle.std.proofs.Common.{◌≡◌, ℕ, zero, suc, ◌≤◌, Bool, List, [], length, sym, refl, ap, ◌∙◌}
 use Rattle.rules.specs.State.{State, task_of, move, running}
 use Rattle.rules.specs.Step.{Outcome, refused, took, NO_TASK, of_running, room_after}
-use Rattle.rules.specs.Sound.{sound}
 use Rattle.rules.specs.Whole.{view_core, pack_core}
 use Rattle.rules.specs.declared.Item.{Item}
 use Rattle.rules.specs.declared.Task.{Task}

@@ -4,7 +4,6 @@ use Rattle.std.proofs.Common.{◌≡◌, ℕ, zero, suc, ◌<◌, ◌≤◌, Boo
 use Rattle.lists.proofs.Tests.{between}
 use Rattle.rules.specs.State.{State, created, task_of, wake, running, after, is_task, has_entry, place_of, is_completed, accepts, meet}
 use Rattle.rules.specs.Step.{refused, took, NO_TASK, NO_TARGET, NO_ENTRY, item, WAITS, CALL_EXPIRED, TASKING_ERROR, ACCEPTED, ticks, enqueue, timed_call, call_busy, call, take_call}
-use Rattle.rules.specs.Sound.{sound}
 use Rattle.lists.specs.Lists.{remove}
 use Rattle.rules.specs.Callers.{with_callers}
 use Rattle.rules.specs.Whole.{view_core, pack_core}

@@ -6,7 +6,6 @@ use Rattle.lists.proofs.LineLaws.{length_pad, line_picked}
 use Rattle.lists.specs.Line.{line, pad}
 use Rattle.lists.specs.Lists.{when◌then◌else◌, filter, to_head}
 use Rattle.rules.specs.State.{State, blank, set_nth, task_of, place_of, current_of, created, is_ready, kept_of, move, ranked, rank, higher, meeting, meet, part}
-use Rattle.rules.specs.Sound.{sound}
 use Rattle.rules.specs.Whole.{view_core, pack_core}
 use Rattle.rules.specs.declared.Task.{Task}
 use Rattle.rules.specs.declared.Core.{Core}

@@ -1,4 +1,4 @@
-use Rattle.std.proofs.Common.{◌≡◌, ℕ, ◌-◌, ◌<◌, ◌≤◌, Bool, ◌&&◌, [], length, get_or, sym, refl, ap, ◌∙◌, arith, rules}
+use Rattle.std.proofs.Common.{◌≡◌, ℕ, ◌-◌, ◌<◌, ◌≤◌, Bool, [], get_or, sym, refl, ap, ◌∙◌, arith, rules}
 use mathlib.Core.Bool.{and-true}
 use Rattle.lists.specs.Lists.{every, down_from}
 use Rattle.lists.proofs.Tests.{between}

@@ -28,5 +28,5 @@ returns c =
     let answer = c.refused_answer-answer.ensures ∙ ap (λ (k : Running). refused_answer a.n k.task) c.running-k.ensures in
     let line = ap (λ (x : Answer). line_text a.s.step x a.room.now) answer in
     let said = says second_made _ _ (says_bad second a.s a.n a.many a.last a.room.now c.if-last-many.false (ne_eqb _ 12 c.if-n-eq-END_OF_LOG.false))
-        (same_text line c.put_line-place.ensures.put) (subst (λ (t : List ℕ). length t ≤ longest_line) line c.put_line-place.ensures.room_len_bound) in
+    (same_text line c.put_line-place.ensures.put) (subst (λ (t : List ℕ). length t ≤ longest_line) line c.put_line-place.ensures.room_len_bound) in
     record { value = said.0; out_after = said.1.0; room_len_bound = said.1.1 }

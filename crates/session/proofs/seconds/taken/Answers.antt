@@ -10,8 +10,8 @@ returns c =
     let a = c.args in
     let k = c.step-stepped in
     let next : ◌≡◌ {A = SecondSession} (record { state = k.result.state; step = c.wrapping_add_u64.result }) (second.after a.s a.call (length a.room.now)) =
-        λ i. record { state = (k.ensures.value i).state; step = c.wrapping_add_u64.ensures.value i } in
+    λ i. record { state = (k.ensures.value i).state; step = c.wrapping_add_u64.ensures.value i } in
     let whole = took_is second a.s a.call a.count a.room.now k.new.room k.result.answer (record { state = k.result.state; step = c.wrapping_add_u64.result })
-        (ap (λ (r : SecondStepped). r.answer) k.ensures.value) k.ensures.room next in
+    (ap (λ (r : SecondStepped). r.answer) k.ensures.value) k.ensures.room next in
     let said = says second_made _ _ whole c.put_line-place.ensures.put c.put_line-place.ensures.room_len_bound in
     record { value = said.0; room_after = ap (λ (t : Turn SecondSession). t.room) whole; out_after = said.1.0; room_len_bound = said.1.1 }

@@ -8,5 +8,5 @@ returns-in_default c =
     let a = c.args in
     let e = c.refused.ensures in
     let said = same_turn second_made a.out.now a.at _ _ (turn_refused second a.s a.input.now a.last a.room.now _ c.read_record-got.ensures.value _ c.in_default.not-Record c.refusal_of.ensures)
-        e.value (leaves_room second a.s c.refusal_of.result (length a.input.now) a.last a.room.now) (e.out_after, e.room_len_bound) in
+    e.value (leaves_room second a.s c.refusal_of.result (length a.input.now) a.last a.room.now) (e.out_after, e.room_len_bound) in
     record { value = said.0; room_after = said.1.0; out_after = said.1.1.0; room_len_bound = said.1.1.1 }

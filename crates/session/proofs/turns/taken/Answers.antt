@@ -10,8 +10,8 @@ returns c =
     let a = c.args in
     let k = c.step-stepped in
     let next : ◌≡◌ {A = Session} (record { state = k.result.state; step = c.wrapping_add_u64.result }) (first.after a.s a.call (length a.room.now)) =
-        λ i. record { state = (k.ensures.value i).state; step = c.wrapping_add_u64.ensures.value i } in
+    λ i. record { state = (k.ensures.value i).state; step = c.wrapping_add_u64.ensures.value i } in
     let whole = took_is first a.s a.call a.count a.room.now k.new.room k.result.answer (record { state = k.result.state; step = c.wrapping_add_u64.result })
-        (ap (λ (r : Stepped). r.answer) k.ensures.value) k.ensures.room next in
+    (ap (λ (r : Stepped). r.answer) k.ensures.value) k.ensures.room next in
     let said = says made _ _ whole c.put_line-place.ensures.put c.put_line-place.ensures.room_len_bound in
     record { value = said.0; room_after = ap (λ (t : Turn Session). t.room) whole; out_after = said.1.0; room_len_bound = said.1.1 }

@@ -1,4 +1,4 @@
-use Rattle.std.proofs.Common.{◌≡◌, ◌+◌, ◌-◌, ◌≤◌, false, ◌&&◌, eqb, length, get_or, drop, sym, refl, ap, ◌∙◌, arith, rules}
+use Rattle.std.proofs.Common.{◌≡◌, ◌+◌, false, ◌&&◌, eqb, get_or, drop, sym, refl, ap, ◌∙◌, arith, rules}
 use Rattle.lists.specs.Lists.{when◌then◌else◌}
 use Rattle.soundness.specs.Marks.{Marks, without_mark}
 use Rattle.soundness.specs.Rows.{met_in}

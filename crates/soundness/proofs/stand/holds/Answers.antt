@@ -1,7 +1,7 @@
-use Rattle.std.proofs.Common.{◌≡◌, ◌+◌, ◌-◌, ◌≤◌, Bool, true, false, ◌&&◌, length, get_or, drop, sym, ap, ◌∙◌, arith, rules}
+use Rattle.std.proofs.Common.{◌≡◌, ◌+◌, true, false, ◌&&◌, length, drop, sym, ap, ◌∙◌, arith}
 use mathlib.Core.Bool.{and-true}
-use Rattle.soundness.specs.Check.{any_order, holds_in, walked}
-use Rattle.soundness.specs.Marks.{Marks, without_mark}
+use Rattle.soundness.specs.Check.{any_order, walked}
+use Rattle.soundness.specs.Marks.{Marks}
 use Rattle.soundness.proofs.Turns.{walk_blank, walk_on, walk_end}
 use Rattle.soundness.proofs.stand.holds.Goals as goal
 

@@ -1,11 +1,11 @@
-use Rattle.std.proofs.Common.{◌≡◌, ℕ, ◌+◌, ◌-◌, ◌≤◌, Bool, true, ◌&&◌, List, [], length, get_or, drop, set, sym, refl, ap, ◌∙◌, arith, length-set, rules}
+use Rattle.std.proofs.Common.{◌≡◌, ℕ, ◌+◌, Bool, true, ◌&&◌, List, [], length, get_or, drop, set, sym, refl, ap, ◌∙◌, arith, length-set, rules}
 use lib.Seq.{set_out}
 use Rattle.lists.specs.Line.{line}
 use Rattle.lists.specs.Marks.{no_marks, marked}
 use Rattle.lists.proofs.Turns.{rest_blank, rest_entry, rest_end}
 use Rattle.lists.proofs.ListLaws.{mapped_long}
 use Rattle.lists.proofs.MarkLaws.{mark_on}
-use Rattle.rules.specs.State.{place_of, partner_of}
+use Rattle.rules.specs.State.{partner_of}
 use Rattle.rules.specs.Whole.{view_core}
 use Rattle.rules.specs.declared.Core.{Core}
 use Rattle.rules.specs.declared.Task.{Task}

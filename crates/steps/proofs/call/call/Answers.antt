@@ -1,4 +1,4 @@
-use Rattle.std.proofs.Common.{◌≡◌, true, false, ◌&&◌, ltb, leb, [], ◌∷◌, refl, ◌∙◌, rules}
+use Rattle.std.proofs.Common.{◌&&◌, ltb, leb, [], ◌∷◌, refl, ◌∙◌}
 use Rattle.rules.specs.Step.{item, WAITS, ACCEPTED}
 use Rattle.rules.specs.State.{meet, wake, accepts, is_completed}
 use Rattle.rules.specs.Whole.{view_core}

@@ -1,4 +1,4 @@
-use Rattle.std.proofs.Common.{◌≡◌, Bool, ◌&&◌, eqb, sym, ap, ◌∙◌, rules}
+use Rattle.std.proofs.Common.{◌≡◌, Bool, ◌&&◌, eqb, sym, ap, ◌∙◌}
 use Rattle.lists.specs.Lists.{when◌then◌else◌}
 use Rattle.rules.specs.declared.Task.{Task}
 use Rattle.table.specs.Numbers.{shown_of}

@@ -1,4 +1,3 @@
-use Rattle.std.proofs.Common.{rules}
 use Rattle.rules.specs.Callers.{accepted_in}
 use Rattle.steps.specs.Change.{task_at}
 use Rattle.steps.proofs.ChangeLaws.{marks_join}

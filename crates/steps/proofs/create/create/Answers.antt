@@ -1,4 +1,4 @@
-use Rattle.std.proofs.Common.{◌<◌, [], refl, arith, rules}
+use Rattle.std.proofs.Common.{◌<◌, [], refl, arith}
 use Rattle.rules.specs.State.{add}
 use Rattle.rules.specs.Whole.{view_core}
 use Rattle.steps.proofs.MoveLaws.{created_is}

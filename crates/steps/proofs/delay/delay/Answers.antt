@@ -1,4 +1,4 @@
-use Rattle.std.proofs.Common.{◌≡◌, [], ap, ◌∙◌, to_z-of_z, rules}
+use Rattle.std.proofs.Common.{◌≡◌, [], ap, ◌∙◌, to_z-of_z}
 use Rattle.rules.specs.Step.{delay_for, ticks, item, ELAPSED}
 use Rattle.rules.specs.Whole.{view_core}
 use Rattle.steps.proofs.AnswerLaws.{no_runner, runner, by_outcome, move-answers}

@@ -1,4 +1,4 @@
-use Rattle.std.proofs.Common.{◌≡◌, ℕ, List, length, [], ◌∷◌, refl, ap, ◌∙◌, rules}
+use Rattle.std.proofs.Common.{◌≡◌, ℕ, List, length, [], ◌∷◌, refl, ap, ◌∙◌}
 use Rattle.lists.specs.Line.{line, pad}
 use Rattle.lists.specs.Lists.{last, filter}
 use Rattle.rules.specs.State.{entry_of, place_of, held_by}

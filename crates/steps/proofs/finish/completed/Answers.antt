@@ -1,4 +1,3 @@
-use Rattle.std.proofs.Common.{rules}
 use Rattle.lists.specs.Line.{line}
 use Rattle.steps.proofs.FinishLaws.{completes}
 use Rattle.steps.proofs.finish.completed.Goals as goal
