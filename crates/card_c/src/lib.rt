@@ -17,8 +17,6 @@ ghost use Rattle.debounce.specs.Settings.{fresh_of};
 ghost use Rattle.card.specs.Answers.{card_step, state_after, second_step, second_after, answer_bytes, if_room, one_after};
 ghost use Rattle.card.specs.Contacts.{card_size, card_in, card_after};
 
-use card::{by_rows as second, contacts as debounce};
-
 // Makes a supervisor with no tasks.
 #[unsafe(no_mangle)]
 pub extern "C" fn card_empty(state: &mut [u8], clock: u32) -> u8
