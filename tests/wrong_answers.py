@@ -1,14 +1,14 @@
 """wrong_answers.py texts | table [--write] DOC | logs [CRATE..]: the wrong answers of crates/*/must-fail/*.edit.
 
 An edit replaces one or more texts of its crate, each by a wrong one. The comment above a text names the wrong answer. Above a definition or a
-contract a line `law: FILE NAME` names the theorem that refuses it; above a text of a function's body a line `at: NAME` may name the declaration of the
-function's own proof that does, and must where the edit has two wrong answers of one function.
+contract a line `law: FILE NAME` names the theorem that refuses it; above a text of a function's body a line `at: GOAL` may name the goal of the
+function that does (as `returns` or `loop-i-preserved`), and must where the edit has two wrong answers of one function.
   texts   each replaced text stands once in its file, in a function or in a definition, and has its comment; no two wrong answers
-          of an edit are refused by the same law or at the same declaration; and every public function whose contract determines its answer
-          has two wrong answers of its own, or one and two in its parts if its code is walked by hand
+          of an edit are refused by the same law or at the same goal; and every public function whose contract determines its answer
+          has two wrong answers of its own, or one and two in its parts if PARTS has it (a function that only passes one on to C has those of that one)
   table   the table of DOC between its two marks lists them all (--write puts it there)
-  logs    in what the prover said of the edits (of the named crates), each changed function was refused by itself, at a fact and at the
-          declaration that is named, and each changed definition or contract by its law, at a fact
+  logs    in what the prover said of the edits (of the named crates; tests/edit_logs.py has it say so), each changed function was refused by itself, at a fact
+          and at the goal that is named, and each changed definition or contract by its law, at a fact
 tests/alone tries by itself each of the wrong answers of a function that share an edit.
 """
 import re
@@ -16,50 +16,50 @@ import sys
 from collections import namedtuple
 from pathlib import Path
 
-from unique_names import public_functions, without_answer
+from unique_names import EXPORTING, public_functions, without_answer
 
 Wrong = namedtuple("Wrong", "edit crate file says old new where law at")
 BEGIN, END = "<!-- wrong answers: made by tests/wrong_answers.py -->", "<!-- end of the wrong answers -->"
-FUNCTION = re.compile(r'^\s*(?:#\[no_mangle\] )?(?:pub(?:\(crate\))? )?(?:extern "C" )?fn (\w+)')
+FUNCTION = re.compile(r'^\s*(?:pub(?:\(crate\))? )?(?:extern "C" )?fn (\w+)')
 CLAUSE = re.compile(r"^\s*(?:requires|ensures)\b")
 # what stands behind the name of a function where not its body but its contract is changed
 CONTRACT = " (contract)"
-# Public functions whose code is walked by hand: a wrong answer in their own body is refused because the code is not the one that was walked,
-# right or wrong. So one is enough there, and each has two more in the parts that it rests on, which are refused at a fact.
-WALKED = {
+# Public functions that only put parts together: one wrong answer is enough there, and each has two more in the parts that it rests on.
+PARTS = {
     "workspace::fresh": ["lent::place_after", "steps::made"],
     "workspace::request": ["lent::first_fit", "steps::cut_at", "steps::request_refusal"],
     "workspace::release": ["steps::touches_low", "steps::freed"],
 }
-# the declarations of a walk that say which code is walked
-CODE = {"code-walked", "begins"}
 # what the prover says of two sides that are not equal, or of a goal that does not follow
-FACT = re.compile(r"first differ|differ only|the two types|the two values|does not follow|no proof of|what it leaves must be")
+FACT = re.compile(r"^expected type `|first differ|differ only|the two types|the two values|does not follow|no proof of|found no proof|what it leaves must be")
 
 
 def crates():
     """The listed crates, lower layers first."""
-    return re.findall(r"(?m)^(\w+):", Path("crates.txt").read_text())
+    return re.findall(r"(?m)^(\w+)\b[^:#\n]*:", Path("crates.txt").read_text())
 
 
 def function_of(file, text, at):
     """The path of the function in which the text stands at that place, in its body or in its contract, or None."""
     lines = text[: text.index("\n", at)].splitlines()
-    names = [found.group(1) for found in map(FUNCTION.match, lines) if found]
+    heads = [number for number, line in enumerate(lines) if FUNCTION.match(line)]
+    names = [FUNCTION.match(lines[heads[-1]]).group(1)] if heads else []
+    since = lines[heads[-1] :] if heads else []
+    in_contract = any(map(CLAUSE.match, since)) and not any(line.strip() == "{" for line in since)
     modules = file.removesuffix(".rt").split("/")[1:]
-    path = "::".join((modules if modules not in (["lib"], ["main"]) else []) + names[-1:])
-    return path + (CONTRACT if CLAUSE.match(lines[-1]) else "") if names else None
+    path = "::".join((modules if modules not in (["lib"], ["main"]) else []) + names)
+    return path + (CONTRACT if in_contract else "") if names else None
 
 
-def proof_of(crate, where):
-    """The proof file of a function; that of one that calls itself stands under `+NAME`."""
+def proofs_of(crate, where):
+    """The folder of a function's proof files; that of one that calls itself stands under `+NAME`."""
     *modules, name = where.split("::")
-    own = "/".join(["proofs", *modules, "+" + name, "Proof.antt"])
+    own = "/".join(["proofs", *modules, "+" + name])
     return own if (Path("crates") / crate / own).exists() else own.replace("+" + name, name)
 
 
 def refusing(wrong):
-    """What refuses a wrong answer: a law, a declaration of the changed function's proof, or that proof."""
+    """What refuses a wrong answer: a law, a goal of the changed function, or any goal of it."""
     return " ".join(wrong.law) if wrong.law else f"{wrong.where} {wrong.at}" if wrong.at else wrong.where
 
 
@@ -70,14 +70,12 @@ def amiss_with(wrong):
     in_body = wrong.file.startswith("src/") and not (wrong.where or "").endswith(CONTRACT)
     if (wrong.law is None) != in_body:
         yield "a law is named for a definition and for a contract, and for nothing else"
-    if wrong.at and wrong.where:
-        proof = Path("crates") / wrong.crate / proof_of(wrong.crate, wrong.where)
-        if not proof.exists() or not re.search(rf"(?m)^(?:pub )?{re.escape(wrong.at)} :", proof.read_text()):
-            yield f"{wrong.at} is not declared in {proof}"
+    if wrong.at and not in_body:
+        yield "a goal is named for a text of a function's body, and for nothing else"
 
 
 def replacements(edit):
-    """The wrong answers of an edit, and what is amiss with it."""
+    """The wrong answers of an edit, what is amiss with it, and the texts of its files with all of them."""
     crate, file, named, texts, found, amiss = edit.parts[1], None, [], {}, [], []
     for line in edit.read_text().splitlines():
         if line.startswith("#"):
@@ -104,7 +102,7 @@ def replacements(edit):
     by = [refusing(wrong) for wrong in found]
     twice = {wrong.where for wrong in found if not wrong.law and not wrong.at and [w.where for w in found].count(wrong.where) > 1}
     amiss += [f"{edit}: {place} refuses two wrong answers" for place in sorted({b for b in by if by.count(b) > 1} | twice)]
-    return found, amiss
+    return found, amiss, texts
 
 
 def all_wrong():
@@ -112,7 +110,7 @@ def all_wrong():
     found, amiss = [], []
     for crate in crates():
         for edit in sorted((Path("crates") / crate / "must-fail").glob("*.edit")):
-            more, wrong = replacements(edit)
+            more, wrong, _ = replacements(edit)
             found += more
             amiss += wrong
     return found, amiss
@@ -122,15 +120,15 @@ def texts():
     found, amiss = all_wrong()
     unbound = without_answer(Path("docs/TRUST.md").read_text())
     for crate in crates():
-        if not (Path("crates") / crate / "src/lib.rt").exists():
+        if crate in EXPORTING or not (Path("crates") / crate / "src/lib.rt").exists():
             continue
         for function in ("::".join(f) for f in public_functions(crate)):
             own = [w for w in found if (w.crate, w.where) == (crate, function)]
             name = f"{crate}::{function}"
-            least = 1 if name in WALKED else 2
+            least = 1 if name in PARTS else 2
             if name not in unbound and len(own) < least:
                 amiss.append(f"{name}: {len(own)} wrong answers in crates/{crate}/must-fail, not {least}")
-    for function, parts in WALKED.items():
+    for function, parts in PARTS.items():
         crate = function.split("::")[0]
         if len([w for w in found if w.crate == crate and w.where in parts]) < 2:
             amiss.append(f"{function}: fewer than two wrong answers in the parts that it rests on")
@@ -162,21 +160,35 @@ def table(words):
     return [] if text == new or "--write" in words else [f"{doc}: not the wrong answers of the edits: run tests/wrong_answers.py table --write {doc}"], ""
 
 
-def is_walked(wrong):
-    return f"{wrong.crate}::{wrong.where}" in WALKED
+def log_of(edit):
+    """Where what the prover said of an edit is kept."""
+    return Path("target/must-fail") / edit.parts[1] / f"{edit.stem}.log"
+
+
+def errors(log, file):
+    """The declarations of a proof file of which the prover said that a fact does not hold."""
+    said = re.findall(rf"(?m)^(?:\./)?{re.escape(file)}:\d+:\d+: error: `([^`]*)`: (.*(?:\n  .*)*)", log)
+    return {name for name, why in said if FACT.search(why)}
+
+
+def open_goals(log, wrong):
+    """The goals of a function that did not hold: those that the line of the function itself names, and those whose answers the prover refused. A function that
+    is not proved only since it calls one that is not has none."""
+    line = re.search(rf"(?m)^fn {wrong.crate}::{re.escape(wrong.where)}: (?:no proof|not proved)\b(.*)", log)
+    if line is None:
+        return set()
+    tried = re.search(r"`search` did not prove ((?:`[^`]+`(?:, | and )?)+)", line.group(1))
+    goals = set(re.findall(r"`([^`]+)`", tried.group(1))) if tried else set()
+    folder = proofs_of(wrong.crate, wrong.where)
+    return goals.union(*(errors(log, f"{folder}/{file}.antt") for file in ("Answers", "Invariants", "Proof")))
 
 
 def refused(log, wrong):
-    """What was changed was refused at a fact: a definition or a contract by its law, a function by its own proof, at the named declaration of it if one is, or by
-    the search that stands in for a proof."""
-    if not wrong.law and not wrong.at and re.search(rf"(?m)^fn {wrong.crate}::{wrong.where}: no proof: .*`search` does not close", log):
-        return True
-    proof = wrong.law[0] if wrong.law else proof_of(wrong.crate, wrong.where)
-    said = re.findall(rf"(?m)^\S*/{re.escape(proof)}:\d+:\d+: error: `([^`]*)`: (.*(?:\n  .*)*)", log)
-    facts = {part for part, why in said if FACT.search(why)}
-    if wrong.law or wrong.at:
-        return (wrong.at or wrong.law[1]) in facts
-    return bool(facts if is_walked(wrong) else facts - CODE)
+    """What was changed was refused at a fact: a definition or a contract by its law, a function by a goal of its own, the named one if one is."""
+    if wrong.law:
+        return wrong.law[1] in errors(log, wrong.law[0])
+    goals = open_goals(log, wrong)
+    return wrong.at in goals if wrong.at else bool(goals)
 
 
 def logs(words):
@@ -185,13 +197,13 @@ def logs(words):
     if not found and not words:
         amiss.append("no wrong answers")
     for wrong in found:
-        log = Path("target/must-fail") / wrong.crate / wrong.edit.stem / ".log"
+        log = log_of(wrong.edit)
         if not log.exists():
-            amiss.append(f"{wrong.edit}: no log {log}")
+            amiss.append(f"{wrong.edit}: no log {log}: run tests/edit_logs.py {wrong.crate}")
         elif not refused(log.read_text(), wrong):
-            amiss.append(f"{wrong.edit}: {wrong.crate}: {wrong.where} was not refused by itself at a fact")
-    walked = len([wrong for wrong in found if is_walked(wrong)])
-    return amiss, f"{len(found) - walked} wrong answers, each refused by itself at a fact; {walked} of walked functions, each refused as other code"
+            goals = sorted(open_goals(log.read_text(), wrong)) if not wrong.law else []
+            amiss.append(f"{wrong.edit}: {wrong.crate}: {wrong.where} was not refused by itself at {wrong.at or 'a fact'}{': but at ' + ' '.join(goals) if goals else ''}: {wrong.says}")
+    return amiss, f"{len(found)} wrong answers, each refused by itself at a fact"
 
 
 def main():

@@ -10,7 +10,7 @@ root=${root%/}
 version() { # COMMAND
     local landed=("$root"/docs/landings/*.md) commit='' kit
     [ ! -e "$root/.git" ] || commit=$(git -C "$root" describe --always --dirty --exclude '*' 2>/dev/null) || :
-    { read -r _ && read -r kit; } 2>/dev/null <"$root/target/kit" || read -r kit <"$root/toolchain.txt"
+    read -r kit 2>/dev/null <"$root/target/kit" || read -r kit <"$root/toolchain.txt"
     printf '%s of Fuzgerlint 1.%d%s\ntoolchain: %s\n' "$1" "${#landed[@]}" "${commit:+, commit $commit}" "$kit"
 }
 

@@ -12,6 +12,8 @@
 //
 // A line of the output has the refusal, the value and the places used in each table; then, behind `|`, place, start and length
 // of each block, and behind another `|` those of each free stretch. Unused places are left out.
+#![tactic(auto)]
+
 mod operation; // operation.rt: what a line says
 mod print; // print.rt: a line is put together
 
@@ -105,44 +107,61 @@ fn applied(t: Tables, o: Operation) -> Tables {
 }
 
 // The tables unchanged, behind what stands at the front of the window.
-fn unchanged(s: State, p: Piece, buf: &mut [u8], out: &[u8]) -> State {
+fn unchanged<R: Input + Print + Eprint>(
+    rt: &R,
+    s: State,
+    p: Piece,
+    buf: &mut [u8],
+    out: &[u8],
+) -> State {
     let tables = s.tables;
-    let lines = behind(s.lines, p, s.lines.flow.waits, buf, out);
+    let lines = behind(rt, s.lines, p, s.lines.flow.waits, buf, out);
     State { tables, lines }
 }
 
 // An operation is carried out, and what it answers goes to the output.
-fn carried(s: State, o: Operation, p: Piece, buf: &mut [u8], out: &mut [u8]) -> State {
+fn carried<R: Input + Print + Eprint>(
+    rt: &R,
+    s: State,
+    o: Operation,
+    p: Piece,
+    buf: &mut [u8],
+    out: &mut [u8],
+) -> State {
     let tables = applied(s.tables, o);
     let place = put_line(tables, out, s.lines.flow.waits);
-    let lines = behind(s.lines, p, place, buf, out);
+    let lines = behind(rt, s.lines, p, place, buf, out);
     State { tables, lines }
 }
 
 // One turn, on what stands at the front of the window.
-fn turn(s: State, buf: &mut [u8], out: &mut [u8]) -> State {
+fn turn<R: Input + Print + Eprint>(rt: &R, s: State, buf: &mut [u8], out: &mut [u8]) -> State {
     let p = front(s.lines, buf);
     let kind = p.kind;
     let Kind::Line = kind else {
-        return unchanged(s, p, buf, out);
+        return unchanged(rt, s, p, buf, out);
     };
     let from = p.from;
     let to = p.to;
     let o = read_operation(&buf[from..to]);
     if is_operation(o) {
-        return carried(s, o, p, buf, out);
+        return carried(rt, s, o, p, buf, out);
     }
-    tell_line(s.lines.number, b"f, a N, r S, b I S L, e I S L or u M N");
-    unchanged(s, p, buf, out)
+    tell_line(
+        rt,
+        s.lines.number,
+        b"f, a N, r S, b I S L, e I S L or u M N",
+    );
+    unchanged(rt, s, p, buf, out)
 }
 
-fn main() {
-    let mut buf = io::large_buffer();
-    let mut out = io::large_buffer();
+fn main(rt: HostRuntime) {
+    let mut buf = [0u8; 65536];
+    let mut out = [0u8; 65536];
     let mut s = start();
     let mut turns = u64::MAX;
     while turns > 0 && s.lines.flow.goes {
-        s = turn(s, &mut buf, &mut out);
+        s = turn(&rt, s, &mut buf, &mut out);
         turns -= 1;
     }
 }

@@ -7,7 +7,7 @@ use native.Mathlib.Omega.{arith}
 use borrow.Author.Tests.{le-ltb, eqb-true}
 use lib.Dec.{eqb}
 use lib.ListN.{length, length-append, get_or-append}
-use Rattle.lists.specs.Lists.{if◌then◌else◌}
+use Rattle.lists.specs.Lists.{when◌then◌else◌}
 use Rattle.lists.proofs.Tests.{differ}
 use Rattle.lists.proofs.ListLaws.{by_bool}
 use Rattle.calls.specs.Duration.{signed}
@@ -72,7 +72,7 @@ module _ (s rest : List ℕ) where
         let more = length-append s rest in
         sym (found (s ++ rest) (bad_frame s) (bad_body (tag_of s) s) (λ z. omega arith) frame_here (rw same (body_here (tag_of s) fits)))
         ∙ (rw same (by_bool (bad_frame s) (λ e. simp e)
-        (λ e. ap (λ (c : C.Call). if bad_frame s || bad_body (tag_of s) s then BadRecord else Record c (3 + length_of (tag_of s))) (call_here (tag_of s) (frame_is s e).known fits))))
+        (λ e. ap (λ (c : C.Call). when bad_frame s || bad_body (tag_of s) s then BadRecord else Record c (3 + length_of (tag_of s))) (call_here (tag_of s) (frame_is s e).known fits))))
         ∙ found s (bad_frame s) (bad_body (tag_of s) s) (λ z. omega arith) refl refl
 
 -- what is accepted is accepted whatever follows
@@ -80,7 +80,7 @@ pub accepted_ahead : (s rest : List ℕ) (c : C.Call) (n : ℕ) → read_of s �
 accepted_ahead s rest c n e = not-looked-at s rest (accepted_as s c n e).frame.fits ∙ e
 
 -- the longest record has ten bytes
-at_most : {x y : ℕ} (b : Bool) → x ≤ 7 → y ≤ 7 → (if b then x else y) ≤ 7
+at_most : {x y : ℕ} (b : Bool) → x ≤ 7 → y ≤ 7 → (when b then x else y) ≤ 7
 at_most true h k = h
 at_most false h k = k
 

@@ -1,6 +1,6 @@
 -- What reading finds at the start of bytes (document 01, "Call records", "Refusal numbers").
 use Rattle.std.specs.Prelude.{ℕ, ◌+◌, ◌-◌, Bool, not, ◌&&◌, ◌||◌, List, length, eqb, ltb}
-use Rattle.lists.specs.Lists.{if◌then◌else◌}
+use Rattle.lists.specs.Lists.{when◌then◌else◌}
 use Rattle.calls.specs.Duration.{signed}
 use Rattle.calls.specs.Record.{byte, four_from, tag_of, length_said, is_unknown, length_of, has_mode, mode_of, time_of}
 use Rattle.calls.specs.declared.CallMode.{CallMode}
@@ -46,22 +46,22 @@ faulty s = few_bytes s || unknown_tag s || wrong_length s || cut_short s || high
 
 -- a CALL's mode, by its number and the bits of d
 abbrev pub call_mode_of : ℕ → ℕ → CallMode
-call_mode_of m d = if eqb m 0 then Simple else if eqb m 1 then Timed (signed d) else Conditional
+call_mode_of m d = when eqb m 0 then Simple else when eqb m 1 then Timed (signed d) else Conditional
 
 -- a SELECT's mode, by its number and the bits of d
 abbrev pub select_mode_of : ℕ → ℕ → SelectMode
-select_mode_of m d = if eqb m 0 then S.Plain else if eqb m 1 then S.Delay (signed d) else S.Else
+select_mode_of m d = when eqb m 0 then S.Plain else when eqb m 1 then S.Delay (signed d) else S.Else
 
 -- the call of a record with a tag
 abbrev pub call_in : ℕ → List ℕ → C.Call
 call_in tag s =
-    if eqb tag 1 then Create (byte s 3) (byte s 4)
-    else if eqb tag 2 then Delay (signed (four_from s 3))
-    else if eqb tag 3 then Call (byte s 3) (byte s 4) (call_mode_of (mode_of 3 s) (time_of 3 s))
-    else if eqb tag 4 then Select (byte s 3) (select_mode_of (mode_of 4 s) (time_of 4 s))
-    else if eqb tag 5 then End
-    else if eqb tag 6 then Finish
-    else if eqb tag 7 then Tick
+    when eqb tag 1 then Create (byte s 3) (byte s 4)
+    else when eqb tag 2 then Delay (signed (four_from s 3))
+    else when eqb tag 3 then Call (byte s 3) (byte s 4) (call_mode_of (mode_of 3 s) (time_of 3 s))
+    else when eqb tag 4 then Select (byte s 3) (select_mode_of (mode_of 4 s) (time_of 4 s))
+    else when eqb tag 5 then End
+    else when eqb tag 6 then Finish
+    else when eqb tag 7 then Tick
     else Advance (four_from s 3)
 
 -- ── what reading finds ──
@@ -69,8 +69,8 @@ call_in tag s =
 -- no bytes left: END_OF_LOG; a fault: BAD_RECORD; else the call and its record's bytes. Bytes behind the record are not looked at
 unfoldable pub read_of : List ℕ → Read
 read_of s =
-    if eqb (length s) 0 then EndOfLog
-    else if faulty s then BadRecord
+    when eqb (length s) 0 then EndOfLog
+    else when faulty s then BadRecord
     else Record (call_in (tag_of s) s) (3 + length_of (tag_of s))
 
 -- ── the paper's numbers ──
@@ -97,8 +97,8 @@ count_of EndOfLog = 0
 
 -- the refusal number that bytes call for
 unfoldable pub refusal_for : List ℕ → ℕ
-refusal_for s = if eqb (length s) 0 then END_OF_LOG else if faulty s then BAD_RECORD else 0
+refusal_for s = when eqb (length s) 0 then END_OF_LOG else when faulty s then BAD_RECORD else 0
 
 -- the bytes that are to be taken
 unfoldable pub count_for : List ℕ → ℕ
-count_for s = if eqb (refusal_for s) 0 then 3 + length_of (tag_of s) else 0
+count_for s = when eqb (refusal_for s) 0 then 3 + length_of (tag_of s) else 0

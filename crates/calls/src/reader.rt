@@ -93,6 +93,7 @@ fn select_mode(m: u8, d: u32) -> SelectMode
 }
 
 // A DELAY record without a fault.
+#[tactic(auto, unfolding(crate::specs::Parts::body_read))]
 fn read_delay(s: &[u8]) -> Read
     requires { 7 ≤ length s.now }
     ensures { result ≡ body_read 2 s.now }
@@ -145,6 +146,7 @@ fn read_advance(s: &[u8]) -> Read
 }
 
 // A record without a fault. There is no other tag: the frame would be wrong.
+#[tactic(auto, unfolding(crate::specs::Parts::body_read))]
 fn read_body(s: &[u8], tag: u8) -> Read
     requires tag_value { is_unknown tag ≡ false }
     requires tag_in_bounds { 3 + length_of tag ≤ length s.now }

@@ -8,7 +8,7 @@ use borrow.Author.Tests.{lt-ltb, le-ltb, le-leb, lt-leb}
 use lib.Dec.{eqb, leb}
 use lib.ListN.{length, get_or, drop, length-drop, drop_of_length-le}
 use lib.Seq.{take_at, drop_at, drop-drop, get_or-drop}
-use Rattle.lists.specs.Lists.{if◌then◌else◌, bit}
+use Rattle.lists.specs.Lists.{when◌then◌else◌, bit}
 use Rattle.lists.proofs.ListLaws.{by_bool}
 use Rattle.lists.proofs.Tests.{if-true, if-false}
 use Rattle.calls.specs.Record.{byte}
@@ -134,11 +134,11 @@ pub not-closed : (b : List ℕ) (i : ℕ) → i < 8 → 1 < byte b (contact_plac
 not-closed b i h n =
     let at = contact_place i in
     let none : contact_from (byte b at) (byte b (at + 1)) (byte b (at + 2)) (byte b (at + 3)) (byte b (at + 4)) ≡ no_contact = if-false _ _ _ (lt_leb_1 (byte b (at + 3)) n) in
-    lacking b i h (ap (λ (c : Contact). if leb (at + contact_size) (length b) then c else no_contact) none ∙ same (leb (at + contact_size) (length b)))
+    lacking b i h (ap (λ (c : Contact). when leb (at + contact_size) (length b) then c else no_contact) none ∙ same (leb (at + contact_size) (length b)))
   where
     lt_leb_1 : (k : ℕ) → 1 < k → leb k 1 ≡ false
     lt_leb_1 k h = lt-leb k 1 h
 
-    same : (t : Bool) → (if t then no_contact else no_contact) ≡ no_contact
+    same : (t : Bool) → (when t then no_contact else no_contact) ≡ no_contact
     same true = refl
     same false = refl

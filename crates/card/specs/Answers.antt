@@ -1,6 +1,6 @@
 -- What the functions of the card answer, and what they leave in lent bytes.
 use Rattle.std.specs.Prelude.{ℕ, List, [], ◌∷◌, length, drop, eqb, ltb}
-use Rattle.lists.specs.Lists.{if◌then◌else◌}
+use Rattle.lists.specs.Lists.{when◌then◌else◌}
 use Rattle.calls.specs.Reading.{read_of, refusal_of}
 use Rattle.calls.specs.declared.Call as C
 use Rattle.calls.specs.declared.Read.{Read}
@@ -34,7 +34,7 @@ second_step state rec room = step_by step_second (second_in state) room (read_of
 
 -- the lent state after a step: every refusal leaves it untouched
 abbrev pub after_by : {S : Type 0} → (S → List ℕ → List ℕ) → List ℕ → StepOf S → List ℕ
-after_by put state w = if eqb w.refusal 0 then put w.state state else state
+after_by put state w = when eqb w.refusal 0 then put w.state state else state
 
 abbrev pub state_after : List ℕ → Whole → List ℕ
 state_after state w = after_by stored state w
@@ -50,7 +50,7 @@ answer_bytes a = a.refusal ∷ a.result ∷ a.task ∷ a.entry ∷ a.partner ∷
 
 -- what is done only where the answer has room for n bytes
 abbrev pub if_room : {A : Type 0} → ℕ → List ℕ → A → A → A
-if_room n answer short long = if ltb (length answer) n then short else long
+if_room n answer short long = when ltb (length answer) n then short else long
 
 -- a question's byte at the start of the answer
 abbrev pub one_after : List ℕ → ℕ → List ℕ

@@ -1,6 +1,6 @@
 -- A debouncer's card in lent bytes: the supervisor's bytes, then five for each contact. And what the functions on it answer and leave there.
 use Rattle.std.specs.Prelude.{ℕ, zero, suc, ◌+◌, ◌*◌, ◌/◌, ◌%◌, List, [], ◌∷◌, ◌++◌, eqb, ltb, leb, length, drop}
-use Rattle.lists.specs.Lists.{if◌then◌else◌, bit}
+use Rattle.lists.specs.Lists.{when◌then◌else◌, bit}
 use Rattle.calls.specs.Record.{byte}
 use Rattle.codec.specs.Layout.{state_size, encode, state_in}
 use Rattle.debounce.specs.declared.Card.{Card}
@@ -32,14 +32,14 @@ card_bytes c = encode c.supervisor ++ contacts_bytes c.contacts
 
 -- lent bytes with a card put into them; bytes behind it stay, and so do all where there are too few
 unfoldable pub stored_card : Card → List ℕ → List ℕ
-stored_card c b = if ltb (length b) card_size then b else card_bytes c ++ drop card_size b
+stored_card c b = when ltb (length b) card_size then b else card_bytes c ++ drop card_size b
 
 -- ── the card of bytes ──
 
 -- the contact of five bytes; no contact where closed is neither 0 nor 1
 abbrev pub contact_from : ℕ → ℕ → ℕ → ℕ → ℕ → Contact
 contact_from n high low closed against =
-    if leb closed 1 then record { n = n; p = two high low; closed = eqb closed 1; against = against } else no_contact
+    when leb closed 1 then record { n = n; p = two high low; closed = eqb closed 1; against = against } else no_contact
 
 -- where the contact at index i stands: that of contact i + 1
 abbrev pub contact_place : ℕ → ℕ
@@ -49,7 +49,7 @@ contact_place i = state_size + i * contact_size
 abbrev pub contact_at : List ℕ → ℕ → Contact
 contact_at b i =
     let at = contact_place i in
-    if leb (at + contact_size) (length b) then contact_from (byte b at) (byte b (at + 1)) (byte b (at + 2)) (byte b (at + 3)) (byte b (at + 4)) else no_contact
+    when leb (at + contact_size) (length b) then contact_from (byte b at) (byte b (at + 1)) (byte b (at + 2)) (byte b (at + 3)) (byte b (at + 4)) else no_contact
 
 -- so many contacts from index i on
 abbrev pub contacts_from : ℕ → ℕ → List ℕ → List Contact
@@ -64,4 +64,4 @@ card_in b = record { supervisor = state_in b; contacts = contacts_from 8 0 b }
 
 -- the lent card afterwards: every refusal leaves it untouched
 abbrev pub card_after : List ℕ → ℕ → Card → List ℕ
-card_after b refusal c = if eqb refusal 0 then stored_card c b else b
+card_after b refusal c = when eqb refusal 0 then stored_card c b else b

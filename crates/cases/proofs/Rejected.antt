@@ -14,9 +14,9 @@ pub refuses_all_lem : T (rejected refuses_all)
 unfolding cases sample running standing sound reaches_top step_whole open_entry queued_on pad pad_to
 refuses_all_lem = tt
 
-pub answers_alike : T (rejected answers_alike)
+pub answers_alike_lem : T (rejected answers_alike)
 unfolding cases sample running standing sound reaches_top step_whole open_entry queued_on pad pad_to
-answers_alike = tt
+answers_alike_lem = tt
 
 pub state_untouched : T (rejected untouched)
 unfolding cases sample running standing sound reaches_top step_whole open_entry queued_on pad pad_to

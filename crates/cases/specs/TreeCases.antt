@@ -3,7 +3,7 @@
 -- ones, those held, and whether the struct is sound; the question is refused, with 2, exactly where it is not.
 -- Assumes nothing.
 use Rattle.std.specs.Prelude.{ℕ, zero, suc, Bool, true, false, not, ◌&&◌, List, [], ◌∷◌, ◌++◌, pos, replicate, eqb}
-use Rattle.lists.specs.Lists.{if◌then◌else◌}
+use Rattle.lists.specs.Lists.{when◌then◌else◌}
 use Rattle.rules.specs.State.{empty, meeting}
 use Rattle.rules.specs.Whole.{pack, sound_whole}
 use Rattle.rules.specs.Questions.{priority_whole}
@@ -89,7 +89,7 @@ struct_of x = pack (record { clock = 0; tasks = x.tasks; ready = x.ready; caller
 
 -- the struct is sound or not, as said, and the question is refused where it is not
 abbrev pub told : Struct → Bool
-told x = (if x.sound then sound_whole (struct_of x) else not (sound_whole (struct_of x))) && eqb (priority_whole (struct_of x) 1).refusal (if x.sound then 0 else 2)
+told x = (when x.sound then sound_whole (struct_of x) else not (sound_whole (struct_of x))) && eqb (priority_whole (struct_of x) 1).refusal (when x.sound then 0 else 2)
 
 unfoldable pub structs : List Struct
 structs =

@@ -10,7 +10,7 @@ use lib.ListN.{length, replicate, set, take, drop, take-append-drop, length-appe
 use lib.Seq.{take_at, drop_at, drop-drop, take_all, take-suc-set, append_snoc, take-length}
 use borrow.Rule.Slice.PartMut.{put_mid}
 use borrow.Author.Tests.{le-leb, lt-leb, lt-ltb, le-ltb}
-use Rattle.lists.specs.Lists.{if◌then◌else◌}
+use Rattle.lists.specs.Lists.{when◌then◌else◌}
 use Rattle.calls.specs.Duration.{bytes_of}
 use Rattle.rules.specs.declared.Task.{Task}
 use Rattle.rules.specs.declared.Supervisor.{Supervisor}
@@ -87,21 +87,8 @@ module _ (b : List ℕ) (n i : ℕ) (h : i < n) where
       (sym (append_snoc (take i tasks) x (tasks_from (n - suc i) (drop (5 + i * task_size + task_size) b))))
 
 -- a copy into a part that is as long
-pub put_mid : (b x last : List ℕ) (k n : ℕ) → n ≡ length x → k + n ≤ length b → last ≡ take (length x) x ++ drop (length x) (take n (drop k b))
-    → put_mid k n b last ≡ put_at b k x
-put_mid b x last k n z h e =
-    let short : length (take n (drop k b)) ≤ length x = simp (length-take, length-drop) (omega arith) in
-    let whole : last ≡ x = e ∙ (rw (take-length x, drop_of_length-le (take n (drop k b)) short) (append-nil x)) in
-    rw (whole, drop-drop n k b, z)
-
--- a copy of a part into a fresh line
-pub line_copied : (b : List ℕ) (k : ℕ) (last : List ℕ) → k + 31 ≤ length b
-    → last ≡ take (length (take (k + 31 - k) (drop k b))) (take (k + 31 - k) (drop k b)) ++ drop (length (take (k + 31 - k) (drop k b))) (replicate 31 0)
-    → last ≡ take 31 (drop k b)
-line_copied b k last h e =
-    let n : k + 31 - k ≡ 31 = omega arith in
-    let long : length (take 31 (drop k b)) ≡ 31 = simp (length-take, length-drop) (omega arith) in
-    e ∙ rw (n, long) (append-nil (take 31 (take 31 (drop k b))) ∙ take_all 31 (take 31 (drop k b)) (omega arith))
+pub put_mid_is : (b x last : List ℕ) (k n : ℕ) → n ≡ length x → last ≡ x → put_mid k n b last ≡ put_at b k x
+put_mid_is b x last k n z e = rw (e, drop-drop n k b, z)
 
 pub put_end : (room : List ℕ) (tasks : List Task) (i : ℕ) → i ≡ 31 → length tasks ≡ 31 → put_at room (5 + i * task_size) (tasks_bytes (drop i tasks)) ≡ room
 put_end room tasks i z h = rw (drop_of_length-le tasks {i = i} (omega arith)) (put_none room (5 + i * task_size))
@@ -163,6 +150,6 @@ pub state_short : (b : List ℕ) (r : Supervisor) → length b < state_size → 
 unfolding state_in is_encoding
 state_short b r h e = rw (lt-leb state_size (length b) h) e
 
-pub state_tested : (b : List ℕ) (r : Supervisor) (t : Bool) → state_size ≤ length b → are_tasks 31 (drop 5 b) ≡ t → r ≡ (if t then decode b else lost) → r ≡ state_in b
+pub state_tested : (b : List ℕ) (r : Supervisor) (t : Bool) → state_size ≤ length b → are_tasks 31 (drop 5 b) ≡ t → r ≡ (when t then decode b else lost) → r ≡ state_in b
 unfolding state_in is_encoding
 state_tested b r t h a e = rw (le-leb state_size (length b) h, a) e

@@ -9,7 +9,7 @@ use borrow.Author.Tests.{ltb-true, ltb-false, lt-ltb, le-ltb}
 use lib.ListN.{length, replicate, set, take, drop, take-append-drop, length-set}
 use lib.Seq.{get_or-take, get_or-drop, drop-drop, drop-set-lt}
 use lib.Dec.{eqb, ltb}
-use Rattle.lists.specs.Lists.{if◌then◌else◌}
+use Rattle.lists.specs.Lists.{when◌then◌else◌}
 use Rattle.lists.specs.Line.{blanks}
 use Rattle.lists.proofs.ListLaws.{by_bool, by_test}
 use Rattle.lists.proofs.LineLaws.{blanks_at}
@@ -118,7 +118,7 @@ pub used_over : (b : List ℕ) → state_size ≤ length b → 31 < byte b 4 →
 unfolding used_tasks
 used_over b long h = rw (le-ltb (length b) state_size long, lt-ltb 31 (byte b 4) h)
 
-pub used_tested : (b : List ℕ) (t : Bool) → state_size ≤ length b → byte b 4 ≤ 31 → blanks (table_from b (5 + byte b 4 * task_size)) ≡ t → (if t then byte b 4 else 31) ≡ used_tasks b
+pub used_tested : (b : List ℕ) (t : Bool) → state_size ≤ length b → byte b 4 ≤ 31 → blanks (table_from b (5 + byte b 4 * task_size)) ≡ t → (when t then byte b 4 else 31) ≡ used_tasks b
 unfolding used_tasks
 used_tested b t long h e = rw (le-ltb (length b) state_size long, le-ltb 31 (byte b 4) h, e)
 

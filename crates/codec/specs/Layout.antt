@@ -1,6 +1,6 @@
 -- A supervisor's 501 bytes: clock 4, created 1, 31 tasks of 12, four lines of 31. Numbers have their high byte first.
 use Rattle.std.specs.Prelude.{ℕ, zero, suc, ◌+◌, ◌*◌, Bool, true, ◌&&◌, ◌||◌, List, [], ◌∷◌, ◌++◌, length, take, drop, eqb, ltb, leb}
-use Rattle.lists.specs.Lists.{if◌then◌else◌}
+use Rattle.lists.specs.Lists.{when◌then◌else◌}
 use Rattle.calls.specs.Duration.{bytes_of}
 use Rattle.calls.specs.Record.{byte, four_from}
 use Rattle.rules.specs.State.{entry_of, kept_of, empty}
@@ -99,17 +99,17 @@ is_timer tag due = (eqb tag 0 && eqb due 0) || eqb tag 1
 -- the place of a tag and its three bytes
 abbrev pub place_from : ℕ → ℕ → ℕ → ℕ → Place
 place_from tag a b k =
-    if eqb tag 0 then Blank
-    else if eqb tag 1 then Ready
-    else if eqb tag 2 then Delayed
-    else if eqb tag 3 then Queued (record { target = a; entry = b })
-    else if eqb tag 4 then Held (record { holder = a; entry = b; kept = k })
-    else if eqb tag 5 then Accepting (record { opens = a })
+    when eqb tag 0 then Blank
+    else when eqb tag 1 then Ready
+    else when eqb tag 2 then Delayed
+    else when eqb tag 3 then Queued (record { target = a; entry = b })
+    else when eqb tag 4 then Held (record { holder = a; entry = b; kept = k })
+    else when eqb tag 5 then Accepting (record { opens = a })
     else Completed
 
 -- the time of a tag and a reading
 abbrev pub timer_from : ℕ → ℕ → Timer
-timer_from tag due = if eqb tag 0 then Off else Due due
+timer_from tag due = when eqb tag 0 then Off else Due due
 
 -- the numbers that stand in the bytes of a task
 abbrev pub fields_of : List ℕ → Fields
@@ -195,7 +195,7 @@ lost = overfull (pack (empty 0))
 
 -- the state of lent bytes: one that is not sound where they are no encoding
 unfoldable pub state_in : List ℕ → Supervisor
-state_in b = if is_encoding b then decode b else lost
+state_in b = when is_encoding b then decode b else lost
 
 -- bytes with a piece put into them at an index
 abbrev pub put_at : List ℕ → ℕ → List ℕ → List ℕ
@@ -203,7 +203,7 @@ put_at b at piece = take at b ++ (piece ++ drop (at + length piece) b)
 
 -- the same, where they have room for it there
 unfoldable pub placed_at : List ℕ → ℕ → List ℕ → List ℕ
-placed_at b at piece = if leb (at + length piece) (length b) then put_at b at piece else b
+placed_at b at piece = when leb (at + length piece) (length b) then put_at b at piece else b
 
 -- the four lines behind the tasks
 abbrev pub placed_lines : List ℕ → List ℕ → List ℕ → List ℕ → List ℕ → List ℕ
@@ -211,4 +211,4 @@ placed_lines b ready callers held delays = placed_at (placed_at (placed_at (plac
 
 -- lent bytes with a state put into them; bytes behind it stay, and so do all where there are too few
 unfoldable pub stored : Supervisor → List ℕ → List ℕ
-stored s b = if ltb (length b) state_size then b else encode s ++ drop state_size b
+stored s b = when ltb (length b) state_size then b else encode s ++ drop state_size b

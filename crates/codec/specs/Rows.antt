@@ -1,6 +1,6 @@
 -- The second engine's 1431 bytes: clock 4, created 1, 31 tasks of 12, the lines ready, held, delays, then 31 rows of 31, row g those who have called task g.
 use Rattle.std.specs.Prelude.{ℕ, zero, suc, ◌+◌, ◌*◌, List, [], ◌∷◌, ◌++◌, length, replicate, take, drop, ltb}
-use Rattle.lists.specs.Lists.{if◌then◌else◌}
+use Rattle.lists.specs.Lists.{when◌then◌else◌}
 use Rattle.calls.specs.Duration.{bytes_of}
 use Rattle.rules.specs.declared.Core.{Core}
 use Rattle.rules.specs.declared.Row.{Row}
@@ -79,7 +79,7 @@ lost_second = record { core = lost.core; rows = no_rows }
 
 -- the state of lent bytes: one that is not sound where they are no encoding
 unfoldable pub second_in : List ℕ → Second
-second_in b = if ltb (length b) second_size then lost_second else record { core = core_from (state_in b); rows = rows_in 31 (drop rows_at b) }
+second_in b = when ltb (length b) second_size then lost_second else record { core = core_from (state_in b); rows = rows_in 31 (drop rows_at b) }
 
 -- ── what is put into lent bytes ──
 
@@ -89,4 +89,4 @@ put_rows i b rows = take (row_place i) b ++ (rows_bytes rows ++ drop second_size
 
 -- lent bytes with a state put into them; bytes behind it stay, and so do all where there are too few
 unfoldable pub stored_second : Second → List ℕ → List ℕ
-stored_second x b = if ltb (length b) second_size then b else encode_second x ++ drop second_size b
+stored_second x b = when ltb (length b) second_size then b else encode_second x ++ drop second_size b

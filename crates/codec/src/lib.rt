@@ -1,4 +1,6 @@
 // A supervisor in lent bytes: reading it, and putting it there.
+#![tactic(auto)]
+
 pub mod rows;
 
 ghost use Rattle.std.specs.Prelude.{◌≡◌, ◌+◌, ◌≤◌, [], ◌∷◌, length, take, drop};

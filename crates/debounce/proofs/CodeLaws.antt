@@ -4,7 +4,7 @@ use Rattle.std.proofs.Common.{◌≡◌, ℕ, zero, suc, ◌+◌, ◌-◌, ◌*�
 use mir.Val.{bool_byte}
 use native.Mathlib.Nat.{two-pow-succ}
 use lib.ListN.{length-map}
-use Rattle.lists.specs.Lists.{if◌then◌else◌, bit}
+use Rattle.lists.specs.Lists.{when◌then◌else◌, bit}
 use Rattle.lists.proofs.Tests.{and_first, if-true, if-false, bit_le, byte_bit}
 use Rattle.lists.proofs.Turns.{rest_cons}
 use Rattle.rules.specs.State.{blank}
@@ -64,10 +64,10 @@ start_done s cs i h = ap (start_all s) (drop_of_length-le cs h)
 
 module _ (c : Card) (t bits i : ℕ) where
   pub serve_next : i < 8 → (ltb 0 t && leb t 8) ≡ true → serve (8 - i) c t bits ≡ serve (8 - (i + 1)) (turn_of c t bits).card (turn_of c t bits).next bits
-  serve_next h e = let f : 8 - i ≡ suc (8 - (i + 1)) = omega arith in ap (λ (k : ℕ). serve k c t bits) f ∙ ap (λ (x : Bool). if x then serve (8 - (i + 1)) (turn_of c t bits).card (turn_of c t bits).next bits else c) e
+  serve_next h e = let f : 8 - i ≡ suc (8 - (i + 1)) = omega arith in ap (λ (k : ℕ). serve k c t bits) f ∙ ap (λ (x : Bool). when x then serve (8 - (i + 1)) (turn_of c t bits).card (turn_of c t bits).next bits else c) e
 
   pub serve_stop : i < 8 → (ltb 0 t && leb t 8) ≡ false → serve (8 - i) c t bits ≡ c
-  serve_stop h e = let f : 8 - i ≡ suc (8 - (i + 1)) = omega arith in ap (λ (k : ℕ). serve k c t bits) f ∙ ap (λ (x : Bool). if x then serve (8 - (i + 1)) (turn_of c t bits).card (turn_of c t bits).next bits else c) e
+  serve_stop h e = let f : 8 - i ≡ suc (8 - (i + 1)) = omega arith in ap (λ (k : ℕ). serve k c t bits) f ∙ ap (λ (x : Bool). when x then serve (8 - (i + 1)) (turn_of c t bits).card (turn_of c t bits).next bits else c) e
 
   pub serve_done : 8 ≤ i → serve (8 - i) c t bits ≡ c
   serve_done h = let f : 8 - i ≡ 0 = omega arith in ap (λ (k : ℕ). serve k c t bits) f

@@ -4,7 +4,7 @@ use Rattle.std.proofs.Common.{◌≡◌, ℕ, zero, suc, ◌+◌, ◌<◌, ◌�
 use mathlib.Core.Bool.{and-false}
 use lib.Dec.{leb-zero, leb-suc-zero, leb-suc-suc}
 use borrow.Author.Tests.{lt-leb}
-use Rattle.lists.specs.Lists.{if◌then◌else◌}
+use Rattle.lists.specs.Lists.{when◌then◌else◌}
 use Rattle.lists.proofs.ListLaws.{by_bool, by_test, clash}
 use Rattle.lists.proofs.Tests.{each, and_both}
 use Rattle.debounce.specs.Rule.{differs, last_all, report_of}
@@ -49,7 +49,7 @@ in_range_sampled = same_setting InRange
 -- how many of the latest samples in a row are as v says
 abbrev pub in_row : Bool → List Bool → ℕ
 in_row v [] = 0
-in_row v (x ∷ xs) = if differs x v then 0 else suc (in_row v xs)
+in_row v (x ∷ xs) = when differs x v then 0 else suc (in_row v xs)
 
 last_row : (n : ℕ) (v : Bool) (l : List Bool) → last_all n v l ≡ leb n (in_row v l)
 last_row zero v l = rw (leb-zero (length l), leb-zero (in_row v l))

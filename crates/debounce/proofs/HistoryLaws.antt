@@ -86,7 +86,9 @@ module _ (xs : List Setting) where
             n = sampled_n c x ∙ t.n;
             p = sampled_p c x ∙ t.p;
             left = rw (sampled_p c x) (q.1 ∙ rw z (omega arith));
-            knows = rw (sampled_n c x, sampled_p c x) kn;
+            knows =
+                subst (λ (m : ℕ). Knows m (samples_of (sampled c x).p k (bits ∷ history)) (sampled c x)) (sym (sampled_n c x))
+                (subst (λ (q : ℕ). Knows c.n (samples_of q k (bits ∷ history)) (sampled c x)) (sym (sampled_p c x)) kn);
           })
 
       tells_on : 1 < ticks_left v.clock (timer_of v k) → Tells (bits ∷ history) w.state (nth_of w.contacts k) k

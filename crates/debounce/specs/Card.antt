@@ -1,7 +1,7 @@
 -- The card: what a sample does to a contact, when a card is damaged, and what a tick does, by the supervisor's steps.
 -- Assumes nothing.
 use Rattle.std.specs.Prelude.{ℕ, zero, suc, ◌+◌, ◌-◌, Bool, true, false, ◌&&◌, ltb, List, [], ◌∷◌, map, pos, ◌==◌, nat_le, nat_lt, slice_index_or, slice_set}
-use Rattle.lists.specs.Lists.{if◌then◌else◌}
+use Rattle.lists.specs.Lists.{when◌then◌else◌}
 use Rattle.calls.specs.declared.Call as C
 use Rattle.calls.specs.declared.Call.TheVariants.{Create, Delay, Tick}
 use Rattle.rules.specs.State.{empty, ticks_left}
@@ -36,7 +36,7 @@ told c closed against = record { n = c.n; p = c.p; closed = closed; against = ag
 -- one more sample: where it differs from the report it is one more in a row, and the n-th turns the report
 abbrev pub sampled : Contact → Bool → Contact
 sampled c x =
-    if differs x c.closed then (if ltb (c.against + 1) c.n then told c c.closed (c.against + 1) else told c x 0)
+    when differs x c.closed then (when ltb (c.against + 1) c.n then told c c.closed (c.against + 1) else told c x 0)
     else told c c.closed 0
 
 -- whether the contact is reported closed
@@ -97,7 +97,7 @@ turn_of c t bits =
 -- turn by turn, at most so many, until no task of a contact runs
 abbrev pub serve : ℕ → Card → ℕ → ℕ → Card
 serve zero c t bits = c
-serve (suc k) c t bits = if nat_lt 0 t && nat_le t 8 then serve k (turn_of c t bits).card (turn_of c t bits).next bits else c
+serve (suc k) c t bits = when nat_lt 0 t && nat_le t 8 then serve k (turn_of c t bits).card (turn_of c t bits).next bits else c
 
 -- turn by turn, until nobody runs: there are eight tasks
 unfoldable pub all_served : Card → ℕ → ℕ → Card
@@ -119,7 +119,7 @@ damaged c = record { card = c; refusal = 2; reported = 0 }
 
 -- one tick with the raw bits
 abbrev pub tick_of : Card → ℕ → Ticked
-tick_of c bits = if whole c then answered (ticked_card c bits) else damaged c
+tick_of c bits = when whole c then answered (ticked_card c bits) else damaged c
 
 -- ── the start ──
 

@@ -2,7 +2,7 @@
 -- A history is the list of the raw bytes, one a tick, that of the latest tick first; so is the list of a contact's samples.
 -- Assumes nothing.
 use Rattle.std.specs.Prelude.{ℕ, suc, ◌+◌, ◌-◌, ◌*◌, ◌/◌, ◌%◌, ◌^◌, Bool, true, false, not, ◌&&◌, ◌||◌, List, [], ◌∷◌, length, take, ◌==◌, nat_le}
-use Rattle.lists.specs.Lists.{if◌then◌else◌, bit, every}
+use Rattle.lists.specs.Lists.{when◌then◌else◌, bit, every}
 
 -- contact k's bit of a byte: bit k - 1, 1 for closed
 abbrev pub closed_in : ℕ → ℕ → Bool
@@ -12,7 +12,7 @@ closed_in bits k = bits / 2 ^ (k - 1) % 2 == 1
 abbrev pub samples_of : ℕ → ℕ → List ℕ → List Bool
 samples_of p k [] = []
 samples_of p k (bits ∷ before) =
-    if suc (length before) % p == 0 then closed_in bits k ∷ samples_of p k before
+    when suc (length before) % p == 0 then closed_in bits k ∷ samples_of p k before
     else samples_of p k before
 
 -- one is closed and the other open
@@ -28,8 +28,8 @@ last_all n v samples = nat_le n (length samples) && every (λ x. not (differs x 
 abbrev pub report_of : ℕ → List Bool → Bool
 report_of n [] = false
 report_of n (x ∷ before) =
-    if last_all n true (x ∷ before) then true
-    else if last_all n false (x ∷ before) then false
+    when last_all n true (x ∷ before) then true
+    else when last_all n false (x ∷ before) then false
     else report_of n before
 
 -- a contact's setting

@@ -1,7 +1,7 @@
 -- The settings: fields laid out like call records, and the fresh card that they make.
 -- Assumes nothing.
 use Rattle.std.specs.Prelude.{ℕ, zero, suc, ◌+◌, ◌*◌, Bool, true, ◌&&◌, List, [], ◌∷◌, map, length, replicate, ◌==◌}
-use Rattle.lists.specs.Lists.{if◌then◌else◌}
+use Rattle.lists.specs.Lists.{when◌then◌else◌}
 use Rattle.calls.specs.Record.{byte}
 use Rattle.debounce.specs.declared.Card.{Card}
 use Rattle.debounce.specs.declared.Made.{Made}
@@ -50,4 +50,4 @@ no_card = record { supervisor = no_tasks; contacts = replicate 8 no_contact }
 
 -- what the bytes of settings make; 17 BAD_SETTING and no card for anything but good settings
 abbrev pub fresh_of : List ℕ → Made
-fresh_of b = if good_settings b then record { refusal = 0; card = fresh_card (settings_in b) } else record { refusal = 17; card = no_card }
+fresh_of b = when good_settings b then record { refusal = 0; card = fresh_card (settings_in b) } else record { refusal = 17; card = no_card }

@@ -1,4 +1,6 @@
 // The contact debouncer: eight contacts, each served by a task of the supervisor.
+#![tactic(auto)]
+
 mod check;
 mod contacts;
 mod settings;

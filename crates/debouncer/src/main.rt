@@ -1,5 +1,7 @@
 // Reads 48 bytes of settings from standard input, then the raw bits, one byte a tick, and prints a line for each tick: its number and the
 // reports of contacts 1 to 8. Settings that are refused get one line, with the refusal.
+#![tactic(auto)]
+
 use debounce::{Card, Made, Ticked};
 use stream::flow::{Flow, begun, done, fed, passed};
 use text::{least, put_byte, put_number};
@@ -42,19 +44,19 @@ fn put_line(tick: u64, bits: u8, out: &mut [u8], at: usize) -> usize {
 }
 
 // The settings are refused: the line that says so, and no more.
-fn refused(s: State, refusal: u8, out: &mut [u8]) -> State {
+fn refused<R: Print + Eprint>(rt: &R, s: State, refusal: u8, out: &mut [u8]) -> State {
     let place = put_number(refusal as u64, out, s.flow.waits);
     let end = put_byte(b'\n', out, place);
-    let flow = passed(s.flow, s.flow.window.end, end, out);
-    with_flow(s, done(flow, out))
+    let flow = passed(rt, s.flow, s.flow.window.end, end, out);
+    with_flow(s, done(rt, flow, out))
 }
 
 // Behind the settings, which end at `at`.
-fn made(s: State, m: Made, at: usize, out: &mut [u8]) -> State {
+fn made<R: Print + Eprint>(rt: &R, s: State, m: Made, at: usize, out: &mut [u8]) -> State {
     if m.refusal != 0 {
-        return refused(s, m.refusal, out);
+        return refused(rt, s, m.refusal, out);
     }
-    let flow = passed(s.flow, at, s.flow.waits, out);
+    let flow = passed(rt, s.flow, at, s.flow.waits, out);
     let card = m.card;
     State {
         flow,
@@ -64,9 +66,9 @@ fn made(s: State, m: Made, at: usize, out: &mut [u8]) -> State {
 }
 
 // Behind a tick, whose byte ends at `at`.
-fn ticked(s: State, k: Ticked, at: usize, out: &mut [u8]) -> State {
+fn ticked<R: Print + Eprint>(rt: &R, s: State, k: Ticked, at: usize, out: &mut [u8]) -> State {
     let place = put_line(s.tick, k.reported, out, s.flow.waits);
-    let flow = passed(s.flow, at, place, out);
+    let flow = passed(rt, s.flow, at, place, out);
     let card = k.card;
     State {
         flow,
@@ -76,32 +78,32 @@ fn ticked(s: State, k: Ticked, at: usize, out: &mut [u8]) -> State {
 }
 
 // More bytes are read.
-fn supplied(s: State, buf: &mut [u8], out: &[u8]) -> State {
-    with_flow(s, fed(s.flow, buf, out))
+fn supplied<R: Input + Print + Eprint>(rt: &R, s: State, buf: &mut [u8], out: &[u8]) -> State {
+    with_flow(s, fed(rt, s.flow, buf, out))
 }
 
 // The input is over.
-fn over(s: State, out: &[u8]) -> State {
-    with_flow(s, done(s.flow, out))
+fn over<R: Print + Eprint>(rt: &R, s: State, out: &[u8]) -> State {
+    with_flow(s, done(rt, s.flow, out))
 }
 
 // The settings, as soon as they are there.
-fn head(s: State, buf: &mut [u8], out: &mut [u8]) -> State {
+fn head<R: Input + Print + Eprint>(rt: &R, s: State, buf: &mut [u8], out: &mut [u8]) -> State {
     let end = least(s.flow.window.end, buf.len());
     let at = least(s.flow.window.at, end);
     let n = least(48, end - at);
     if !s.flow.window.last & (n < 48) {
-        return supplied(s, buf, out);
+        return supplied(rt, s, buf, out);
     }
     let e = at + n;
     let m = debounce::fresh(&buf[at..e]);
-    made(s, m, e, out)
+    made(rt, s, m, e, out)
 }
 
 // One turn, on what stands in the window.
-fn turn(s: State, buf: &mut [u8], out: &mut [u8]) -> State {
+fn turn<R: Input + Print + Eprint>(rt: &R, s: State, buf: &mut [u8], out: &mut [u8]) -> State {
     if s.tick == 0 {
-        return head(s, buf, out);
+        return head(rt, s, buf, out);
     }
     let end = least(s.flow.window.end, buf.len());
     let at = s.flow.window.at;
@@ -109,16 +111,16 @@ fn turn(s: State, buf: &mut [u8], out: &mut [u8]) -> State {
         let bits = buf[at];
         let card = s.card;
         let k = debounce::tick(card, bits);
-        return ticked(s, k, at + 1, out);
+        return ticked(rt, s, k, at + 1, out);
     }
     if s.flow.window.last {
-        return over(s, out);
+        return over(rt, s, out);
     }
-    supplied(s, buf, out)
+    supplied(rt, s, buf, out)
 }
 
 // All of standard input.
-fn run(buf: &mut [u8], out: &mut [u8]) {
+fn run<R: Input + Print + Eprint>(rt: &R, buf: &mut [u8], out: &mut [u8]) {
     let flow = begun();
     let none = debounce::fresh(&[]);
     let card = none.card;
@@ -129,13 +131,13 @@ fn run(buf: &mut [u8], out: &mut [u8]) {
     };
     let mut turns = u64::MAX;
     while turns > 0 && s.flow.goes {
-        s = turn(s, buf, out);
+        s = turn(rt, s, buf, out);
         turns -= 1;
     }
 }
 
-fn main() {
+fn main(rt: HostRuntime) {
     let mut buf = [0u8; 65536];
     let mut out = [0u8; 65536];
-    run(&mut buf, &mut out);
+    run(&rt, &mut buf, &mut out);
 }

@@ -1,4 +1,6 @@
 // Lines: task numbers in order, and blanks (0) behind them, in an array of 31.
+#![tactic(auto)]
+
 ghost use Rattle.std.specs.Prelude.{◌≡◌, [], ◌∷◌, ◌++◌, length};
 ghost use Rattle.lists.specs.Lists.{remove, rejoin, to_head, first, last};
 ghost use Rattle.lists.specs.Line.{line, pad};

@@ -5,7 +5,7 @@ use mathlib.Core.Path.{◌≡◌, refl}
 use mathlib.Core.List.{List, [], ◌∷◌}
 use borrow.Author.Tests.{ne_eqb}
 use lib.Dec.{eqb}
-use Rattle.lists.specs.Lists.{if◌then◌else◌}
+use Rattle.lists.specs.Lists.{when◌then◌else◌}
 
 -- what the arm knows: beside what is known before the first key, that the number is none of the keys
 abbrev pub NoneOf : Type 0 → ℕ → List ℕ → Type 0
@@ -20,7 +20,7 @@ Answers A (k ∷ ks) = A × Answers A ks
 -- the answer of the first key that the number is, or the last one
 abbrev pub chosen : {A : Type 0} (x : ℕ) (ks : List ℕ) → Answers A ks → A → A
 chosen x [] vs a = a
-chosen x (k ∷ ks) vs a = if eqb x k then vs.0 else chosen x ks vs.1 a
+chosen x (k ∷ ks) vs a = when eqb x k then vs.0 else chosen x ks vs.1 a
 
 rest : {A Known : Type 0} (x : ℕ) (ks : List ℕ) (vs : Answers A ks) (a : A) → NoneOf Known x ks → Known × (a ≡ chosen x ks vs a)
 rest x [] vs a n = (n, refl)

@@ -9,7 +9,7 @@ use native.Mathlib.Numerals.{unary_clauses}
 use lib.ListN.{length, replicate, length-map}
 use lib.Dec.{eqb, ltb, leb}
 use borrow.Author.Tests.{eqb-true, eqb-false, eq-eqb, ne_eqb, ltb-true, ltb-false, leb-true, le-leb}
-use Rattle.lists.specs.Lists.{if◌then◌else◌, bit, filter, remove, insert, count, every, in_order_by, down_from}
+use Rattle.lists.specs.Lists.{when◌then◌else◌, bit, filter, remove, insert, count, every, in_order_by, down_from}
 use Rattle.lists.proofs.Tests.{and_first, and_second, and_both}
 
 -- ── tests ──
@@ -19,7 +19,7 @@ pub clash : {A : Type 0} {b : Bool} → b ≡ true → b ≡ false → A
 clash p q = absurd (true≢false (sym p ∙ q))
 
 -- what holds of both branches, each under its test, holds of the choice
-pub by_test {ℓ κ} : {A : Type ℓ} (P : A → Type κ) (b : Bool) {x y : A} → (b ≡ true → P x) → (b ≡ false → P y) → P (if b then x else y)
+pub by_test {ℓ κ} : {A : Type ℓ} (P : A → Type κ) (b : Bool) {x y : A} → (b ≡ true → P x) → (b ≡ false → P y) → P (when b then x else y)
 by_test P true f g = f refl
 by_test P false f g = g refl
 
@@ -52,7 +52,7 @@ pub count_filter_yes : (f : ℕ → Bool) (u : ℕ) (l : List ℕ) → f u ≡ t
 count_filter_yes f u [] h = refl
 count_filter_yes f u (x ∷ xs) h = go (f x) refl (count_filter_yes f u xs h)
   where
-    go : (b : Bool) → f x ≡ b → count u (filter f xs) ≡ count u xs → count u (if b then x ∷ filter f xs else filter f xs) ≡ bit (eqb x u) + count u xs
+    go : (b : Bool) → f x ≡ b → count u (filter f xs) ≡ count u xs → count u (when b then x ∷ filter f xs else filter f xs) ≡ bit (eqb x u) + count u xs
     go true e ih = omega (arith, ih)
     go false e ih = rw (ne_eqb x u (λ q. clash (ap f q ∙ h) e)) (omega (arith, ih))
 
@@ -61,7 +61,7 @@ pub count_filter_no : (f : ℕ → Bool) (u : ℕ) (l : List ℕ) → f u ≡ fa
 count_filter_no f u [] h = refl
 count_filter_no f u (x ∷ xs) h = go (f x) refl (count_filter_no f u xs h)
   where
-    go : (b : Bool) → f x ≡ b → count u (filter f xs) ≡ 0 → count u (if b then x ∷ filter f xs else filter f xs) ≡ 0
+    go : (b : Bool) → f x ≡ b → count u (filter f xs) ≡ 0 → count u (when b then x ∷ filter f xs else filter f xs) ≡ 0
     go true e ih = rw (ne_eqb x u (λ q. clash e (ap f q ∙ h))) (omega (arith, ih))
     go false e ih = ih
 
@@ -78,7 +78,7 @@ pub count_insert : (f : ℕ → Bool) (t u : ℕ) (l : List ℕ) → count u (in
 count_insert f t u [] = refl
 count_insert f t u (x ∷ xs) = go (f x) (count_insert f t u xs)
   where
-    go : (b : Bool) → count u (insert f t xs) ≡ bit (eqb t u) + count u xs → count u (if b then t ∷ x ∷ xs else x ∷ insert f t xs) ≡ bit (eqb t u) + (bit (eqb x u) + count u xs)
+    go : (b : Bool) → count u (insert f t xs) ≡ bit (eqb t u) + count u xs → count u (when b then t ∷ x ∷ xs else x ∷ insert f t xs) ≡ bit (eqb t u) + (bit (eqb x u) + count u xs)
     go true ih = refl
     go false ih = omega (arith, ih)
 
@@ -163,7 +163,7 @@ pub length_remove : (t : ℕ) (l : List ℕ) → length l ≡ length (remove t l
 length_remove t [] = refl
 length_remove t (x ∷ xs) = go (eqb x t) refl (length_remove t xs)
   where
-    go : (b : Bool) → eqb x t ≡ b → length xs ≡ length (remove t xs) + count t xs → suc (length xs) ≡ length (if not b then x ∷ remove t xs else remove t xs) + (bit (eqb x t) + count t xs)
+    go : (b : Bool) → eqb x t ≡ b → length xs ≡ length (remove t xs) + count t xs → suc (length xs) ≡ length (when not b then x ∷ remove t xs else remove t xs) + (bit (eqb x t) + count t xs)
     go true e ih = rw e (omega (arith, ih))
     go false e ih = rw e (omega (arith, ih))
 

@@ -11,7 +11,7 @@ use lib.Dec.{ltb, leb}
 use lib.ListN.{get_or}
 use borrow.Author.Tests.{ltb-true, leb-true}
 use mir.Val.{bool_byte}
-use Rattle.lists.specs.Lists.{if◌then◌else◌, bit}
+use Rattle.lists.specs.Lists.{when◌then◌else◌, bit}
 
 -- what a contract asks that asks nothing
 pub nothing : Unit {0}
@@ -91,11 +91,11 @@ or_right true b h = refl
 or_right false b h = h
 
 -- the choice of a test that is known
-pub if-true : {A : Type 0} (b : Bool) (x y : A) → b ≡ true → (if b then x else y) ≡ x
+pub if-true : {A : Type 0} (b : Bool) (x y : A) → b ≡ true → (when b then x else y) ≡ x
 if-true true x y e = refl
 if-true false x y e = differ (sym e)
 
-pub if-false : {A : Type 0} (b : Bool) (x y : A) → b ≡ false → (if b then x else y) ≡ y
+pub if-false : {A : Type 0} (b : Bool) (x y : A) → b ≡ false → (when b then x else y) ≡ y
 if-false true x y e = differ e
 if-false false x y e = refl
 

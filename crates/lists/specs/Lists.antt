@@ -2,11 +2,11 @@
 -- Assumes nothing.
 use Rattle.std.specs.Prelude.{ℕ, zero, suc, ◌+◌, Bool, true, false, not, ◌&&◌, ◌||◌, List, [], ◌∷◌, ◌++◌, eqb, ltb}
 
-infixr 5 if◌then◌else◌
+infixr 5 when◌then◌else◌
 -- `if b then x else y`
-abbrev pub if◌then◌else◌ {ℓ} : {A : Type ℓ} → Bool → A → A → A
-if true then x else y = x
-if false then x else y = y
+abbrev pub when◌then◌else◌ {ℓ} : {A : Type ℓ} → Bool → A → A → A
+when true then x else y = x
+when false then x else y = y
 
 -- 1 for a test that passes, 0 for one that fails
 abbrev pub bit : Bool → ℕ
@@ -16,7 +16,7 @@ bit false = 0
 -- those that pass the test, in their order
 abbrev pub filter : (ℕ → Bool) → List ℕ → List ℕ
 filter f [] = []
-filter f (x ∷ xs) = if f x then x ∷ filter f xs else filter f xs
+filter f (x ∷ xs) = when f x then x ∷ filter f xs else filter f xs
 
 -- the list without t
 abbrev pub remove : ℕ → List ℕ → List ℕ
@@ -34,7 +34,7 @@ to_head t l = t ∷ remove t l
 -- t before the first that passes the test, or at the end
 abbrev pub insert : (ℕ → Bool) → ℕ → List ℕ → List ℕ
 insert f t [] = t ∷ []
-insert f t (x ∷ xs) = if f x then t ∷ x ∷ xs else x ∷ insert f t xs
+insert f t (x ∷ xs) = when f x then t ∷ x ∷ xs else x ∷ insert f t xs
 
 -- how often t stands in the list
 abbrev pub count : ℕ → List ℕ → ℕ

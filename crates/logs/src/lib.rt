@@ -1,4 +1,6 @@
 // Whole logs, from standard input to standard output: what stepper and replay share.
+#![tactic(auto)]
+
 ghost use Rattle.std.specs.Prelude.{◌-◌, ◌≤◌, min, ◌≡◌, true};
 ghost use Rattle.text.specs.Text.{Uncut};
 ghost use Rattle.report.specs.Lines.{header, longest_line};
@@ -8,13 +10,14 @@ ghost use Rattle.logs.specs.Logs.{part_of, bytes_in, is_last, begun_of, place_be
 ghost use Rattle.logs.specs.Rests.{dropped_of, Skipped, number_at, head_of, Headed};
 
 use calls::word;
-use libc::STDERR_FILENO;
 use report::put_header;
 use session::seconds::{SecondSession, SecondTurned};
 use session::turns::{Next, Session, Turned, turn};
+use std::env::Env;
 use stream::flow::{Flow, begun, fed, passed};
 use stream::output::flushed;
 use stream::window::{Window, headed, refilled};
+use stream::words;
 use text::least;
 
 // The bytes of a log that goes on to the end of the input.
@@ -87,11 +90,18 @@ fn place_behind(w: Window, count: usize) -> usize
 }
 
 // The log behind a turn that took `count` bytes and put output up to `place`.
-fn advanced(l: Log, count: usize, place: usize, goes: bool, out: &[u8]) -> Log
+fn advanced<R: Print + Eprint>(
+    rt: &R,
+    l: Log,
+    count: usize,
+    place: usize,
+    goes: bool,
+    out: &[u8],
+) -> Log
     ensures { Moved l count place goes out.now result }
 {
     let at = place_behind(l.flow.window, count);
-    let flow = passed(l.flow, at, place, out);
+    let flow = passed(rt, l.flow, at, place, out);
     Log {
         flow,
         clock: l.clock,
@@ -101,10 +111,10 @@ fn advanced(l: Log, count: usize, place: usize, goes: bool, out: &[u8]) -> Log
 }
 
 // The log with more input.
-fn supplied(l: Log, buf: &mut [u8], out: &[u8]) -> Log
+fn supplied<R: Input + Print + Eprint>(rt: &R, l: Log, buf: &mut [u8], out: &[u8]) -> Log
     ensures { Supplied l buf.old result buf.new }
 {
-    let flow = fed(l.flow, buf, out);
+    let flow = fed(rt, l.flow, buf, out);
     Log {
         flow,
         clock: l.clock,
@@ -114,13 +124,21 @@ fn supplied(l: Log, buf: &mut [u8], out: &[u8]) -> Log
 }
 
 // The log behind a turn, by how it goes on.
-fn behind(l: Log, next: Next, count: usize, place: usize, buf: &mut [u8], out: &[u8]) -> Log
+fn behind<R: Input + Print + Eprint>(
+    rt: &R,
+    l: Log,
+    next: Next,
+    count: usize,
+    place: usize,
+    buf: &mut [u8],
+    out: &[u8],
+) -> Log
     ensures { Onward next l count place out.now buf.old result buf.new }
 {
     match next {
-        Next::Again => advanced(l, count, place, true, out),
-        Next::More => supplied(l, buf, out),
-        Next::Stop => advanced(l, count, place, false, out),
+        Next::Again => advanced(rt, l, count, place, true, out),
+        Next::More => supplied(rt, l, buf, out),
+        Next::Stop => advanced(rt, l, count, place, false, out),
     }
 }
 
@@ -157,7 +175,7 @@ fn run_second_turn(
 }
 
 // A log to its end. The log and its session are two variables: of a struct of both each turn would copy every field.
-fn run_log(l: Log, buf: &mut [u8], out: &mut [u8]) -> Log
+fn run_log<R: Input + Print + Eprint>(rt: &R, l: Log, buf: &mut [u8], out: &mut [u8]) -> Log
     requires goes_value { l.goes ≡ true }
     requires free { Free spare out.old l.flow.waits }
     ensures { Free spare out.new result.flow.waits }
@@ -171,14 +189,14 @@ fn run_log(l: Log, buf: &mut [u8], out: &mut [u8]) -> Log
         let t = run_turn(log, s, buf, &mut room, out);
         let next = t.next;
         s = t.session;
-        log = behind(log, next, t.count, t.place, buf, out);
+        log = behind(rt, log, next, t.count, t.place, buf, out);
         turns -= 1;
     }
     log
 }
 
 // The same with the second engine.
-fn run_second_log(l: Log, buf: &mut [u8], out: &mut [u8]) -> Log
+fn run_second_log<R: Input + Print + Eprint>(rt: &R, l: Log, buf: &mut [u8], out: &mut [u8]) -> Log
     requires goes_value { l.goes ≡ true }
     requires free { Free spare out.old l.flow.waits }
     ensures { Free spare out.new result.flow.waits }
@@ -192,22 +210,28 @@ fn run_second_log(l: Log, buf: &mut [u8], out: &mut [u8]) -> Log
         let t = run_second_turn(log, s, buf, &mut room, out);
         let next = t.next;
         s = t.session;
-        log = behind(log, next, t.count, t.place, buf, out);
+        log = behind(rt, log, next, t.count, t.place, buf, out);
         turns -= 1;
     }
     log
 }
 
 // A log to its end, with the second engine or the first.
-fn run_with(l: Log, second: bool, buf: &mut [u8], out: &mut [u8]) -> Log
+fn run_with<R: Input + Print + Eprint>(
+    rt: &R,
+    l: Log,
+    second: bool,
+    buf: &mut [u8],
+    out: &mut [u8],
+) -> Log
     requires goes_value { l.goes ≡ true }
     requires free { Free spare out.old l.flow.waits }
     ensures { Free spare out.new result.flow.waits }
 {
     if second {
-        return run_second_log(l, buf, out);
+        return run_second_log(rt, l, buf, out);
     }
-    run_log(l, buf, out)
+    run_log(rt, l, buf, out)
 }
 
 // Whether the bytes are the word `second`.
@@ -222,24 +246,21 @@ fn is_word(word: &[u8; 7], n: usize) -> bool {
 }
 
 // Whether the only word behind the program's name is `second`, of so many words with the name.
-fn is_second(count: usize) -> bool {
+fn is_second<R: Env>(rt: &R, count: usize) -> bool {
     let mut word = [0u8; 7];
-    let n = os::arg(1, &mut word);
+    let n = words::arg(rt, 1, &mut word);
     (count == 2) & is_word(&word, n)
 }
 
 // Tells which words there are.
-fn usage() {
-    io::write_all(
-        STDERR_FILENO,
-        b"usage: stepper or replay, with no word or the word second, < LOG\n",
-    );
+fn usage<R: Eprint>(rt: &R) {
+    let _ = eprintln!(rt; "usage: stepper or replay, with no word or the word second, < LOG");
 }
 
 // The log that standard input is, from an empty supervisor with this clock, with the second engine or the first.
-fn run_input_with(clock: u32, second: bool) {
-    let mut buf = io::large_buffer();
-    let mut out = io::large_buffer();
+fn run_input_with<R: Input + Print + Eprint>(rt: &R, clock: u32, second: bool) {
+    let mut buf = [0u8; 65536];
+    let mut out = [0u8; 65536];
     let flow = begun();
     let l = Log {
         flow,
@@ -247,19 +268,19 @@ fn run_input_with(clock: u32, second: bool) {
         left: ENDLESS,
         goes: true,
     };
-    let done = run_with(l, second, &mut buf, &mut out);
-    flushed(&out, done.flow.waits);
+    let done = run_with(rt, l, second, &mut buf, &mut out);
+    flushed(rt, &out, done.flow.waits);
 }
 
 // The same, with the engine that the program's word chooses.
-pub fn run_input(clock: u32) {
-    let count = os::arg_count();
-    let second = is_second(count);
+pub fn run_input<R: Input + Print + Eprint + Env>(rt: &R, clock: u32) {
+    let count = words::arg_count(rt);
+    let second = is_second(rt, count);
     if second | (count < 2) {
-        run_input_with(clock, second);
+        run_input_with(rt, clock, second);
         return;
     }
-    usage();
+    usage(rt);
 }
 
 // What is skipped of a log: the window on the input, the bytes that the log still has, and whether more of them may come.
@@ -288,13 +309,13 @@ fn dropped(w: Window, left: u64, n: usize) -> Rest
 }
 
 // The window behind the rest of a log.
-fn skipped(w: Window, left: u64, buf: &mut [u8]) -> Window
+fn skipped<R: Input + Eprint>(rt: &R, w: Window, left: u64, buf: &mut [u8]) -> Window
     ensures { Skipped w left buf.old result buf.new }
 {
     let mut s = dropped(w, left, buf.len());
     let mut turns = u64::MAX;
     while turns > 0 && s.goes {
-        let more = refilled(s.window, buf);
+        let more = refilled(rt, s.window, buf);
         s = dropped(more, s.left, buf.len());
         turns -= 1;
     }
@@ -342,10 +363,10 @@ fn next_in(f: Flow, buf: &[u8]) -> Log
 }
 
 // The next log behind this window, with this much output waiting.
-fn next_log(w: Window, f: Flow, buf: &mut [u8]) -> Log
+fn next_log<R: Input + Eprint>(rt: &R, w: Window, f: Flow, buf: &mut [u8]) -> Log
     ensures { Headed w f buf.old result buf.new }
 {
-    let window = headed(w, buf);
+    let window = headed(rt, w, buf);
     let flow = Flow {
         window,
         waits: f.waits,
@@ -355,37 +376,45 @@ fn next_log(w: Window, f: Flow, buf: &mut [u8]) -> Log
 }
 
 // Runs a log, and gives the next one. The rest of a log that stopped is skipped.
-fn run_next(l: Log, second: bool, buf: &mut [u8], out: &mut [u8]) -> Log
+#[tactic(auto, unfolding(crate::specs::Rests::head_of))]
+fn run_next<R: Input + Print + Eprint>(
+    rt: &R,
+    l: Log,
+    second: bool,
+    buf: &mut [u8],
+    out: &mut [u8],
+) -> Log
     requires goes_value { l.goes ≡ true }
     requires free { Free spare out.old l.flow.waits }
     ensures { Free spare out.new result.flow.waits }
 {
-    let done = run_with(l, second, buf, out);
-    let window = skipped(done.flow.window, done.left, buf);
-    next_log(window, done.flow, buf)
+    let done = run_with(rt, l, second, buf, out);
+    let window = skipped(rt, done.flow.window, done.left, buf);
+    next_log(rt, window, done.flow, buf)
 }
 
 // All logs of standard input, each from an empty supervisor with its own clock, with the second engine or the first.
-fn run_logs_with(second: bool) {
-    let mut buf = io::large_buffer();
-    let mut out = io::large_buffer();
+#[tactic(auto, unfolding(crate::specs::Rests::head_of))]
+fn run_logs_with<R: Input + Print + Eprint>(rt: &R, second: bool) {
+    let mut buf = [0u8; 65536];
+    let mut out = [0u8; 65536];
     let f = begun();
-    let mut l = next_log(f.window, f, &mut buf);
+    let mut l = next_log(rt, f.window, f, &mut buf);
     let mut turns = u64::MAX;
     while turns > 0 && l.goes {
-        l = run_next(l, second, &mut buf, &mut out);
+        l = run_next(rt, l, second, &mut buf, &mut out);
         turns -= 1;
     }
-    flushed(&out, l.flow.waits);
+    flushed(rt, &out, l.flow.waits);
 }
 
 // The same, with the engine that the program's word chooses.
-pub fn run_logs() {
-    let count = os::arg_count();
-    let second = is_second(count);
+pub fn run_logs<R: Input + Print + Eprint + Env>(rt: &R) {
+    let count = words::arg_count(rt);
+    let second = is_second(rt, count);
     if second | (count < 2) {
-        run_logs_with(second);
+        run_logs_with(rt, second);
         return;
     }
-    usage();
+    usage(rt);
 }

@@ -1,4 +1,6 @@
 // Runs logs from standard input, each with its start clock and its length in front, and prints each as stepper would.
-fn main() {
-    logs::run_logs();
+#![tactic(auto)]
+
+fn main(rt: HostRuntime) {
+    logs::run_logs(&rt);
 }

@@ -1,5 +1,7 @@
 // The lines that stepper prints: the header, and a line for each call. Each goes into lent room from a place on, and the
 // answer is the place behind it; room that is too short cuts it off.
+#![tactic(auto)]
+
 ghost use Rattle.std.specs.Prelude.{◌≤◌, length};
 ghost use Rattle.text.specs.Text.{spaced, Put};
 ghost use Rattle.report.specs.Lines.{header, barred, waits, line_text, longest_line};
@@ -8,6 +10,7 @@ use rules::Answer;
 use text::{least, put_byte, put_bytes, put_number};
 
 // The header.
+#[tactic(auto, unfolding(crate::specs::Lines::header))]
 pub fn put_header(out: &mut [u8], at: usize) -> usize
     ensures { Put out.old at header out.new result }
 {

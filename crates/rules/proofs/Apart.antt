@@ -10,7 +10,7 @@ use lib.IntN.{ℤ}
 use lib.ListN.{length}
 use lib.Dec.{eqb, ltb, leb}
 use Prim.Native.Nat.{◌^◌}
-use Rattle.lists.specs.Lists.{if◌then◌else◌, bit, filter, remove, count, first, last}
+use Rattle.lists.specs.Lists.{when◌then◌else◌, bit, filter, remove, count, first, last}
 use Rattle.lists.proofs.ListLaws.{clash, by_test, count_filter_le}
 use Rattle.lists.proofs.MarkLaws.{filter_same, filter_all, filter_filter, remove_absent, out, out_cons}
 use Rattle.rules.specs.State.{State, place_of, task_of, created, is_task, is_queued, is_completed, accepts, partner_of, entry_of, opens, waits_on, queue, held_by, running, move, wake, wake_all, meet, set_clock, after}
@@ -89,7 +89,7 @@ module _ (s : State) (l : List ℕ) where
   Same o q = core_of o ≡ core_of q
 
   -- a test that both ask
-  by_both : (b : Bool) (x y z w : Outcome) → Same x z → Same y w → Same (if b then x else y) (if b then z else w)
+  by_both : (b : Bool) (x y z w : Outcome) → Same x z → Same y w → Same (when b then x else y) (when b then z else w)
   by_both true x y z w f g = f
   by_both false x y z w f g = g
 

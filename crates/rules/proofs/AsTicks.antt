@@ -8,7 +8,7 @@ use native.Mathlib.Omega.{arith}
 use lib.ListN.{length}
 use lib.Dec.{eqb, ltb}
 use borrow.Author.Tests.{eq-eqb, ne_eqb}
-use Rattle.lists.specs.Lists.{if◌then◌else◌, bit, count}
+use Rattle.lists.specs.Lists.{when◌then◌else◌, bit, count}
 use Rattle.rules.specs.State.{State, left, after}
 use Rattle.rules.specs.Step.{Refusal, tick, tick_to, ends_at, advance, advanced, advance_ends, readings}
 use Rattle.rules.specs.Whole.{Typed, pack, Whole, decline, step_whole}
@@ -38,19 +38,19 @@ record Gives (s : Supervisor) (n room : ℕ) (s' : Supervisor) (l : List Item) (
 
 -- one TICK more in front
 more : (s : Supervisor) (n room : ℕ) (r : Whole) (s' : Supervisor) (l : List Item) (k t : ℕ) → step_whole s Tick room ≡ r → Gives r.state n room s' l k t
-    → Gives s (suc n) room s' (r.ended ++ l) (bit (ltb 0 (length r.ended)) + k) ((if eqb r.refusal 0 then 1 else 0) + t)
+    → Gives s (suc n) room s' (r.ended ++ l) (bit (ltb 0 (length r.ended)) + k) ((when eqb r.refusal 0 then 1 else 0) + t)
 more s n room r s' l k t e g = record {
   state = ap (λ (w : Whole). reach_whole w.state asks) e ∙ g.state;
   ends = ap (λ (w : Whole). w.ended ++ joined (log_whole w.state asks)) e ∙ ap (λ (m : List Item). r.ended ++ m) g.ends;
-  readings = ap (λ (w : Whole). length (if ltb 0 (length w.ended) then w.state.core.clock ∷ moments (log_whole w.state asks) else moments (log_whole w.state asks))) e
+  readings = ap (λ (w : Whole). length (when ltb 0 (length w.ended) then w.state.core.clock ∷ moments (log_whole w.state asks) else moments (log_whole w.state asks))) e
       ∙ count_if (ltb 0 (length r.ended)) r.state.core.clock (moments (log_whole r.state asks)) ∙ ap (λ (x : ℕ). bit (ltb 0 (length r.ended)) + x) g.readings;
-  ticks = ap (λ (w : Whole). (if eqb w.refusal 0 then 1 else 0) + tick_count (log_whole w.state asks)) e ∙ ap (λ (x : ℕ). (if eqb r.refusal 0 then 1 else 0) + x) g.ticks;
+  ticks = ap (λ (w : Whole). (when eqb w.refusal 0 then 1 else 0) + tick_count (log_whole w.state asks)) e ∙ ap (λ (x : ℕ). (when eqb r.refusal 0 then 1 else 0) + x) g.ticks;
 }
   where
     asks : List Ask
     asks = tick_asks n room
 
-    count_if : (b : Bool) (x : ℕ) (m : List ℕ) → length (if b then x ∷ m else m) ≡ bit b + length m
+    count_if : (b : Bool) (x : ℕ) (m : List ℕ) → length (when b then x ∷ m else m) ≡ bit b + length m
     count_if true x m = omega arith
     count_if false x m = omega arith
 
@@ -74,7 +74,7 @@ apart : (n : ℕ) (s : State) (room : ℕ) → ltb room 124 ≡ false → Sound 
     → (count r (moments (log_whole (pack s) (tick_asks n room))) ≤ 1) × (0 < count r (moments (log_whole (pack s) (tick_asks n room))) → (0 < left s.clock r) × (left s.clock r ≤ n) × (r < 4294967296))
 apart zero s room e h g i r = (omega arith, λ k. absurd (omega arith))
 apart (suc n) s room e h g i r =
-    subst (λ (w : Whole). P (if ltb 0 (length w.ended) then w.state.core.clock ∷ moments (log_whole w.state asks) else moments (log_whole w.state asks))) (sym (step_taken s Tick room h g e))
+    subst (λ (w : Whole). P (when ltb 0 (length w.ended) then w.state.core.clock ∷ moments (log_whole w.state asks) else moments (log_whole w.state asks))) (sym (step_taken s Tick room h g e))
     (by_test P (ltb 0 (length (ends_at s now))) (λ _. first (apart n (tick_to s now) room e (tick_kept s h) (tick_tree s h g) (omega arith) r)) (λ _. let q = apart n (tick_to s now) room e (tick_kept s h) (tick_tree s h g) (omega arith) r in (q.0, later q)))
   where
     asks : List Ask
@@ -145,7 +145,7 @@ ticks_append (a ∷ l) m s = omega (arith, ticks_append l m (after_step s a))
 record Alike (s : Supervisor) (c : C.Call) (room : ℕ) : Type 0 where
   pub state : reach_whole s (spread c room) ≡ (step_whole s c room).state
   pub ends : joined (log_whole s (spread c room)) ≡ (step_whole s c room).ended
-  pub ticks : tick_count (log_whole s (spread c room)) ≡ (if eqb (step_whole s c room).refusal 0 then ticks_of c else 0)
+  pub ticks : tick_count (log_whole s (spread c room)) ≡ (when eqb (step_whole s c room).refusal 0 then ticks_of c else 0)
 
 -- a call that stands for itself
 itself : (s : Supervisor) (a : Ask) → spread a.call a.room ≡ a ∷ [] → Alike s a.call a.room
@@ -168,11 +168,11 @@ spread_alike s (Advance n) room t =
     (λ f q. to s 0 (decline s f 0) (q (Advance n)) (gives_none n s room f (q Tick)) (rw (number_pos f)))
     (λ v h g e. to (pack v) n (whole_of (stepped v (advance v n))) (step_taken v (Advance n) room h g e) (gives_all n v room e h g) refl)
   where
-    to : (s : Supervisor) (t : ℕ) (x : Whole) → step_whole s (Advance n) room ≡ x → Gives s n room x.state x.ended x.answer.entry t → t ≡ (if eqb x.refusal 0 then n else 0) → Alike s (Advance n) room
+    to : (s : Supervisor) (t : ℕ) (x : Whole) → step_whole s (Advance n) room ≡ x → Gives s n room x.state x.ended x.answer.entry t → t ≡ (when eqb x.refusal 0 then n else 0) → Alike s (Advance n) room
     to s t x e g q = record {
       state = g.state ∙ sym (ap (λ (w : Whole). w.state) e);
       ends = g.ends ∙ sym (ap (λ (w : Whole). w.ended) e);
-      ticks = g.ticks ∙ q ∙ sym (ap (λ (w : Whole). if eqb w.refusal 0 then n else 0) e);
+      ticks = g.ticks ∙ q ∙ sym (ap (λ (w : Whole). when eqb w.refusal 0 then n else 0) e);
     }
 
 pub expanded : (run : List Ask) (s : Supervisor) → Typed s → Expanded s run

@@ -1,7 +1,7 @@
 -- A queue that a caller would join has at most 30 callers: the caller is itself one of at most 31 tasks, and ready.
 -- Assumes nothing.
 use Prim.Native.Nat.{ℕ, ◌≤◌, ◌<◌}
-use mathlib.Core.Path.{◌≡◌}
+use mathlib.Core.Path.{◌≡◌, refl, subst}
 use mathlib.Core.List.{◌∷◌}
 use native.Mathlib.Omega.{arith}
 use lib.ListN.{length}
@@ -21,7 +21,7 @@ queue_has_room s t g e h r = omega (arith, h.few, at_most (length s.tasks) (t �
     out = not_in t (queue s g e) (λ k. let q = (of_queue s t g e k).1 in let p = r.place in no (cc))
 
     once : (u : ℕ) → count u (t ∷ queue s g e) ≤ 1
-    once u = by_eq t u (λ z. rw (eq-eqb t u z, ← z) (omega (arith, out))) (λ n. rw (ne_eqb t u n) (omega (arith, queue_once s u g e h)))
+    once u = by_eq t u (λ z. subst (λ (x : ℕ). count x (t ∷ queue s g e) ≤ 1) z (rw (eq-eqb t t refl) (omega (arith, out)))) (λ n. rw (ne_eqb t u n) (omega (arith, queue_once s u g e h)))
 
     inside : (u : ℕ) → 0 < count u (t ∷ queue s g e) → (0 < u) × (u ≤ length s.tasks)
     inside u k = by_eq t u (λ z. rw (← z) (r.low, r.high)) (λ n. let q = of_queue s u g e (omega (arith, rw (ne_eqb t u n) at k)) in queued_there s u q.0 q.1)

@@ -1,6 +1,6 @@
 -- What a call does to each task: one of nine things. All that is said of runs follows from this.
 -- Assumes nothing.
-use Prim.Native.Nat.{ℕ, zero, suc, ◌+◌, ◌≤◌, ◌<◌, ◌^◌}
+use Prim.Native.Nat.{ℕ, zero, suc, ◌≤◌, ◌<◌, ◌^◌}
 use mathlib.Core.Path.{◌≡◌, refl, sym, ◌∙◌, ap}
 use mathlib.Core.Bool.{Bool, true, false, not, ◌&&◌}
 use mathlib.Core.List.{List, [], ◌∷◌, ◌++◌, map}
@@ -52,9 +52,9 @@ place_for s Finish = Blank
 place_for s Tick = Blank
 place_for s (Advance n) = Blank
 
-abbrev pub timer_in_lem : ℕ → ℕ → Timer
-timer_in_lem now zero = Off
-timer_in_lem now (suc d) = Due (after now (suc d))
+abbrev pub timer_in : ℕ → ℕ → Timer
+timer_in now zero = Off
+timer_in now (suc d) = Due (after now (suc d))
 
 -- the answer says that a wait of u begins
 abbrev pub starts : ℕ → Item → Bool
@@ -63,7 +63,7 @@ starts u a = eqb a.result WAITS && eqb a.task u
 pub data Fate (s : State) (c : C.Call) (u : ℕ) (s' : State) (a : Item) (l : List Item) : Type 0 where
   untouched : Alike (task_of s u) (task_of s' u) → reasons u l ≡ [] → starts u a ≡ false → Fate s c u s' a l
   awake : is_waiting (place_of s u) ≡ false → is_waiting (place_of s' u) ≡ false → reasons u l ≡ [] → starts u a ≡ false → Fate s c u s' a l
-  began : is_waiting (place_of s u) ≡ false → is_waiting (place_for s c) ≡ true → place_of s' u ≡ place_for s c → timer_of s' u ≡ timer_in_lem s.clock (duration c)
+  began : is_waiting (place_of s u) ≡ false → is_waiting (place_for s c) ≡ true → place_of s' u ≡ place_for s c → timer_of s' u ≡ timer_in s.clock (duration c)
       → reasons u l ≡ [] → starts u a ≡ true → Fate s c u s' a l
   began_held : is_waiting (place_of s u) ≡ false → (m : Meeting) → place_of s' u ≡ Held m → reasons u l ≡ [] → starts u a ≡ true → Fate s c u s' a l
   taken : ticks_of c ≡ 0 → (q : Waiting) (m : Meeting) → place_of s u ≡ Queued q → place_of s' u ≡ Held m → reasons u l ≡ [] → starts u a ≡ false → Fate s c u s' a l
@@ -80,7 +80,7 @@ FateOf s c u (took s' a l) = Fate s c u s' a l
 
 -- ── the running task waits; nothing happens ──
 
-wait_fate : (s : State) (c : C.Call) (u t : ℕ) (p : Place) (w : Timer) → Runs s t → is_waiting p ≡ true → p ≡ place_for s c → w ≡ timer_in_lem s.clock (duration c)
+wait_fate : (s : State) (c : C.Call) (u t : ℕ) (p : Place) (w : Timer) → Runs s t → is_waiting p ≡ true → p ≡ place_for s c → w ≡ timer_in s.clock (duration c)
     → Fate s c u (move s t p w) (item t WAITS 0 0) []
 wait_fate s c u t p w r y e f =
     by_eq u t
@@ -98,7 +98,7 @@ delay_fate s d u t (suc n) e r = wait_fate s (Delay d) u t Delayed (Due (after s
 
 -- ── CALL ──
 
-enqueue_fate : (s : State) (u t g e : ℕ) (m : CallMode) (w : Timer) → Runs s t → w ≡ timer_in_lem s.clock (duration (Call g e m)) → FateOf s (Call g e m) u (enqueue s t g e w)
+enqueue_fate : (s : State) (u t g e : ℕ) (m : CallMode) (w : Timer) → Runs s t → w ≡ timer_in s.clock (duration (Call g e m)) → FateOf s (Call g e m) u (enqueue s t g e w)
 enqueue_fate s u t g e m w r f = wait_fate s (Call g e m) u t (Queued (waiting g e)) w r refl refl f
 
 busy_fate : (s : State) (u t g e : ℕ) (m : CallMode) → Runs s t → FateOf s (Call g e m) u (call_busy s t g e m)

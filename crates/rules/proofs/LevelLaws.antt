@@ -9,7 +9,7 @@ use native.Mathlib.Omega.{arith}
 use lib.ListN.{length}
 use lib.Dec.{eqb, ltb}
 use borrow.Author.Tests.{eqb-true, eq-eqb, ne_eqb, le-ltb, lt-ltb, ltb-true}
-use Rattle.lists.specs.Lists.{if◌then◌else◌, count, filter, remove, to_head}
+use Rattle.lists.specs.Lists.{when◌then◌else◌, count, filter, remove, to_head}
 use Rattle.rules.specs.State.{State, place_of, current_of, kept_of, is_ready, level, at_level, running, rank, move, wake, higher, meeting, meet, part}
 use Rattle.rules.specs.EachStep.{Dispatched}
 use Rattle.rules.specs.Levels.{served_at}
@@ -45,7 +45,7 @@ module _ (s : State) (t : ℕ) (p : Place) (w : Timer) (pos : 0 < t) (fit : t �
 pub level_joins : (s : State) (t : ℕ) → 0 < t → t ≤ length s.tasks → (q : ℕ) → level (wake s t) q ≡ remove t (level s q) ++ served_at s t q
 level_joins s t pos fit q =
     filter_append (at_level (wake s t) q) (remove t s.ready) (t ∷ [])
-    ∙ λ i. level_rest s t Ready Off pos fit q i ++ (if eqb (current_moved s t Ready Off pos fit t i) q then t ∷ [] else [])
+    ∙ λ i. level_rest s t Ready Off pos fit q i ++ (when eqb (current_moved s t Ready Off pos fit t i) q then t ∷ [] else [])
 
 -- who is not ready stands in no level
 pub no_level : (s : State) (u q : ℕ) → count u s.ready ≡ 0 → remove u (level s q) ≡ level s q
@@ -60,7 +60,7 @@ module _ (s : State) (t n : ℕ) (pos : 0 < t) (fit : t ≤ length s.tasks) wher
 
   -- one that is lowered goes to the head of the ready line
   lowered_line : ltb n (current_of s t) ≡ true → (rank s t n).ready ≡ to_head t s.ready
-  lowered_line e = ap (λ (b : Bool). if b then to_head t s.ready else s.ready) e
+  lowered_line e = ap (λ (b : Bool). when b then to_head t s.ready else s.ready) e
 
   -- so it stands at the head of its new level
   pub lowered_head : n < current_of s t → level (rank s t n) n ≡ t ∷ level s n

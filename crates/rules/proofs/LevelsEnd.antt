@@ -7,7 +7,7 @@ use mathlib.Core.List.{List, [], ◌∷◌, ◌++◌}
 use native.Mathlib.Omega.{arith}
 use lib.ListN.{length}
 use lib.Dec.{eqb}
-use Rattle.lists.specs.Lists.{if◌then◌else◌, bit}
+use Rattle.lists.specs.Lists.{when◌then◌else◌, bit}
 use Rattle.rules.specs.State.{State, place_of, is_ready, is_held, partner_of, kept_of, level, wake, rank}
 use Rattle.rules.specs.Levels.{served_at, WhenEnded, Levels}
 use Rattle.rules.specs.declared.Timer.TheVariants.{Off}
@@ -45,7 +45,7 @@ module _ (s : State) (g c : ℕ) (m : Meeting) (h : Sound s) (r : Runs s g) (hel
   level2 q =
       level_joins s1 c there.0 fit1 q
       ∙ λ i. no_level s1 c q ((restore_sound s g c r.low r.high there.0 there.1 m held (ap is_ready r.place) h).ready c ∙ ap bit (ap is_ready (rank_place s g k r.low r.high c ∙ held))) i
-      ++ (if eqb (current_other s g k r.low r.high c apart i) q then c ∷ [] else [])
+      ++ (when eqb (current_other s g k r.low r.high c apart i) q then c ∷ [] else [])
 
   when_ended : (o : Meeting) → o.holder ≡ g → o.kept ≡ k → WhenEnded s s2 c o
   when_ended o a b = rw (a, b) (record {

@@ -1,7 +1,7 @@
 -- A move keeps soundness: proved once, and every step is made of moves.
 -- Assumes nothing.
 use Prim.Native.Nat.{ℕ, zero, suc, ◌≤◌, ◌<◌, ◌^◌}
-use mathlib.Core.Path.{◌≡◌, refl, sym, ◌∙◌, ap}
+use mathlib.Core.Path.{◌≡◌, refl, sym, ◌∙◌, ap, subst}
 use mathlib.Core.Bool.{Bool, true, false, not}
 use mathlib.Core.List.{List, [], ◌∷◌}
 use native.Mathlib.Omega.{arith}
@@ -187,7 +187,7 @@ welcome_plain ts t x pos fit en nc na =
 count_to_head : (t u : ℕ) (l : List ℕ) → count t l ≡ 1 → count u (to_head t l) ≡ count u l
 count_to_head t u l h =
     by_eq u t
-    (λ e. rw (e, eq-eqb t t refl, count_remove_same t l) (omega (arith, h)))
+    (λ e. subst (λ (x : ℕ). count x (to_head t l) ≡ count x l) (sym e) (rw (eq-eqb t t refl, count_remove_same t l) (omega (arith, h))))
     (λ n. rw (ne_eqb t u (λ e. n (sym e)), count_remove_other t u l n) (omega arith))
 
 -- the higher of two is not lower than the first

@@ -9,7 +9,7 @@ use lib.ListN.{length}
 use lib.Dec.{eqb, ltb, leb}
 use borrow.Author.Tests.{eq-eqb, ne_eqb, eqb-true, leb-true, leb-false}
 use Rattle.lists.specs.Line.{line, pad, tidy}
-use Rattle.lists.specs.Lists.{if◌then◌else◌, bit, filter, count, every}
+use Rattle.lists.specs.Lists.{when◌then◌else◌, bit, filter, count, every}
 use Rattle.lists.proofs.LineLaws.{line_pad, line_picked, length_pad}
 use Rattle.lists.proofs.Tests.{and_first, and_second, and_both}
 use Rattle.lists.proofs.ListLaws.{clash, by_bool, every_at, every_of, count_append, count_filter_yes, count_filter_no, count_filter_le}
@@ -67,7 +67,7 @@ ended (took v a l) = l
 
 -- who comes, if anybody does
 abbrev pub comer : C.Call → Item → List Item → List ℕ
-comer c a l = if comes_by c a.result (length l) then a.task ∷ [] else []
+comer c a l = when comes_by c a.result (length l) then a.task ∷ [] else []
 
 swap : (s u : State) → Alike s u → with_callers s u.callers ≡ u
 swap s u a = λ i. with_callers (a.core i) u.callers

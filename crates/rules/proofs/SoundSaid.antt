@@ -11,7 +11,7 @@ use lib.Dec.{eqb, leb}
 use borrow.Author.Tests.{eq-eqb, le-leb, leb-true, leb-false}
 use Rattle.lists.specs.Lists.{bit, count, every}
 use Rattle.lists.specs.Line.{tidy, blanks}
-use Rattle.rules.specs.State.{State, blank, task_of, place_of, timer_of, created, is_ready, is_completed, partner_of, has_time, opens, accepts, queue, held_by, level, ticks_left, waits_on, holds, at_level, current_of, priority_of}
+use Rattle.rules.specs.State.{State, blank, task_of, place_of, timer_of, is_ready, is_completed, partner_of, has_time, opens, accepts, queue, held_by, level, ticks_left, waits_on, holds, at_level, current_of, priority_of}
 use Rattle.rules.specs.Whole.{view, is_blank, unused, sound_whole}
 use Rattle.rules.specs.SoundFacts.{Created, may_be_timed, SoundFacts, BlankBehind, SoundStruct, SoundnessSaid}
 use Rattle.rules.specs.declared.Task.{Task}

@@ -5,7 +5,7 @@ use Prim.Native.Nat.{ℕ}
 use mathlib.Core.Bool.{not}
 use mathlib.Core.List.{List, [], ◌∷◌}
 use lib.Dec.{ltb}
-use Rattle.lists.specs.Lists.{if◌then◌else◌}
+use Rattle.lists.specs.Lists.{when◌then◌else◌}
 use Rattle.rules.specs.State.{State, running}
 use Rattle.rules.specs.Sound.{sound}
 use Rattle.rules.specs.Step.{none, Refusal, SHORT_ROOM, BAD_STATE, number, Outcome, refused, took, take_call}
@@ -21,8 +21,8 @@ stepped s (took s' a l) = record { refusal = 0; answer = a; ended = l; next = ru
 
 abbrev pub step : State → C.Call → ℕ → Given
 step s c room =
-    if ltb room 124 then refuse s SHORT_ROOM 0
-    else if not (sound s) then refuse s BAD_STATE 0
+    when ltb room 124 then refuse s SHORT_ROOM 0
+    else when not (sound s) then refuse s BAD_STATE 0
     else stepped s (take_call s c)
 
 abbrev pub entry : State → Ask → Entry

@@ -9,7 +9,7 @@ use native.Mathlib.Omega.{arith}
 use lib.ListN.{length}
 use lib.Dec.{eqb, ltb, leb}
 use borrow.Author.Tests.{eqb-true, eqb-false, eq-eqb, ne_eqb}
-use Rattle.lists.specs.Lists.{if◌then◌else◌, count, filter, remove, ahead, last}
+use Rattle.lists.specs.Lists.{when◌then◌else◌, count, filter, remove, ahead, last}
 use Rattle.lists.proofs.Tests.{no, and_first}
 use Rattle.lists.proofs.ListLaws.{clash, by_bool, by_test, count_remove_same, count_remove_other, ordered_filter, ordered_cong}
 use Rattle.lists.proofs.AheadLaws.{ahead_filter, ahead_inserted}
@@ -170,7 +170,7 @@ comes_behind s t u due d p h n q k b =
     (rw (own, other t n, q) k)
   where
     key : ℕ → ℕ
-    key x = if eqb x u then d else ticks_left s.clock (timer_of s x)
+    key x = when eqb x u then d else ticks_left s.clock (timer_of s x)
 
     own : key u ≡ d
     own = rw (eq-eqb u u refl)

@@ -10,7 +10,7 @@ use lib.ListN.{length}
 use lib.Dec.{eqb}
 use borrow.Author.Tests.{eqb-true, eqb-false, eq-eqb}
 use Rattle.rules.specs.State.{State, place_of, timer_of, is_held, after, left, has_time, partner_of, waiting, offer}
-use Rattle.rules.specs.Step.{number, took, take_call, ticks, expiry, WAITS, SERVED, TASKING_ERROR, ACCEPTED}
+use Rattle.rules.specs.Step.{number, took, take_call, expiry, WAITS, SERVED, TASKING_ERROR, ACCEPTED}
 use Rattle.rules.specs.declared.Item.{Item}
 use Rattle.rules.specs.Runs.{Ask, Given, Entry, duration, is_waiting, reasons, ended, ticks_of, ticks_in, tick_count, has, engages, engaged, is_finish, completes, completed, target, time_reason}
 use Rattle.rules.specs.OverRuns.{Stays, Released, EndsByTime, TimeReached, TimedWaits}
@@ -28,7 +28,7 @@ use Rattle.lists.proofs.Tests.{no, and_first, and_second, or_first, or_second, o
 use Rattle.rules.proofs.Invariant.{InTime, Sound}
 use Rattle.rules.proofs.Members.{timed_there}
 use Rattle.rules.proofs.StepSound.{call_sound}
-use Rattle.rules.proofs.Fate.{untouched, awake, began, began_held, taken, ran_out, accepted, served, given_up, place_for, timer_in_lem}
+use Rattle.rules.proofs.Fate.{untouched, awake, began, began_held, taken, ran_out, accepted, served, given_up, place_for, timer_in}
 use Rattle.rules.specs.State.{is_completed}
 use Rattle.rules.proofs.StepSound.{left_after}
 use Rattle.rules.proofs.Passes.{left_later, later_is}
@@ -221,7 +221,7 @@ timely s Finish e = no (cc)
 timely s Tick e = no (cc)
 timely s (Advance n) e = no (cc)
 
-pub timer_in_lem : (now d : ℕ) → 0 < d → timer_in_lem now d ≡ Due (after now d)
+pub timer_in_lem : (now d : ℕ) → 0 < d → timer_in now d ≡ Due (after now d)
 timer_in_lem now zero h = absurd (omega arith)
 timer_in_lem now (suc d) h = refl
 

@@ -1,6 +1,6 @@
 -- Stored priorities agree with the tree of held callers, and the tree has no ring: kept by every call.
 -- Assumes nothing.
-use Prim.Native.Nat.{ℕ, zero, suc, ◌+◌, ◌≤◌, ◌<◌}
+use Prim.Native.Nat.{ℕ, zero, suc, ◌≤◌, ◌<◌}
 use mathlib.Core.Path.{◌≡◌, refl, sym, ◌∙◌, ap}
 use mathlib.Core.Bool.{Bool, true, false, not, ◌&&◌}
 use mathlib.Core.List.{List, [], ◌∷◌, ◌++◌, append-nil}
@@ -8,7 +8,7 @@ use native.Mathlib.Omega.{arith}
 use lib.ListN.{length}
 use lib.Dec.{eqb}
 use borrow.Author.Tests.{eq-eqb, ne_eqb}
-use Rattle.lists.specs.Lists.{if◌then◌else◌, bit, count, remove, last}
+use Rattle.lists.specs.Lists.{when◌then◌else◌, bit, count, remove, last}
 use Rattle.rules.specs.State.{State, task_of, place_of, current_of, kept_of, is_held, partner_of, held_by, holds, higher, ranked, placed, rank, move, meet, meeting, part}
 use Rattle.rules.specs.Tree.{highest_from}
 use Rattle.rules.specs.declared.Task.{Task}
@@ -208,10 +208,10 @@ module _ (s : State) (g c e : ℕ) (low : 0 < g) (high : g ≤ length s.tasks) (
   not-g x j q = omega (arith, h.held g ∙ ap bit free, rw q at j)
 
   -- the callers of g are those before, and c
-  held2 : (x : ℕ) → held_by s2 x ≡ held_by s x ++ (if eqb g x then c ∷ [] else [])
+  held2 : (x : ℕ) → held_by s2 x ≡ held_by s x ++ (when eqb g x then c ∷ [] else [])
   held2 x =
       rw (remove_absent c s.held (h.held c ∙ ap bit loose), filter_append (holds s2 x) s.held (c ∷ []), shift_same s g n c p low high pos fit)
-      (ap (λ (l : List ℕ). l ++ (if eqb g x then c ∷ [] else []))
+      (ap (λ (l : List ℕ). l ++ (when eqb g x then c ∷ [] else []))
       (filter_same (holds s2 x) (holds s x) s.held (λ y j. ap (λ (q : Place). is_held q && eqb (partner_of q) x) (shift_other s g n c p low high pos fit y (not-c y j)))))
 
   -- of the callers that were held before, none has changed

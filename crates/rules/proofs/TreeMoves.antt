@@ -10,7 +10,6 @@ use lib.Dec.{eqb, ltb}
 use borrow.Author.Tests.{eq-eqb, ne_eqb, ltb-true, ltb-false}
 use Rattle.lists.specs.Lists.{count}
 use Rattle.rules.specs.State.{State, task_of, place_of, timer_of, current_of, is_held, partner_of, held_by}
-use Rattle.rules.proofs.StateRuns.{entry}
 use Rattle.rules.specs.Tree.{highest_from, highest_of}
 use Rattle.rules.specs.declared.Place.{Place}
 use Rattle.rules.specs.declared.Place.TheVariants.{Blank, Ready, Delayed, Queued, Held, Accepting, Completed}

@@ -6,7 +6,6 @@ use mathlib.Core.Bool.{true, false}
 use mathlib.Core.List.{List, [], ◌∷◌}
 use native.Mathlib.Omega.{arith}
 use Rattle.rules.specs.State.{State, empty, task_of, place_of, current_of, is_held}
-use Rattle.rules.specs.Step.{call}
 use Rattle.rules.specs.Runs.{Ask}
 use Rattle.rules.proofs.StateRuns.{entry, reach}
 use Rattle.rules.specs.Tree.{highest_of, reaches_top}

@@ -1,7 +1,7 @@
 -- ADVANCE: that it is n ticks, for every n; that these wake all whose time comes at once, which is what the code does; what holds of it.
 -- Assumes nothing.
 use Rattle.std.specs.Prelude.{ℕ, zero, suc, ◌+◌, ◌≤◌, ◌<◌, ◌≡◌, Bool, true, not, ◌&&◌, List, [], ◌∷◌, ◌++◌, map, length, eqb, ltb, leb}
-use Rattle.lists.specs.Lists.{if◌then◌else◌, bit, count, filter}
+use Rattle.lists.specs.Lists.{when◌then◌else◌, bit, count, filter}
 use Rattle.rules.specs.State.{State, timer_of, ticks_left, after, wake_all, set_clock}
 use Rattle.rules.specs.Sound.{sound}
 use Rattle.rules.specs.Step.{expired, advanced, advance_ends, readings}
@@ -47,7 +47,7 @@ joined (x ∷ xs) = x.out.ended ++ joined xs
 -- the clock readings at which a step of the log ended a wait
 abbrev pub moments : List Entry → List ℕ
 moments [] = []
-moments (x ∷ xs) = if ltb 0 (length x.out.ended) then x.out.state.clock ∷ moments xs else moments xs
+moments (x ∷ xs) = when ltb 0 (length x.out.ended) then x.out.state.clock ∷ moments xs else moments xs
 
 -- a call as it stands; ADVANCE n as n TICKs
 abbrev pub spread : C.Call → ℕ → List Ask

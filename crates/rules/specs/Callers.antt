@@ -2,7 +2,7 @@
 -- Assumes nothing.
 use Rattle.std.specs.Prelude.{ℕ, ◌<◌, ◌≡◌, Bool, true, false, ◌&&◌, List, [], ◌∷◌, ◌++◌, map, length, eqb}
 use Rattle.rules.specs.declared.Item.{Item}
-use Rattle.lists.specs.Lists.{if◌then◌else◌, filter, count}
+use Rattle.lists.specs.Lists.{when◌then◌else◌, filter, count}
 use Rattle.rules.specs.State.{State, place_of, is_queued, partner_of, running}
 use Rattle.rules.specs.Sound.{sound}
 use Rattle.rules.specs.Step.{Outcome, refused, took, take_call, WAITS, ACCEPTED}
@@ -54,7 +54,7 @@ pub record Alike (s u : State) : Type 0 where
 
 -- who is in no queue any more: the partner of one that was accepted, and those whose waits have ended
 abbrev pub accepted_in : ℕ → ℕ → List ℕ
-accepted_in result partner = if eqb result ACCEPTED then partner ∷ [] else []
+accepted_in result partner = when eqb result ACCEPTED then partner ∷ [] else []
 
 abbrev pub gone_by : Item → List Item → List ℕ
 gone_by a l = accepted_in a.result a.partner ++ map (λ (i : Item). i.task) l
@@ -83,7 +83,7 @@ not_in l x = eqb (count x l) 0
 
 -- the line l of callers afterwards
 abbrev pub told_by : C.Call → Item → List Item → List ℕ → List ℕ
-told_by c a x l = filter (not_in (gone_by a x)) l ++ (if comes_by c a.result (length x) then a.task ∷ [] else [])
+told_by c a x l = filter (not_in (gone_by a x)) l ++ (when comes_by c a.result (length x) then a.task ∷ [] else [])
 
 -- what the outcome says of the callers, where l is their line
 abbrev pub Told : C.Call → List ℕ → Outcome → Type 0

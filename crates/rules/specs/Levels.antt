@@ -2,7 +2,7 @@
 -- every step in which a rendezvous begins or ends, and that no other step changes a current priority.
 -- Assumes nothing.
 use Rattle.std.specs.Prelude.{ℕ, ◌≤◌, ◌<◌, ◌≡◌, ◌⊎◌, true, false, List, [], ◌∷◌, ◌++◌, eqb}
-use Rattle.lists.specs.Lists.{if◌then◌else◌, remove}
+use Rattle.lists.specs.Lists.{when◌then◌else◌, remove}
 use Rattle.rules.specs.State.{State, place_of, current_of, is_held, level, running, higher}
 use Rattle.rules.specs.Sound.{sound}
 use Rattle.rules.specs.SoundFacts.{Created}
@@ -38,7 +38,7 @@ pub record WhenBegun (s s' : State) (c : ℕ) (m : Meeting) : Type 0 where
 
 -- the served caller, where level p is its own
 abbrev pub served_at : State → ℕ → ℕ → List ℕ
-served_at s c p = if eqb (current_of s c) p then c ∷ [] else []
+served_at s c p = when eqb (current_of s c) p then c ∷ [] else []
 
 -- the step in which it ends; in every level the served caller, if it is its own, stands at the tail
 pub record WhenEnded (s s' : State) (c : ℕ) (m : Meeting) : Type 0 where

@@ -1,7 +1,7 @@
 -- A run: any calls, refused ones too, with any rooms, one after the other; its log, and what is read off a log.
 -- Assumes nothing.
 use Rattle.std.specs.Prelude.{ℕ, ◌+◌, Bool, true, false, ◌&&◌, ◌||◌, List, [], ◌∷◌, length, eqb}
-use Rattle.lists.specs.Lists.{if◌then◌else◌, bit}
+use Rattle.lists.specs.Lists.{when◌then◌else◌, bit}
 use Rattle.rules.specs.State.{State, empty, place_of, is_held}
 use Rattle.rules.specs.Step.{ticks, WAITS, ELAPSED, CALL_EXPIRED, ACCEPTED, DELAY_TAKEN}
 use Rattle.rules.specs.Whole.{Whole, view, pack, step_whole}
@@ -90,7 +90,7 @@ begun t (x ∷ xs) = bit (begins t x) + begun t xs
 -- the reasons for which waits of task t ended, by a list of items
 abbrev pub reasons : ℕ → List Item → List ℕ
 reasons t [] = []
-reasons t (i ∷ is) = if eqb i.task t then i.result ∷ reasons t is else reasons t is
+reasons t (i ∷ is) = when eqb i.task t then i.result ∷ reasons t is else reasons t is
 
 -- how many waits of task t ended in a log
 abbrev pub ended : ℕ → List Entry → ℕ
@@ -112,7 +112,7 @@ ticks_of (Advance n) = n
 
 -- the ticks of a step, refused ones not counted
 abbrev pub ticks_in : Entry → ℕ
-ticks_in x = if is_accepted x then ticks_of x.call else 0
+ticks_in x = when is_accepted x then ticks_of x.call else 0
 
 -- the ticks of a log
 abbrev pub tick_count : List Entry → ℕ

@@ -1,6 +1,6 @@
 -- When a state is sound (document 01, "State, and when it is sound").
 -- Assumes nothing.
-use Rattle.std.specs.Prelude.{ℕ, ◌+◌, ◌^◌, Bool, true, false, not, ◌&&◌, ◌||◌, ◌++◌, eqb, ltb, leb}
+use Rattle.std.specs.Prelude.{ℕ, ◌^◌, Bool, true, false, not, ◌&&◌, ◌||◌, ◌++◌, eqb, ltb, leb}
 use Rattle.lists.specs.Lists.{bit, count, every, in_order_by, down_from}
 use Rattle.rules.specs.State.{State, task_of, place_of, timer_of, created, is_task, has_entry, is_ready, is_queued, is_held, is_completed, partner_of, accepts, has_time, ticks_left}
 use Rattle.rules.specs.Tree.{agrees, reaches_top}

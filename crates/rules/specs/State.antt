@@ -3,7 +3,7 @@
 -- place; w a time; d a number of ticks; o an open set; n a number or a clock reading.
 -- Assumes nothing.
 use Rattle.std.specs.Prelude.{ℕ, zero, suc, ◌+◌, ◌-◌, ◌/◌, ◌%◌, ◌^◌, Bool, true, false, ◌&&◌, List, [], ◌∷◌, ◌++◌, length, get_or, set, eqb, ltb, leb}
-use Rattle.lists.specs.Lists.{if◌then◌else◌, filter, remove, rejoin, to_head, insert}
+use Rattle.lists.specs.Lists.{when◌then◌else◌, filter, remove, rejoin, to_head, insert}
 use Rattle.rules.specs.declared.Task.{Task}
 use Rattle.rules.specs.declared.Timer.{Timer}
 use Rattle.rules.specs.declared.Timer.TheVariants.{Off, Due}
@@ -275,7 +275,7 @@ abbrev pub rank : State → ℕ → ℕ → State
 rank s t n = record {
   clock = s.clock;
   tasks = set_nth s.tasks t (ranked (task_of s t) n);
-  ready = if ltb n (current_of s t) then to_head t s.ready else s.ready;
+  ready = when ltb n (current_of s t) then to_head t s.ready else s.ready;
   callers = s.callers;
   held = s.held;
   delays = s.delays;
@@ -285,7 +285,7 @@ rank s t n = record {
 
 -- the higher of two priorities
 abbrev pub higher : ℕ → ℕ → ℕ
-higher a b = if ltb a b then b else a
+higher a b = when ltb a b then b else a
 
 -- the rendezvous of a caller of entry e with g, whose current priority was k
 abbrev pub meeting : ℕ → ℕ → ℕ → Meeting

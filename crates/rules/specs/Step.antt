@@ -2,7 +2,7 @@
 -- Assumes nothing.
 use Rattle.std.specs.Prelude.{ℕ, zero, suc, ◌+◌, ◌^◌, Bool, true, false, not, ◌&&◌, List, [], ◌∷◌, ◌++◌, map, eqb, ltb, leb}
 use lib.ListN.{length}
-use Rattle.lists.specs.Lists.{if◌then◌else◌, bit, filter, first, last}
+use Rattle.lists.specs.Lists.{when◌then◌else◌, bit, filter, first, last}
 use Rattle.rules.specs.State.{State, task_of, place_of, timer_of, created, is_task, has_entry, is_completed, partner_of, entry_of, accepts, opens, queue, held_by, running, after, move, wake, meet, part, wake_all, add, set_clock, waiting, offer}
 use Rattle.rules.specs.Sound.{in_range}
 use Rattle.rules.specs.declared.Item.{Item}
@@ -98,8 +98,8 @@ DONE = 10
 -- CREATE priority, entry count: a new ready task
 abbrev pub create : State → ℕ → ℕ → Outcome
 create s p n =
-    if not (in_range p n) then refused BAD_FIELD
-    else if leb 31 (created s) then refused FULL
+    when not (in_range p n) then refused BAD_FIELD
+    else when leb 31 (created s) then refused FULL
     else took (add s p n) (item (suc (created s)) DONE 0 0) []
 
 -- ── DELAY ──
@@ -129,10 +129,10 @@ call_busy s t g e Conditional = took s (item t NOT_NOW e g) []
 -- CALL target, entry, mode
 abbrev pub call : State → ℕ → ℕ → ℕ → CallMode → Outcome
 call s t g e m =
-    if not (is_task s g) then refused NO_TARGET
-    else if not (has_entry (task_of s g) e) then refused NO_ENTRY
-    else if is_completed (place_of s g) then took s (item t TASKING_ERROR e g) []
-    else if accepts (place_of s g) e then took (meet (wake s g) g t e) (item t WAITS 0 0) (item g ACCEPTED e t ∷ [])
+    when not (is_task s g) then refused NO_TARGET
+    else when not (has_entry (task_of s g) e) then refused NO_ENTRY
+    else when is_completed (place_of s g) then took s (item t TASKING_ERROR e g) []
+    else when accepts (place_of s g) e then took (meet (wake s g) g t e) (item t WAITS 0 0) (item g ACCEPTED e t ∷ [])
     else call_busy s t g e m
 
 -- ── SELECT ──
@@ -154,7 +154,7 @@ select_delay s t o (suc d) = took (move s t (Accepting (offer o)) (Due (after s.
 -- SELECT where no open entry has a caller
 abbrev pub select_none : State → ℕ → ℕ → SelectMode → Outcome
 select_none s t o Plain =
-    if eqb o 0 then took s (item t PROGRAM_ERROR 0 0) []
+    when eqb o 0 then took s (item t PROGRAM_ERROR 0 0) []
     else took (move s t (Accepting (offer o)) Off) (item t WAITS 0 0) []
 select_none s t o (S.Delay d) = select_delay s t o (ticks d)
 select_none s t o Else = took s (item t ELSE_TAKEN 0 0) []
@@ -169,7 +169,7 @@ select_at s t o m (suc e) =
 -- SELECT open set, mode
 abbrev pub select : State → ℕ → ℕ → SelectMode → Outcome
 select s t o m =
-    if leb (2 ^ (task_of s t).entries) o then refused NO_ENTRY
+    when leb (2 ^ (task_of s t).entries) o then refused NO_ENTRY
     else select_at s t o m (open_entry s t o)
 
 -- ── END, FINISH, TICK ──
@@ -199,7 +199,7 @@ failed s c = item c TASKING_ERROR (entry_of (place_of s c)) (partner_of (place_o
 -- FINISH: the task completes; all callers queued on it become ready with TASKING_ERROR, entry 1 first, each queue from its head
 abbrev pub finish : State → ℕ → Outcome
 finish s t =
-    if ltb 0 (length (held_by s t)) then refused STILL_SERVING
+    when ltb 0 (length (held_by s t)) then refused STILL_SERVING
     else took (move (wake_all s (queued_on s t)) t Completed Off) (item t DONE 0 0) (map (failed s) (queued_on s t))
 
 -- how a wait in this place ends by time

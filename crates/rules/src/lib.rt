@@ -1,4 +1,6 @@
 // The state of the supervisor, the calls and the answers: types and numbers. All else stands in specs/.
+#![tactic(auto)]
+
 pub mod numbers;
 
 #[derive(Clone, Copy)]

@@ -19,9 +19,9 @@ fn put_text(call: Call, out: &mut [u8], at: usize) -> usize {
 }
 
 // Behind a record that ends at `at`: the text of its call is put.
-fn taken(r: Records, call: Call, at: usize, out: &mut [u8]) -> Records {
+fn taken<R: Print + Eprint>(rt: &R, r: Records, call: Call, at: usize, out: &mut [u8]) -> Records {
     let place = put_text(call, out, r.flow.waits);
-    let flow = passed(r.flow, at, place, out);
+    let flow = passed(rt, r.flow, at, place, out);
     Records {
         flow,
         number: std::num::wrapping_add_u64(r.number, 1),
@@ -29,10 +29,10 @@ fn taken(r: Records, call: Call, at: usize, out: &mut [u8]) -> Records {
 }
 
 // Behind the last record. The text of those before bytes that are none is written before these are told.
-fn over(r: Records, bad: bool, out: &[u8]) -> Records {
-    let flow = done(r.flow, out);
+fn over<R: Print + Eprint>(rt: &R, r: Records, bad: bool, out: &[u8]) -> Records {
+    let flow = done(rt, r.flow, out);
     if bad {
-        tell_record(r.number);
+        tell_record(rt, r.number);
     }
     Records {
         flow,
@@ -41,11 +41,17 @@ fn over(r: Records, bad: bool, out: &[u8]) -> Records {
 }
 
 // Where n bytes are no record: it is over, unless they are fewer than the longest has and more may come.
-fn without(r: Records, n: usize, buf: &mut [u8], out: &[u8]) -> Records {
+fn without<R: Input + Print + Eprint>(
+    rt: &R,
+    r: Records,
+    n: usize,
+    buf: &mut [u8],
+    out: &[u8],
+) -> Records {
     if r.flow.window.last | (10 <= n) {
-        return over(r, 0 < n, out);
+        return over(rt, r, 0 < n, out);
     }
-    let flow = fed(r.flow, buf, out);
+    let flow = fed(rt, r.flow, buf, out);
     Records {
         flow,
         number: r.number,
@@ -53,23 +59,23 @@ fn without(r: Records, n: usize, buf: &mut [u8], out: &[u8]) -> Records {
 }
 
 // One turn, on what stands in the window.
-fn turn(r: Records, buf: &mut [u8], out: &mut [u8]) -> Records {
+fn turn<R: Input + Print + Eprint>(rt: &R, r: Records, buf: &mut [u8], out: &mut [u8]) -> Records {
     let end = least(r.flow.window.end, buf.len());
     let at = least(r.flow.window.at, end);
     let got = calls::read_record(&buf[at..end]);
     let Read::Record { call, count } = got else {
-        return without(r, end - at, buf, out);
+        return without(rt, r, end - at, buf, out);
     };
-    taken(r, call, std::num::wrapping_add_usize(at, count), out)
+    taken(rt, r, call, std::num::wrapping_add_usize(at, count), out)
 }
 
 // All records of standard input.
-pub fn run(buf: &mut [u8], out: &mut [u8]) {
+pub fn run<R: Input + Print + Eprint>(rt: &R, buf: &mut [u8], out: &mut [u8]) {
     let flow = begun();
     let mut r = Records { flow, number: 1 };
     let mut turns = u64::MAX;
     while turns > 0 && r.flow.goes {
-        r = turn(r, buf, out);
+        r = turn(rt, r, buf, out);
         turns -= 1;
     }
 }

@@ -12,7 +12,7 @@ use lib.IntN.{ℤ}
 use mir.Syntax.{w32}
 use mir.Val.{SFits}
 use mir.Facts.{sfits_to_z}
-use Rattle.lists.specs.Lists.{if◌then◌else◌}
+use Rattle.lists.specs.Lists.{when◌then◌else◌}
 use Rattle.lists.proofs.ListLaws.{by_test}
 use Rattle.calls.specs.Duration.{signed}
 use Rattle.calls.specs.Record.{byte, four_from, tag_of, call_time, select_time}
@@ -59,7 +59,7 @@ said_once words L.Unread L.Unread p q = refl
 
 -- ── the numbers of a record ──
 
-either : (P : C.Call → Type 0) (b : Bool) {x y : C.Call} → P x → P y → P (if b then x else y)
+either : (P : C.Call → Type 0) (b : Bool) {x y : C.Call} → P x → P y → P (when b then x else y)
 either P b p q = by_test P b (λ e. p) (λ e. q)
 
 four_small : (s : List ℕ) → Bytes s → (i : ℕ) → four_from s i < 2 ^ 32
@@ -68,12 +68,12 @@ four_small s all i = omega (arith, all i, all (i + 1), all (i + 2), all (i + 3))
 signed_fits : (n : ℕ) → n < 2 ^ 32 → SFits w32 (signed n)
 signed_fits n h = sfits_to_z {w = w32} (record { fits = h })
 
-call_mode_fits : (a b : Bool) (d : ℤ) → SFits w32 d → SFits w32 (call_time (if a then Simple else if b then Timed d else Conditional))
+call_mode_fits : (a b : Bool) (d : ℤ) → SFits w32 d → SFits w32 (call_time (when a then Simple else when b then Timed d else Conditional))
 call_mode_fits true b d f = no_time
 call_mode_fits false true d f = f
 call_mode_fits false false d f = no_time
 
-select_mode_fits : (a b : Bool) (d : ℤ) → SFits w32 d → SFits w32 (select_time (if a then S.Plain else if b then S.Delay d else S.Else))
+select_mode_fits : (a b : Bool) (d : ℤ) → SFits w32 d → SFits w32 (select_time (when a then S.Plain else when b then S.Delay d else S.Else))
 select_mode_fits true b d f = no_time
 select_mode_fits false true d f = f
 select_mode_fits false false d f = no_time

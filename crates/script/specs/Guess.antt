@@ -2,7 +2,7 @@
 -- calls, and may be anything for other words.
 -- Assumes nothing.
 use Rattle.std.specs.Prelude.{ℕ, ◌+◌, ◌*◌, ◌%◌, Bool, true, false, ◌&&◌, ◌||◌, List, [], ◌∷◌, eqb, leb, ltb, get_or, ℤ, pos, negsuc}
-use Rattle.lists.specs.Lists.{if◌then◌else◌}
+use Rattle.lists.specs.Lists.{when◌then◌else◌}
 use Rattle.calls.specs.declared.CallMode.TheVariants.{Simple, Timed, Conditional}
 use Rattle.calls.specs.declared.SelectMode.TheVariants as S
 use Rattle.calls.specs.declared.Call as C
@@ -21,7 +21,7 @@ fresh = record { byte = 0; set = 0; number = 0 }
 -- a word with one byte more: a digit counts in its byte, its set and its number
 abbrev pub grown_of : Word → ℕ → Word
 grown_of w b =
-    if leb 48 b && leb b 57
+    when leb 48 b && leb b 57
     then record {
       byte = (w.byte * 10 + b % 16) % 256;
       set = (w.set + bit_of (b % 16)) % 256;
@@ -31,12 +31,12 @@ grown_of w b =
 
 -- the sum of the letters, with one byte more
 abbrev pub added_of : ℕ → ℕ → ℕ
-added_of n b = if ltb 64 b then n % 65536 + b else n
+added_of n b = when ltb 64 b then n % 65536 + b else n
 
 -- what is seen of a line, with one byte more: a blank begins a word, and the four last words are kept
 abbrev pub heard_of : Seen → ℕ → Seen
 heard_of s b =
-    if eqb b 32
+    when eqb b 32
     then record {
       letters = s.letters;
       minus = s.minus;
@@ -69,22 +69,22 @@ unseen = record { letters = 0; minus = false; fourth = 0; third = 0; far = 0; se
 
 -- a number with or without a minus, as a duration
 abbrev pub time_of : Bool → ℕ → ℤ
-time_of minus n = if minus then negsuc ((n + 2147483647) % 2147483648) else pos (n % 2147483648)
+time_of minus n = when minus then negsuc ((n + 2147483647) % 2147483648) else pos (n % 2147483648)
 
 -- the call that what is seen looks like, by the sum of its letters: each form of a call has a sum of its own
 abbrev pub call_by : ℕ → Seen → ℤ → C.Call
 call_by letters s time =
-    if eqb letters 4 then Create s.second s.last.byte
-    else if eqb letters 367 then Delay time
-    else if eqb letters 284 then Call s.second s.last.byte Simple
-    else if eqb letters 383 then Call s.fourth s.third (Timed time)
-    else if eqb letters 160 then Call s.third s.second Conditional
-    else if eqb letters 215 then End
-    else if eqb letters 17 then Finish
-    else if eqb letters 299 then Tick
-    else if eqb letters 16 then Select s.last.set S.Plain
-    else if eqb letters 111 then Select s.far (S.Delay time)
-    else if eqb letters 9 then Select s.near S.Else
+    when eqb letters 4 then Create s.second s.last.byte
+    else when eqb letters 367 then Delay time
+    else when eqb letters 284 then Call s.second s.last.byte Simple
+    else when eqb letters 383 then Call s.fourth s.third (Timed time)
+    else when eqb letters 160 then Call s.third s.second Conditional
+    else when eqb letters 215 then End
+    else when eqb letters 17 then Finish
+    else when eqb letters 299 then Tick
+    else when eqb letters 16 then Select s.last.set S.Plain
+    else when eqb letters 111 then Select s.far (S.Delay time)
+    else when eqb letters 9 then Select s.near S.Else
     else Advance s.last.number
 
 -- the sum of the letters of "none" is 432, so that word counts for nothing

@@ -1,4 +1,6 @@
 // Calls as lines of text, in the words of document 01: a call's text, and the call that a line says.
+#![tactic(auto)]
+
 mod guess;
 pub mod print;
 pub mod reader;

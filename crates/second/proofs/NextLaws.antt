@@ -10,7 +10,7 @@ use lib.ListN.{length, get_or}
 use borrow.Author.Tests.{eq-eqb, ne_eqb, eqb-true}
 use Rattle.calls.specs.declared.Call as C
 use Rattle.lists.specs.Line.{line, pad, tidy}
-use Rattle.lists.specs.Lists.{if◌then◌else◌, bit, filter, count}
+use Rattle.lists.specs.Lists.{when◌then◌else◌, bit, filter, count}
 use Rattle.lists.specs.Marks.{no_marks, mark_of, marked, with_mark}
 use Rattle.lists.proofs.LineLaws.{tidy_pad}
 use Rattle.lists.proofs.ListLaws.{by_bool, by_eq, count_append}
@@ -47,7 +47,7 @@ module _ (v st : State) (c : C.Call) (a : Item) (x : List Item) (h : Sound v) (k
   left = marked one (left_by a x) no_marks
 
   abbrev into : ℕ
-  into = if comes_by c a.result (length x) then target c else 0
+  into = when comes_by c a.result (length x) then target c else 0
 
   kept : (g : ℕ) (row : List ℕ) → RowOf (callers_of v g) row → with_mark gone 0 (line row) ≡ filter (out (gone_by a x)) (callers_of v g)
   kept g row z =
@@ -65,13 +65,13 @@ module _ (v st : State) (c : C.Call) (a : Item) (x : List Item) (h : Sound v) (k
       let f : count a.task (comer c a x) ≡ 1 = rw b (ap (λ (y : Bool). bit y + 0) (eq-eqb a.task a.task refl)) in
       bit_true (queued_in st a.task) (omega (arith, e, f, k.callers a.task))
 
-  comes_in : (g : ℕ) → 0 < g → filter (calling st g) (comer c a x) ≡ (if eqb g into then a.task ∷ [] else [])
+  comes_in : (g : ℕ) → 0 < g → filter (calling st g) (comer c a x) ≡ (when eqb g into then a.task ∷ [] else [])
   comes_in g p =
       by_bool (comes_by c a.result (length x))
       (λ b.
-      let q : calling st g a.task ≡ eqb g into = (λ i. queued b i && eqb (joins v st c a x (fates a.task) (queued b) b i) g) ∙ swap (target c) ∙ ap (λ (y : Bool). eqb g (if y then target c else 0)) (sym b) in
-      ap (λ (y : Bool). filter (calling st g) (if y then a.task ∷ [] else [])) b ∙ ap (λ (y : Bool). if y then a.task ∷ [] else []) q)
-      (λ b. ap (λ (y : Bool). filter (calling st g) (if y then a.task ∷ [] else [])) b ∙ sym (ap (λ (y : Bool). if y then a.task ∷ [] else []) (ap (λ (y : Bool). eqb g (if y then target c else 0)) b ∙ ne_eqb g 0 (λ z. omega arith))))
+      let q : calling st g a.task ≡ eqb g into = (λ i. queued b i && eqb (joins v st c a x (fates a.task) (queued b) b i) g) ∙ swap (target c) ∙ ap (λ (y : Bool). eqb g (when y then target c else 0)) (sym b) in
+      ap (λ (y : Bool). filter (calling st g) (when y then a.task ∷ [] else [])) b ∙ ap (λ (y : Bool). when y then a.task ∷ [] else []) q)
+      (λ b. ap (λ (y : Bool). filter (calling st g) (when y then a.task ∷ [] else [])) b ∙ sym (ap (λ (y : Bool). when y then a.task ∷ [] else []) (ap (λ (y : Bool). eqb g (when y then target c else 0)) b ∙ ne_eqb g 0 (λ z. omega arith))))
     where
       swap : (u : ℕ) → eqb u g ≡ eqb g u
       swap u = by_eq u g (λ z. eq-eqb u g z ∙ sym (eq-eqb g u (sym z))) (λ z. ne_eqb u g z ∙ sym (ne_eqb g u (λ y. z (sym y))))

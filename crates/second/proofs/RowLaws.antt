@@ -3,13 +3,12 @@
 use Prim.Native.Nat.{ℕ, zero, suc, ◌+◌, ◌≤◌, ◌<◌}
 use mathlib.Core.Path.{◌≡◌, refl, sym, ap, ◌∙◌}
 use mathlib.Core.Bool.{Bool, true, false, not, ◌&&◌, ◌||◌}
-use mathlib.Core.List.{List, [], ◌∷◌, ◌++◌, map, append-nil}
+use mathlib.Core.List.{List, [], ◌∷◌, ◌++◌, append-nil}
 use native.Mathlib.Omega.{arith}
 use native.Mathlib.Numerals.{add-one, unary_clauses}
 use lib.Dec.{eqb, leb}
 use lib.ListN.{length, take, drop, get_or, set, drop_of_length-le}
 use lib.Seq.{drop-cons, take-suc-set, take_all, append_snoc, set-get_or}
-use base.Fml.{Fml}
 use denote.Array.{each}
 use denote.Shadow.{shadow}
 use mir.Val.{Val}
@@ -23,6 +22,7 @@ use Rattle.lists.proofs.Tests.{and_first, and_second}
 use Rattle.rules.specs.State.{State}
 use Rattle.rules.specs.Callers.{calling}
 use Rattle.rules.specs.Second.{gathered, rows_right}
+use Rattle.rules.specs.contracts.Row.{the_row}
 use Rattle.rules.specs.declared.Row.{Row}
 use Rattle.rules.proofs.SecondLaws.{row_at, row_is, row_below}
 use Rattle.steps.specs.Change.{line_by}
@@ -30,12 +30,11 @@ use Rattle.second.specs.Rows.{no_row, row_of, next_row, next_rows}
 
 -- ── what the type says of each row ──
 
-pub rows_long : {X : Type 0} (to : Row → X) (f : X → List Val → Fml) → ((r : Row) (u : Val) → shadow (f (to r) (u ∷ [])) → length r.line ≡ 31)
-    → (rows : List Row) (us : List Val) → shadow (each X f (map to rows) us) → (j : ℕ) → j < length rows → length (get_or rows j no_row).line ≡ 31
-rows_long to f g [] us p j h = absurd (omega arith)
-rows_long to f g (r ∷ rs) [] p j h = absurd p
-rows_long to f g (r ∷ rs) (u ∷ us) p zero h = g r u p.0
-rows_long to f g (r ∷ rs) (u ∷ us) p (suc j) h = rows_long to f g rs us p.1 j (omega arith)
+pub rows_long : (rows : List Row) (us : List Val) → shadow (each (the_row).Denot (the_row).own_val rows us) → (j : ℕ) → j < length rows → length (get_or rows j no_row).line ≡ 31
+rows_long [] us p j h = absurd (omega arith)
+rows_long (r ∷ rs) [] p j h = absurd p
+rows_long (r ∷ rs) (u ∷ us) p zero h = p.0.1.1.0.1.0.1
+rows_long (r ∷ rs) (u ∷ us) p (suc j) h = rows_long rs us p.1 j (omega arith)
 
 -- ── the loop ──
 

@@ -36,7 +36,7 @@ use Rattle.rules.proofs.WholeLaws.{core_packed, core_parts}
 use Rattle.steps.specs.Change.{one, task_at, partner_at, bytes_in, joined_of}
 use Rattle.steps.specs.Taken.{SeesFor, seen, taken_of, ended_by}
 use Rattle.steps.specs.declared.answers.Taken.{Taken}
-use Rattle.steps.proofs.AnswerLaws.{by_core_both}
+use Rattle.steps.proofs.AnswerLaws.{by_core, by_core_ended}
 use Rattle.steps.proofs.ChangeLaws.{tasks_written, partners_written}
 use Rattle.second.specs.Rows.{no_row, row_of, row_looked, next_rows, TypedSecond}
 use Rattle.second.proofs.RowLaws.{rows_stay, sees_row, row_get, row_tidy}
@@ -78,8 +78,10 @@ module _ (x : Second) (h : TypedSecond x) (ok : sound_second x ≡ true) where
       → k ≡ taken_of x.core (take_call (seen x.core mine) c) → a ≡ room_after b (ended_by (take_call (seen x.core mine) c))
       → (k ≡ taken_of x.core (take_call v c)) × (a ≡ room_after b (ended_by (take_call v c)))
   taken_here c mine k a b em ek ea =
-      by_core_both x.core (take_call v c) (take_call (seen x.core mine) c) a b
-      (same_step v (line mine) c (λ y. subst (λ (u : ℕ). callers_of v u ≡ callers_of (seen x.core mine) u) (sym (running_core (view_core x.core) (gathered x.rows))) (row_seen c mine em y))) ek ea
+      let o = take_call v c in
+      let q = take_call (seen x.core mine) c in
+      let same = same_step v (line mine) c (λ y. subst (λ (u : ℕ). callers_of v u ≡ callers_of (seen x.core mine) u) (sym (running_core (view_core x.core) (gathered x.rows))) (row_seen c mine em y)) in
+      (by_core x.core o q same ek, by_core_ended o q a b same ea)
 
   -- ── CHANGE: the core and the rows afterwards are those of the next state ──
 
@@ -144,5 +146,8 @@ module _ (x : Second) (c : C.Call) (n : ℕ) where
   unfolding step_second
   step_sound e q = rw (e, q)
 
-pub by_second : {w q : StepOf Second} {r : SecondStepped} (x y : List ℕ) → w ≡ q → r ≡ second_of q → x ≡ room_after y q.ended → (r ≡ second_of w) × (x ≡ room_after y w.ended)
-by_second x y e h k = (h ∙ sym (ap second_of e), k ∙ sym (ap (λ (w : StepOf Second). room_after y w.ended) e))
+pub by_state : {w q : StepOf Second} {r : SecondStepped} → w ≡ q → r ≡ second_of q → r ≡ second_of w
+by_state e h = h ∙ sym (ap second_of e)
+
+pub by_room : {w q : StepOf Second} (x y : List ℕ) → w ≡ q → x ≡ room_after y q.ended → x ≡ room_after y w.ended
+by_room x y e k = k ∙ sym (ap (λ (w : StepOf Second). room_after y w.ended) e)

@@ -3,7 +3,7 @@
 use Rattle.std.specs.Prelude.{ℕ, suc, ◌-◌, ◌<◌, ◌≡◌, Bool, not, ◌||◌, List, [], ◌∷◌, eqb, length, get_or}
 use Rattle.calls.specs.declared.Call as C
 use Rattle.lists.specs.Line.{pad}
-use Rattle.lists.specs.Lists.{if◌then◌else◌}
+use Rattle.lists.specs.Lists.{when◌then◌else◌}
 use Rattle.lists.specs.Marks.{mark_of}
 use Rattle.rules.specs.Callers.{asks}
 use Rattle.rules.specs.State.{running}
@@ -20,15 +20,15 @@ no_row = record { line = [] }
 
 -- the row of task g
 abbrev pub row_of : List Row → ℕ → List ℕ
-row_of rows g = if is_number g then (get_or rows (g - 1) no_row).line else pad []
+row_of rows g = when is_number g then (get_or rows (g - 1) no_row).line else pad []
 
 -- the row of the running task, if the call looks at it
 abbrev pub row_looked : Core → List Row → C.Call → List ℕ
-row_looked k rows c = if asks c then row_of rows (running (view_core k)) else pad []
+row_looked k rows c = when asks c then row_of rows (running (view_core k)) else pad []
 
 -- a row after a step: as it was, if nobody has left it and t does not come
 abbrev pub next_row : Bool → Bool → List ℕ → ℕ → List ℕ → List ℕ
-next_row left comes gone t l = if comes || left then line_by gone comes t l else l
+next_row left comes gone t l = when comes || left then line_by gone comes t l else l
 
 -- all rows from that of task g on, where t comes into that of task a
 abbrev pub next_rows : List ℕ → List ℕ → ℕ → ℕ → ℕ → List Row → List Row

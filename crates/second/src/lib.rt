@@ -1,4 +1,6 @@
 // The second engine: all calls to a task in one queue, whatever the entry. The calls themselves are those of the first (`steps`).
+#![tactic(auto)]
+
 mod rows;
 
 ghost use Rattle.std.specs.Prelude.{length, ◌≡◌};

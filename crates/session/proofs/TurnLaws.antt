@@ -1,12 +1,9 @@
 -- From what the parts of a turn promise to what the turn promises.
 -- Assumes nothing.
-use Rattle.std.proofs.Common.{◌≡◌, ℕ, ◌≤◌, Bool, true, false, not, ◌&&◌, eqb, ltb, List, [], ◌∷◌, length, sym, refl, ap, ◌∙◌, subst}
-use types.Run.{OneOf, miss}
-use denote.Enum.Declared.{tag_of}
+use Rattle.std.proofs.Common.{◌≡◌, ℕ, ◌≤◌, Bool, true, false, not, ◌&&◌, eqb, ltb, List, [], length, sym, refl, ap, ◌∙◌, subst}
 use Rattle.calls.specs.declared.Call as C
 use Rattle.calls.specs.declared.Read.{Read}
 use Rattle.calls.specs.declared.Read.TheVariants.{Record, BadRecord, EndOfLog}
-use Rattle.calls.specs.contracts.Read.{the_type}
 use Rattle.calls.specs.Reading.{read_of, refusal_of}
 use Rattle.lists.proofs.ListLaws.{by_bool}
 use Rattle.rules.specs.Step.{room_after}
@@ -68,14 +65,14 @@ module _ {S : Type 0} (g : Engine S) (s : S) where
   took_is c k room after a next e f h = λ i. record { session = h i; count = k; next = Again; text = line_text (g.number s) (e i) (f i); room = f i }
 
   -- what was read decides the turn
-  other_than_record : (got : Read) (many : ℕ) (last : Bool) (room : List ℕ) → OneOf (1 ∷ 2 ∷ []) (tag_of the_type got)
+  other_than_record : (got : Read) (many : ℕ) (last : Bool) (room : List ℕ) → ((c : C.Call) (k : ℕ) → got ≡ Record c k → ⊥)
       → leaves g s (refusal_of got) many last room ≡ turn_by g s got many last room
-  other_than_record (Record c k) many last room h = absurd (miss (1 ∷ 2 ∷ []) 0 tt h)
+  other_than_record (Record c k) many last room h = absurd (h c k refl)
   other_than_record BadRecord many last room h = refl
   other_than_record EndOfLog many last room h = refl
 
   module _ (input : List ℕ) (last : Bool) (room : List ℕ) (got : Read) (e : got ≡ read_of input) where
-    pub turn_refused : (n : ℕ) → OneOf (1 ∷ 2 ∷ []) (tag_of the_type got) → n ≡ refusal_of got → leaves g s n (length input) last room ≡ turn_of g s input last room
+    pub turn_refused : (n : ℕ) → ((c : C.Call) (k : ℕ) → got ≡ Record c k → ⊥) → n ≡ refusal_of got → leaves g s n (length input) last room ≡ turn_of g s input last room
     turn_refused n h q =
         ap (λ (x : ℕ). leaves g s x (length input) last room) q ∙ other_than_record got (length input) last room h
         ∙ ap (λ (x : Read). turn_by g s x (length input) last room) e

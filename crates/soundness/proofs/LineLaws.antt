@@ -1,9 +1,9 @@
 -- A walk that meets each task of the line once, in order, has seen what the rules ask of the line.
 -- Assumes nothing.
-use Rattle.std.proofs.Common.{◌≡◌, ℕ, zero, suc, ◌+◌, ◌-◌, ◌^◌, ◌<◌, ◌≤◌, Bool, true, false, ◌&&◌, eqb, ltb, leb, List, [], ◌∷◌, sym, refl, ap, ◌∙◌, arith, ltb-false, ltb-true, le-ltb, lt-ltb, eq-eqb, ne_eqb}
+use Rattle.std.proofs.Common.{◌≡◌, ℕ, zero, suc, ◌+◌, ◌-◌, ◌^◌, ◌<◌, ◌≤◌, Bool, true, false, ◌&&◌, eqb, ltb, leb, List, [], ◌∷◌, sym, refl, ap, subst, ◌∙◌, arith, ltb-false, ltb-true, le-ltb, lt-ltb, eq-eqb, ne_eqb}
 use mathlib.Core.Bool.{and-true, and-false, and_assoc}
 use Rattle.lists.specs.Line.{line, blanks, tidy}
-use Rattle.lists.specs.Lists.{if◌then◌else◌, bit, count, every, down_from}
+use Rattle.lists.specs.Lists.{when◌then◌else◌, bit, count, every, down_from}
 use Rattle.lists.proofs.ListLaws.{by_bool, by_eq, clash, every_of, down_at}
 use Rattle.lists.proofs.Tests.{and_first, between}
 use Rattle.rules.specs.State.{task_of}
@@ -57,7 +57,7 @@ marked_low : (f : ℕ → Bool) (n j : ℕ) (m : Marks) → m < 2 ^ j → n + j 
 marked_low f zero j m l h = below j m l (omega arith)
 marked_low f (suc n) j m l h = marked_low f n (suc j) (next_mark m (f (suc n))) (next_low m (f (suc n)) j l (omega arith)) (omega arith)
 
-has_marked : (f : ℕ → Bool) (n j : ℕ) (m : Marks) (t : ℕ) → m < 2 ^ j → n + j ≤ 31 → has_mark (marked f m (down_from n)) t ≡ (if ltb t n then f (suc t) else has_mark m (t - n))
+has_marked : (f : ℕ → Bool) (n j : ℕ) (m : Marks) (t : ℕ) → m < 2 ^ j → n + j ≤ 31 → has_mark (marked f m (down_from n)) t ≡ (when ltb t n then f (suc t) else has_mark m (t - n))
 has_marked f zero j m t l h = let z : t - 0 ≡ t = omega arith in rw (le-ltb t 0 (omega arith), z)
 has_marked f (suc n) j m t l h =
     has_marked f n (suc j) (next_mark m (f (suc n))) t (next_low m (f (suc n)) j l (omega arith)) (omega arith)
@@ -112,7 +112,8 @@ met n m x l w k e = every_same _ _ n (λ t a b. one t)
     one t =
         rw (has_without m x t w k e)
         (by_eq t x
-        (λ q. rw (q, eq-eqb x x refl, e) (eqb_suc (count x l)))
+        (λ q. subst (λ (u : ℕ). eqb (count u l) (bit (when eqb u x then false else has_mark m u)) ≡ eqb (count u (x ∷ l)) (bit (has_mark m u))) (sym q)
+        (rw (eq-eqb x x refl, e) (eqb_suc (count x l))))
         (λ q. rw (ne_eqb t x q, ne_eqb x t (λ z. q (sym z))) (ap (λ (k : ℕ). eqb k (bit (has_mark m t))) (omega arith))))
 
 -- x is not to be met: the list has it too often
@@ -137,7 +138,7 @@ emptied_is n m (x ∷ xs) l w h =
   where
     onward : x < 32 → has_mark m x ≡ true → Within n (without_mark m x)
     onward low e t y =
-        let z : (if eqb t x then false else has_mark m t) ≡ true = sym (has_without m x t w low e) ∙ y in
+        let z : (when eqb t x then false else has_mark m t) ≡ true = sym (has_without m x t w low e) ∙ y in
         by_bool (eqb t x) (λ q. clash y (has_without m x t w low e ∙ rw q)) (λ q. h t (rw q at z))
 
 -- ── the walk ──

@@ -6,7 +6,7 @@ use lib.Bits.{bit_xor, differ, xor_shr, xor_step, xor_lt}
 use lib.Pow.{pow-lt}
 use lib.Dec.{eqb-suc-suc}
 use borrow.Author.Tests.{eqb-false}
-use Rattle.lists.specs.Lists.{if◌then◌else◌, bit}
+use Rattle.lists.specs.Lists.{when◌then◌else◌, bit}
 use Rattle.lists.proofs.ListLaws.{by_bool, by_eq, by_test}
 use Rattle.soundness.specs.Marks.{Marks, Whole, no_marks, has_mark, next_mark, without_mark, put_mark, is_none}
 
@@ -91,7 +91,7 @@ has_next m b t h =
     half false = omega arith
 
 -- the bit of x is changed, whichever way it stands
-has_changed : (m : Marks) (x t : ℕ) → x < 32 → has_mark (without_mark m x) t ≡ (if eqb t x then not (has_mark m t) else has_mark m t)
+has_changed : (m : Marks) (x t : ℕ) → x < 32 → has_mark (without_mark m x) t ≡ (when eqb t x then not (has_mark m t) else has_mark m t)
 unfolding has_mark without_mark
 has_changed m x t l =
     rw (lt-ltb x 32 l, xor_bit m (2 ^ x) t, pow_bit x t)
@@ -104,7 +104,7 @@ has_changed m x t l =
     other (suc zero) h = refl
     other (suc (suc a)) h = absurd (omega arith)
 
-pub has_without : (m : Marks) (x t : ℕ) → Whole m → x < 32 → has_mark m x ≡ true → has_mark (without_mark m x) t ≡ (if eqb t x then false else has_mark m t)
+pub has_without : (m : Marks) (x t : ℕ) → Whole m → x < 32 → has_mark m x ≡ true → has_mark (without_mark m x) t ≡ (when eqb t x then false else has_mark m t)
 has_without m x t h l z =
     has_changed m x t l ∙ by_bool (eqb t x) (λ e. rw e (ap (λ (y : ℕ). not (has_mark m y)) (eqb-true t x e) ∙ ap not z)) (λ e. rw e)
 
@@ -112,17 +112,17 @@ pub put_whole : (m : Marks) (x : ℕ) (b : Bool) → Whole m → Whole (put_mark
 unfolding put_mark
 put_whole m x b h = by_test Whole ((has_mark m x && not b) || (b && not (has_mark m x))) (λ _. without_whole m x h) (λ _. h)
 
-pub has_put : (m : Marks) (x t : ℕ) (b : Bool) → x < 32 → has_mark (put_mark m x b) t ≡ (if eqb t x then b else has_mark m t)
+pub has_put : (m : Marks) (x t : ℕ) (b : Bool) → x < 32 → has_mark (put_mark m x b) t ≡ (when eqb t x then b else has_mark m t)
 unfolding put_mark
 has_put m x t b l = go (has_mark m x) b refl
   where
-    stays : (c : Bool) → has_mark m x ≡ c → has_mark m t ≡ (if eqb t x then c else has_mark m t)
+    stays : (c : Bool) → has_mark m x ≡ c → has_mark m t ≡ (when eqb t x then c else has_mark m t)
     stays c e = by_bool (eqb t x) (λ q. rw q (ap (has_mark m) (eqb-true t x q) ∙ e)) (λ q. rw q)
 
-    turns : (c : Bool) → not (has_mark m x) ≡ c → has_mark (without_mark m x) t ≡ (if eqb t x then c else has_mark m t)
+    turns : (c : Bool) → not (has_mark m x) ≡ c → has_mark (without_mark m x) t ≡ (when eqb t x then c else has_mark m t)
     turns c e = has_changed m x t l ∙ by_bool (eqb t x) (λ q. rw q (ap (λ (y : ℕ). not (has_mark m y)) (eqb-true t x q) ∙ e)) (λ q. rw q)
 
-    go : (there here : Bool) → has_mark m x ≡ there → has_mark (if (has_mark m x && not here) || (here && not (has_mark m x)) then without_mark m x else m) t ≡ (if eqb t x then here else has_mark m t)
+    go : (there here : Bool) → has_mark m x ≡ there → has_mark (when (has_mark m x && not here) || (here && not (has_mark m x)) then without_mark m x else m) t ≡ (when eqb t x then here else has_mark m t)
     go true true e = rw e (stays true e)
     go true false e = rw e (turns false (ap not e))
     go false true e = rw e (turns true (ap not e))

@@ -4,7 +4,7 @@ use Rattle.std.proofs.Common.{◌≡◌, ℕ, zero, suc, ◌+◌, ◌<◌, ◌�
 use mathlib.Core.Bool.{and-true, and-false, and_assoc}
 use lib.ListN.{get_or-eq_default}
 use Rattle.lists.specs.Line.{line, tidy, blanks}
-use Rattle.lists.specs.Lists.{if◌then◌else◌, bit, count, every, down_from}
+use Rattle.lists.specs.Lists.{when◌then◌else◌, bit, count, every, down_from}
 use Rattle.lists.specs.Marks.{no_marks, mark_of}
 use Rattle.lists.proofs.Tests.{and_first}
 use Rattle.lists.proofs.ListLaws.{clash, by_bool, by_eq}
@@ -64,22 +64,22 @@ module _ (T : List ℕ) where
   none g m (r ∷ rs) = none (suc g) (met_in T g m r.line).rest rs
 
   -- each row is tidy, and has those alone who have called its task
-  abbrev rows_to_lem : ℕ → List Row → Bool
-  rows_to_lem g [] = true
-  rows_to_lem g (r ∷ rs) = (tidy r.line && every (to g) (line r.line)) && rows_to_lem (suc g) rs
+  abbrev rows_to : ℕ → List Row → Bool
+  rows_to g [] = true
+  rows_to g (r ∷ rs) = (tidy r.line && every (to g) (line r.line)) && rows_to (suc g) rs
 
-  rows_step : (g : ℕ) (b : Bool) (m : Marks) (rs : List Row) → met_all T g b m rs ≡ (b && (rows_to_lem g rs && emptied m (gathered rs)))
+  rows_step : (g : ℕ) (b : Bool) (m : Marks) (rs : List Row) → met_all T g b m rs ≡ (b && (rows_to g rs && emptied m (gathered rs)))
   rows_step g b m [] = refl
   rows_step g b m (r ∷ rs) =
       let l = line r.line in
       let R = tidy r.line && every (to g) l in
       row_step g (λ c n. met_all T (suc g) c n rs) (λ n. none (suc g) n rs) b r.line m
       ∙ ap (λ (x : Bool). R && x)
-      (along_same m l (λ n. met_all T (suc g) b n rs) (λ n. b && (rows_to_lem (suc g) rs && emptied n (gathered rs))) (λ n. rows_step (suc g) b n rs)
-      ∙ along_and b m l (λ n. rows_to_lem (suc g) rs && emptied n (gathered rs))
-      ∙ ap (λ (x : Bool). b && x) (along_and (rows_to_lem (suc g) rs) m l (λ n. emptied n (gathered rs)) ∙ ap (λ (x : Bool). rows_to_lem (suc g) rs && x) (along_all m l (gathered rs))))
-      ∙ and_swap R b (rows_to_lem (suc g) rs && emptied m (l ++ gathered rs))
-      ∙ ap (λ (x : Bool). b && x) (sym (and_assoc R (rows_to_lem (suc g) rs) (emptied m (l ++ gathered rs))))
+      (along_same m l (λ n. met_all T (suc g) b n rs) (λ n. b && (rows_to (suc g) rs && emptied n (gathered rs))) (λ n. rows_step (suc g) b n rs)
+      ∙ along_and b m l (λ n. rows_to (suc g) rs && emptied n (gathered rs))
+      ∙ ap (λ (x : Bool). b && x) (along_and (rows_to (suc g) rs) m l (λ n. emptied n (gathered rs)) ∙ ap (λ (x : Bool). rows_to (suc g) rs && x) (along_all m l (gathered rs))))
+      ∙ and_swap R b (rows_to (suc g) rs && emptied m (l ++ gathered rs))
+      ∙ ap (λ (x : Bool). b && x) (sym (and_assoc R (rows_to (suc g) rs) (emptied m (l ++ gathered rs))))
 
 -- ── the loops ──
 
@@ -88,10 +88,10 @@ module _ (T : List ℕ) (g m : ℕ) (l : List ℕ) (i : ℕ) where
   met_blank h e = rw (drop-cons l i 0 h, e)
 
   pub met_on : i < length l → (get_or l i 0 ≡ 0 → ⊥) → (b : Bool) → b ≡ (has_mark m (get_or l i 0) && eqb (mark_of T (get_or l i 0)) g)
-      → met_in T g m (drop i l) ≡ (if b then met_in T g (without_mark m (get_or l i 0)) (drop (i + 1) l) else record { ok = false; rest = m })
+      → met_in T g m (drop i l) ≡ (when b then met_in T g (without_mark m (get_or l i 0)) (drop (i + 1) l) else record { ok = false; rest = m })
   met_on h n b e = rw (e, drop-cons l i 0 h, add-one i) (number (get_or l i 0) n)
     where
-      number : (x : ℕ) → (x ≡ 0 → ⊥) → met_in T g m (x ∷ drop (suc i) l) ≡ (if has_mark m x && eqb (mark_of T x) g then met_in T g (without_mark m x) (drop (suc i) l) else record { ok = false; rest = m })
+      number : (x : ℕ) → (x ≡ 0 → ⊥) → met_in T g m (x ∷ drop (suc i) l) ≡ (when has_mark m x && eqb (mark_of T x) g then met_in T g (without_mark m x) (drop (suc i) l) else record { ok = false; rest = m })
       number zero n = absurd (n refl)
       number (suc x) n = refl
 
@@ -152,7 +152,7 @@ every_same_all : (f g : ℕ → Bool) (l : List ℕ) → ((x : ℕ) → f x ≡ 
 every_same_all f g [] h = refl
 every_same_all f g (x ∷ xs) h = λ i. h x i && every_same_all f g xs h i
 
-rows_to_lem : (s : Core) (T : List ℕ) (rs : List Row) (g : ℕ) → 0 < g → s.created ≤ 31 → length T ≡ 32 → Targets s T → rows_to_lem T g rs ≡ rows_right (view_core s) g rs
+rows_to_lem : (s : Core) (T : List ℕ) (rs : List Row) (g : ℕ) → 0 < g → s.created ≤ 31 → length T ≡ 32 → Targets s T → rows_to T g rs ≡ rows_right (view_core s) g rs
 rows_to_lem s T [] g p h l k = refl
 rows_to_lem s T (r ∷ rs) g p h l k =
     λ i. (tidy r.line && every_same_all (to T g) (calling (view_core s) g) (line r.line) (λ x. to_calling s T g x p h l k) i) && rows_to_lem s T rs (suc g) (omega arith) h l k i

@@ -2,7 +2,7 @@
 -- Assumes nothing.
 use Rattle.std.proofs.Common.{◌≡◌, ℕ, zero, suc, ◌<◌, ◌≤◌, Bool, true, false, not, ◌&&◌, eqb, List, [], ◌∷◌, length, sym, refl, ap, ◌∙◌, subst, arith, eq-eqb, ne_eqb}
 use borrow.Author.Tests.{not-true}
-use Rattle.lists.specs.Lists.{if◌then◌else◌, count}
+use Rattle.lists.specs.Lists.{when◌then◌else◌, count}
 use Rattle.lists.specs.Marks.{mark_of}
 use Rattle.lists.proofs.Tests.{differ, and_both, and_first, and_second}
 use Rattle.lists.proofs.ListLaws.{by_bool, by_eq, clash}
@@ -41,7 +41,7 @@ module _ (v : State) (h : Sound v) (m : List ℕ) (holder : (t : ℕ) → is_hel
     here : is_held (place_of v u) ≡ true
     here = ok.held u y
 
-    without : (t : ℕ) → has_mark (without_mark r u) t ≡ (if eqb t u then false else has_mark r t)
+    without : (t : ℕ) → has_mark (without_mark r u) t ≡ (when eqb t u then false else has_mark r t)
     without t = has_without r u t ok.whole (omega (arith, (held_in v u h here).1, h.few)) y
 
     met : has_mark (without_mark r u) u ≡ false

@@ -2,7 +2,7 @@
 -- Assumes nothing.
 use Rattle.std.specs.Prelude.{ℕ, zero, suc, Bool, false, not, ◌&&◌, List, [], ◌∷◌, drop, ◌==◌, nat_le}
 use Rattle.lists.specs.Line.{blanks}
-use Rattle.lists.specs.Lists.{if◌then◌else◌, every, down_from}
+use Rattle.lists.specs.Lists.{when◌then◌else◌, every, down_from}
 use Rattle.rules.specs.Sound.{good_task}
 use Rattle.rules.specs.State.{State, task_of, place_of, partner_of, is_ready, is_queued, is_held, has_time}
 use Rattle.rules.specs.Whole.{view_core, unused}
@@ -88,5 +88,5 @@ stands_in s =
 -- what the check of a core tells: whether it is sound but for the callers, and who belongs into their queues
 abbrev pub checked_of : Core → Checked
 checked_of s =
-    if nat_le s.created 31 then record { good = stands_in s && tree_found s (told_of s).held (told_of s).changed; callers = (told_of s).callers }
+    when nat_le s.created 31 then record { good = stands_in s && tree_found s (told_of s).held (told_of s).changed; callers = (told_of s).callers }
     else record { good = false; callers = 0 }

@@ -1,7 +1,7 @@
 -- The word of the check: bit t says that task t is still to be met in a line.
 -- Assumes nothing.
 use Rattle.std.specs.Prelude.{ℕ, ◌+◌, ◌*◌, ◌/◌, ◌%◌, ◌^◌, ◌<◌, Bool, not, ◌&&◌, ◌||◌, ◌==◌, bit_xor, nat_lt}
-use Rattle.lists.specs.Lists.{if◌then◌else◌, bit}
+use Rattle.lists.specs.Lists.{when◌then◌else◌, bit}
 
 -- which tasks are still to be met
 abbrev pub Marks : Type 0
@@ -25,11 +25,11 @@ next_mark m here = m % 2147483648 * 2 + bit here
 
 -- t, which was to be met, is no longer; the others as before
 unfoldable pub without_mark : Marks → ℕ → Marks
-without_mark m t = if nat_lt t 32 then bit_xor m (2 ^ t) else m
+without_mark m t = when nat_lt t 32 then bit_xor m (2 ^ t) else m
 
 -- t is marked exactly if so said; the others as before
 unfoldable pub put_mark : Marks → ℕ → Bool → Marks
-put_mark m t here = if (has_mark m t && not here) || (here && not (has_mark m t)) then without_mark m t else m
+put_mark m t here = when (has_mark m t && not here) || (here && not (has_mark m t)) then without_mark m t else m
 
 -- no task is still to be met
 unfoldable pub is_none : Marks → Bool

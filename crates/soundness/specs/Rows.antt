@@ -2,7 +2,7 @@
 -- Assumes nothing.
 use Rattle.std.specs.Prelude.{◌≡◌, ℕ, zero, suc, ◌<◌, Bool, true, false, ◌&&◌, List, [], ◌∷◌, ◌==◌}
 use Rattle.lists.specs.Line.{blanks}
-use Rattle.lists.specs.Lists.{if◌then◌else◌}
+use Rattle.lists.specs.Lists.{when◌then◌else◌}
 use Rattle.lists.specs.Marks.{mark_of}
 use Rattle.rules.specs.State.{place_of, is_queued, partner_of}
 use Rattle.rules.specs.Whole.{view_core}
@@ -14,7 +14,7 @@ use Rattle.soundness.specs.declared.rows.Met.{Met}
 
 -- the task on which one in this place is queued, 0 where it is queued on none
 abbrev pub called_by : Place → ℕ
-called_by p = if is_queued p then partner_of p else 0
+called_by p = when is_queued p then partner_of p else 0
 
 abbrev pub Targets : Core → List ℕ → Type 0
 Targets s m = (t : ℕ) → t < 32 → mark_of m t ≡ called_by (place_of (view_core s) t)
@@ -23,7 +23,7 @@ Targets s m = (t : ℕ) → t < 32 → mark_of m t ≡ called_by (place_of (view
 abbrev pub met_in : List ℕ → ℕ → Marks → List ℕ → Met
 met_in T g m [] = record { ok = true; rest = m }
 met_in T g m (zero ∷ xs) = record { ok = blanks xs; rest = m }
-met_in T g m (suc n ∷ xs) = if has_mark m (suc n) && mark_of T (suc n) == g then met_in T g (without_mark m (suc n)) xs else record { ok = false; rest = m }
+met_in T g m (suc n ∷ xs) = when has_mark m (suc n) && mark_of T (suc n) == g then met_in T g (without_mark m (suc n)) xs else record { ok = false; rest = m }
 
 -- all rows from that of task g on; at the end nobody is still to be met
 abbrev pub met_all : List ℕ → ℕ → Bool → Marks → List Row → Bool

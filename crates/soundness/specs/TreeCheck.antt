@@ -2,7 +2,7 @@
 -- Assumes nothing.
 use Rattle.std.specs.Prelude.{ℕ, zero, suc, Bool, true, false, not, ◌&&◌, List, [], ◌∷◌, ◌==◌, slice_set}
 use Rattle.lists.specs.Line.{line}
-use Rattle.lists.specs.Lists.{if◌then◌else◌}
+use Rattle.lists.specs.Lists.{when◌then◌else◌}
 use Rattle.lists.specs.Marks.{no_marks, mark_of}
 use Rattle.rules.specs.State.{State, place_of, priority_of, current_of, partner_of, kept_of, higher}
 use Rattle.rules.specs.Whole.{view_core}
@@ -37,7 +37,7 @@ seen_of s w = record { good = passed (view_core s) no_marks w true (line s.held)
 -- where the climb began; all on the way are met
 unfoldable pub climbed : List ℕ → Marks → ℕ → Marks → ℕ → Reached
 climbed m w zero r u = record { good = false; rest = r }
-climbed m w (suc n) r u = if has_mark r u then climbed m w n (without_mark r u) (mark_of m u) else record { good = not (has_mark w u); rest = r }
+climbed m w (suc n) r u = when has_mark r u then climbed m w n (without_mark r u) (mark_of m u) else record { good = not (has_mark w u); rest = r }
 
 -- from each of the list
 abbrev pub all_climbed : List ℕ → Bool → Marks → List ℕ → Bool
@@ -49,5 +49,5 @@ all_climbed m b w (c ∷ l) = let k = climbed m w 31 w c in all_climbed m (b && 
 -- what the check finds of the tree, where h are those held and w those with another current priority than the created one: task 1 is bit 0
 abbrev pub tree_found : Core → Marks → Marks → Bool
 tree_found s h w =
-    if is_none h then is_none (next_mark w false)
+    when is_none h then is_none (next_mark w false)
     else (let seen = seen_of s (next_mark w false) in seen.good && all_climbed seen.holders true (next_mark h false) (line s.held))

@@ -2,6 +2,8 @@
 // `is_sound`. One pass over the created tasks tells whether they are good and who belongs into which line; then one over each line.
 // A function that takes the state and looks up tasks in it copies it whole: so no function that is called for each task takes it, and
 // `is_sound` alone hands it on, so that no two copies are alive at a time.
+#![tactic(auto)]
+
 ghost use Rattle.std.specs.Prelude.{◌≡◌, ◌≤◌, ◌&&◌, drop};
 ghost use Rattle.lists.specs.Lists.{every};
 ghost use Rattle.rules.specs.Second.{sound_second};

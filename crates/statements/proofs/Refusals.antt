@@ -8,7 +8,7 @@ use native.Mathlib.Omega.{arith}
 use lib.Dec.{eqb, ltb, leb}
 use lib.ListN.{length}
 use borrow.Author.Tests.{ne_eqb}
-use Rattle.lists.specs.Lists.{if◌then◌else◌, count, last}
+use Rattle.lists.specs.Lists.{when◌then◌else◌, count, last}
 use Rattle.lists.proofs.ListLaws.{by_bool, not_in}
 use Rattle.rules.specs.State.{State, created, task_of, place_of, is_task, has_entry, is_completed, accepts, held_by, running}
 use Rattle.rules.specs.Sound.{in_range}
@@ -44,7 +44,7 @@ held_named : (v : State) (t : ℕ) → count 0 (held_by v t) ≡ 0
 held_named v t = not_in 0 (held_by v t) (λ k. let q = of_held v 0 t k in omega (arith, (held_there v 0 q.0 q.1).0))
 
 -- a call of the running task t, where there is one
-runner : (t : ℕ) (f : ℕ → Outcome) (x : ℕ) → ((t ≡ 0 → ⊥) → refusal_of (f t) ≡ x) → refusal_of (of_running t f) ≡ (if eqb t 0 then 4 else x)
+runner : (t : ℕ) (f : ℕ → Outcome) (x : ℕ) → ((t ≡ 0 → ⊥) → refusal_of (f t) ≡ x) → refusal_of (of_running t f) ≡ (when eqb t 0 then 4 else x)
 runner zero f x h = refl
 runner (suc t) f x h = let n : suc t ≡ 0 → ⊥ = λ z. omega arith in rw (ne_eqb (suc t) 0 n) (h n)
 
@@ -52,7 +52,7 @@ delays : (v : State) (t n : ℕ) → refusal_of (delay_for v t n) ≡ 0
 delays v t zero = refl
 delays v t (suc n) = refl
 
-creates : (v : State) (p n : ℕ) → refusal_of (create v p n) ≡ (if not (in_range p n) then 3 else if leb 31 (created v) then 9 else 0)
+creates : (v : State) (p n : ℕ) → refusal_of (create v p n) ≡ (when not (in_range p n) then 3 else when leb 31 (created v) then 9 else 0)
 creates v p n = by_bool (not (in_range p n)) (λ e. rw e) (λ e. by_bool (leb 31 (created v)) (λ f. rw (e, f)) (λ f. rw (e, f)))
 
 module _ (v : State) (t g e : ℕ) where
@@ -65,7 +65,7 @@ module _ (v : State) (t g e : ℕ) where
   busy (Timed d) = waits (ticks d)
   busy Conditional = refl
 
-  called : (m : CallMode) → refusal_of (call v t g e m) ≡ (if not (is_task v g) then 5 else if not (has_entry (task_of v g) e) then 6 else 0)
+  called : (m : CallMode) → refusal_of (call v t g e m) ≡ (when not (is_task v g) then 5 else when not (has_entry (task_of v g) e) then 6 else 0)
   called m =
       by_bool (not (is_task v g)) (λ a. rw a) λ a.
       by_bool (not (has_entry (task_of v g) e)) (λ b. rw (a, b)) λ b.
@@ -86,17 +86,17 @@ module _ (v : State) (t o : ℕ) where
   selects_at m zero = accepts_none m
   selects_at m (suc e) = refl
 
-  selects : (m : SelectMode) → refusal_of (select v t o m) ≡ (if leb (2 ^ (task_of v t).entries) o then 6 else 0)
+  selects : (m : SelectMode) → refusal_of (select v t o m) ≡ (when leb (2 ^ (task_of v t).entries) o then 6 else 0)
   selects m = by_bool (leb (2 ^ (task_of v t).entries) o) (λ e. rw e) (λ e. rw e (selects_at m (open_entry v t o)))
 
-ends_at : (v : State) (t k : ℕ) → refusal_of (end_last v t k) ≡ (if eqb k 0 then 7 else 0)
+ends_at : (v : State) (t k : ℕ) → refusal_of (end_last v t k) ≡ (when eqb k 0 then 7 else 0)
 ends_at v t zero = refl
 ends_at v t (suc k) = rw (ne_eqb (suc k) 0 (λ z. omega arith))
 
-ends : (v : State) (t : ℕ) → refusal_of (end v t) ≡ (if eqb (length (held_by v t)) 0 then 7 else 0)
-ends v t = ends_at v t (last (held_by v t)) ∙ ap (λ (b : Bool). if b then 7 else 0) (last_some (held_by v t) (held_named v t))
+ends : (v : State) (t : ℕ) → refusal_of (end v t) ≡ (when eqb (length (held_by v t)) 0 then 7 else 0)
+ends v t = ends_at v t (last (held_by v t)) ∙ ap (λ (b : Bool). when b then 7 else 0) (last_some (held_by v t) (held_named v t))
 
-finishes : (v : State) (t : ℕ) → refusal_of (finish v t) ≡ (if ltb 0 (length (held_by v t)) then 8 else 0)
+finishes : (v : State) (t : ℕ) → refusal_of (finish v t) ≡ (when ltb 0 (length (held_by v t)) then 8 else 0)
 finishes v t = by_bool (ltb 0 (length (held_by v t))) (λ e. rw e) (λ e. rw e)
 
 taken : (v : State) (c : C.Call) → Sound v → refusal_of (take_call v c) ≡ first_row (rows_of v c)

@@ -9,7 +9,7 @@ use native.Mathlib.Omega.{arith}
 use lib.Dec.{ltb}
 use borrow.Author.Tests.{ltb-true, ltb-false, lt-ltb}
 use lib.ListN.{length}
-use Rattle.lists.specs.Lists.{if◌then◌else◌}
+use Rattle.lists.specs.Lists.{when◌then◌else◌}
 use Rattle.lists.proofs.ListLaws.{by_bool, clash}
 use Rattle.rules.specs.State as state
 use Rattle.rules.specs.Whole.{Typed, view, sound_whole, Whole, step_whole, answer_of, refused_answer}
@@ -46,7 +46,7 @@ use Rattle.statements.proofs.Refusals.{by_table}
 use Rattle.statements.proofs.Linked.{linked}
 
 -- a question's refusal, from the test of the state
-question : (b : Bool) → (◌≡◌ {A = ℕ} (if b then 0 else 2) 2) ↔ (b ≡ false)
+question : (b : Bool) → (◌≡◌ {A = ℕ} (when b then 0 else 2) 2) ↔ (b ≡ false)
 question true = (λ e. absurd (omega (arith, e)), λ e. absurd (clash refl e))
 question false = (λ e. refl, λ e. refl)
 

@@ -208,14 +208,14 @@ owned : (t r : Tables) (o : Outcome) → r ≡ owned_after t o → Gives (area_o
 unfolding owned_after
 owned t r o e = (ap (λ (x : Tables). x.answer) e, ap (λ (x : Tables). x.blocks) e, ap (λ (x : Tables). x.free) e)
 
-owned_fresh : (t r : Tables) → r ≡ owned_fresh t → KeepsFresh t.blocks t.free (result_of r)
+owned_fresh_lem : (t r : Tables) → r ≡ owned_fresh t → KeepsFresh t.blocks t.free (result_of r)
 unfolding owned_fresh
-owned_fresh t r e = (ap (λ (x : Tables). x.answer) e, ap (λ (x : Tables). x.blocks) e, ap (λ (x : Tables). x.free) e)
+owned_fresh_lem t r e = (ap (λ (x : Tables). x.answer) e, ap (λ (x : Tables). x.blocks) e, ap (λ (x : Tables). x.free) e)
 
 pub workspaces : Workspaces
 workspaces = record {
   lent_says = λ 𝓛 mem run. record { fresh = λ κs x r y. refl; request = λ κs x r y. refl; release = λ κs x r y. refl };
-  owned_fresh_says = λ κs x r y p. owned_fresh x.0 r p;
+  owned_fresh_says = λ κs x r y p. owned_fresh_lem x.0 r p;
   owned_request_says = λ κs x r y p. owned x.0 r (request_of x.0.blocks x.0.free x.0.answer.used x.1.0) p;
   owned_release_says = λ κs x r y p. owned x.0 r (release_of x.0.blocks x.0.free x.0.answer.used x.1.0) p;
   fresh_refused = λ b f g k. refusal_is (record { blocks = b; free = f; used = unused }) (fresh_of b f) g k ∙ fresh_number b f;

@@ -1,7 +1,7 @@
 -- Document 01's table of refusals for a step, row by row: "given exactly when".
 -- Assumes nothing.
 use Rattle.std.specs.Prelude.{ℕ, ◌^◌, Bool, not, List, [], ◌∷◌, eqb, ltb, leb, length}
-use Rattle.lists.specs.Lists.{if◌then◌else◌}
+use Rattle.lists.specs.Lists.{when◌then◌else◌}
 use Rattle.rules.specs.State.{State, created, task_of, is_task, has_entry, held_by, running}
 use Rattle.rules.specs.Sound.{in_range}
 use Rattle.rules.specs.Whole.{view, sound_whole}
@@ -40,4 +40,4 @@ rows s c room = row 1 (ltb room 124) ∷ row 2 (not (sound_whole s)) ∷ rows_of
 -- the number of the first row that applies; 0 if none does
 abbrev pub first_row : List Row → ℕ
 first_row [] = 0
-first_row (r ∷ rs) = if r.applies then r.number else first_row rs
+first_row (r ∷ rs) = when r.applies then r.number else first_row rs

@@ -1,1 +1,2 @@
 // The statements, in specs/, with their proofs in proofs/: no code.
+#![tactic(auto)]

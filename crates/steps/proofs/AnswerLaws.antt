@@ -3,7 +3,6 @@
 use Rattle.std.proofs.Common.{◌≡◌, ℕ, zero, suc, ◌≤◌, Bool, List, [], length, sym, refl, ap, ◌∙◌}
 use Rattle.rules.specs.State.{State, task_of, move, running}
 use Rattle.rules.specs.Step.{Outcome, refused, took, NO_TASK, of_running, room_after}
-use Rattle.rules.specs.Sound.{sound}
 use Rattle.rules.specs.Whole.{view_core, pack_core}
 use Rattle.rules.specs.declared.Item.{Item}
 use Rattle.rules.specs.declared.Task.{Task}
@@ -41,9 +40,6 @@ by_outcome s e h = h ∙ sym (ap (taken_of s) e)
 pub by_ended : (x y : List ℕ) {o q : Outcome} → o ≡ q → x ≡ room_after y (ended_by q) → x ≡ room_after y (ended_by o)
 by_ended x y e k = k ∙ sym (ap (λ (o : Outcome). room_after y (ended_by o)) e)
 
-pub by_both : (s : Core) {o q : Outcome} {r : Taken} (x y : List ℕ) → o ≡ q → r ≡ taken_of s q → x ≡ room_after y (ended_by q) → (r ≡ taken_of s o) × (x ≡ room_after y (ended_by o))
-by_both s x y e h k = (by_outcome s e h, by_ended x y e k)
-
 -- what is answered does not tell of the callers
 taken_core : (s : Core) (o : Outcome) → taken_of s o ≡ taken_of s (core_of o)
 taken_core s (refused r) = refl
@@ -57,8 +53,8 @@ ended_core (took st a l) = refl
 pub by_core : (s : Core) (o q : Outcome) {r : Taken} → core_of o ≡ core_of q → r ≡ taken_of s q → r ≡ taken_of s o
 by_core s o q e h = h ∙ taken_core s q ∙ sym (ap (taken_of s) e) ∙ sym (taken_core s o)
 
-pub by_core_both : (s : Core) (o q : Outcome) {r : Taken} (x y : List ℕ) → core_of o ≡ core_of q → r ≡ taken_of s q → x ≡ room_after y (ended_by q) → (r ≡ taken_of s o) × (x ≡ room_after y (ended_by o))
-by_core_both s o q x y e h k = (by_core s o q e h, k ∙ ap (room_after y) (ended_core q ∙ sym (ap ended_by e) ∙ sym (ended_core o)))
+pub by_core_ended : (o q : Outcome) (x y : List ℕ) → core_of o ≡ core_of q → x ≡ room_after y (ended_by q) → x ≡ room_after y (ended_by o)
+by_core_ended o q x y e k = k ∙ ap (room_after y) (ended_core q ∙ sym (ap ended_by e) ∙ sym (ended_core o))
 
 -- an answer, its state and its list
 pub answers : (s m : Core) (st : State) (a : Item) (l : List Item) {n : ℕ} {r : Taken} → r ≡ taken_as m a n → m ≡ pack_core st → n ≡ length l → r ≡ taken_of s (took st a l)

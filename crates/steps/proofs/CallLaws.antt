@@ -1,11 +1,9 @@
 -- CALL.
 -- Assumes nothing.
-use Rattle.std.proofs.Common.{◌≡◌, ℕ, zero, suc, ◌<◌, ◌≤◌, Bool, true, false, not, ◌&&◌, ltb, leb, [], ◌∷◌, length, ℤ, refl, ◌∙◌, arith}
-use borrow.Author.Tests.{not-true, not-false}
+use Rattle.std.proofs.Common.{◌≡◌, ℕ, zero, suc, ◌<◌, ◌≤◌, Bool, true, false, ◌&&◌, ltb, leb, [], ◌∷◌, length, ℤ, refl, ◌∙◌, arith}
 use Rattle.lists.proofs.Tests.{between}
 use Rattle.rules.specs.State.{State, created, task_of, wake, running, after, is_task, has_entry, place_of, is_completed, accepts, meet}
 use Rattle.rules.specs.Step.{refused, took, NO_TASK, NO_TARGET, NO_ENTRY, item, WAITS, CALL_EXPIRED, TASKING_ERROR, ACCEPTED, ticks, enqueue, timed_call, call_busy, call, take_call}
-use Rattle.rules.specs.Sound.{sound}
 use Rattle.lists.specs.Lists.{remove}
 use Rattle.rules.specs.Callers.{with_callers}
 use Rattle.rules.specs.Whole.{view_core, pack_core}
@@ -30,11 +28,11 @@ module _ (v : State) (t g e : ℕ) (m : CallMode) (run : t ≡ running v) where
   enter_one z = of_runner v t (λ t. call v t g e m) run z
 
 module _ (s : Core) (b : Bool) (g : ℕ) (h : Stands s) (is : b ≡ (ltb 0 g && leb g s.created)) where
-  pub no_task : not b ≡ true → is_task (view_core s) g ≡ false
-  no_task z = rw (← created_is s h, ← is) (not-true b z)
+  pub no_task : b ≡ false → is_task (view_core s) g ≡ false
+  no_task z = rw (← created_is s h, ← is) z
 
-  pub a_task : not b ≡ false → is_task (view_core s) g ≡ true
-  a_task z = rw (← created_is s h, ← is) (not-false b z)
+  pub a_task : b ≡ true → is_task (view_core s) g ≡ true
+  a_task z = rw (← created_is s h, ← is) z
 
 module _ (v : State) (t g e : ℕ) (m : CallMode) where
   pub call_target : is_task v g ≡ false → call v t g e m ≡ refused NO_TARGET

@@ -4,7 +4,7 @@ use Rattle.std.proofs.Common.{◌≡◌, ℕ, suc, ◌+◌, ◌-◌, ◌*◌, �
 use Rattle.calls.specs.Record.{byte}
 use Rattle.calls.specs.declared.Call as C
 use Rattle.lists.specs.Line.{line, pad}
-use Rattle.lists.specs.Lists.{if◌then◌else◌, bit, filter, count}
+use Rattle.lists.specs.Lists.{when◌then◌else◌, bit, filter, count}
 use Rattle.lists.specs.Marks.{no_marks, mark_of, marked, with_mark}
 use Rattle.lists.proofs.LineLaws.{line_picked}
 use Rattle.lists.proofs.ListLaws.{by_bool}
@@ -76,7 +76,7 @@ small v h x j =
 pub gone_out : (v : State) (g : List ℕ) → Sound v → with_mark (marked one g no_marks) 0 v.callers ≡ filter (out g) v.callers
 gone_out v g h = filter_same _ _ v.callers (λ x j. unmarked g x (λ _. small v h x j))
 
-by_joins : (b : Bool) (k : List ℕ) (t : ℕ) → (if b then pad (k ++ (t ∷ [])) else pad k) ≡ pad (k ++ (if b then t ∷ [] else []))
+by_joins : (b : Bool) (k : List ℕ) (t : ℕ) → (when b then pad (k ++ (t ∷ [])) else pad k) ≡ pad (k ++ (when b then t ∷ [] else []))
 by_joins true k t = refl
 by_joins false k t = ap pad (sym (append-nil k))
 
@@ -99,4 +99,4 @@ line_is s v c (took st a x) k callers room after m r b h e told ek ea em eb er =
     let b1 : b ≡ comes_by c a.result (length x) = eb ∙ ap (λ (z : Taken). comes_of c z.refusal z.result z.ended) ek in
     let w : with_mark (marked one (gone_by a x) no_marks) 0 (line callers) ≡ filter (out (gone_by a x)) v.callers = ap (with_mark (marked one (gone_by a x) no_marks) 0) e ∙ gone_out v (gone_by a x) h in
     er ∙ (λ i. line_by (m1 i) (b1 i) (ek i).task callers) ∙ by_joins (comes_by c a.result (length x)) (with_mark (marked one (gone_by a x) no_marks) 0 (line callers)) a.task
-    ∙ ap (λ (q : List ℕ). pad (q ++ (if comes_by c a.result (length x) then a.task ∷ [] else []))) w ∙ ap pad (sym told)
+    ∙ ap (λ (q : List ℕ). pad (q ++ (when comes_by c a.result (length x) then a.task ∷ [] else []))) w ∙ ap pad (sym told)

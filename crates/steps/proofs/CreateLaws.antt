@@ -2,7 +2,7 @@
 -- Assumes nothing.
 use Rattle.std.proofs.Common.{◌≡◌, ℕ, suc, ◌+◌, ◌-◌, ◌<◌, ◌≤◌, Bool, true, false, not, leb, List, [], ◌∷◌, ◌++◌, length, set, replicate, sym, refl, ap, ◌∙◌, arith, length-append, le-leb}
 use lib.Seq.{set-append_seam, append_snoc}
-use borrow.Author.Tests.{not-true, not-false, lt-leb}
+use borrow.Author.Tests.{lt-leb}
 use Rattle.lists.specs.Line.{line, pad}
 use Rattle.rules.specs.State.{State, blank, set_nth, created, add, fresh}
 use Rattle.rules.specs.Step.{refused, took, BAD_FIELD, FULL, item, DONE, take_call}
@@ -18,14 +18,14 @@ use Rattle.steps.proofs.MoveLaws.{created_is}
 use Rattle.steps.proofs.AnswerLaws.{Quiet}
 
 module _ (v : State) (p n : ℕ) where
-  pub create_bad : (b : Bool) → b ≡ in_range p n → not b ≡ true → take_call v (Create p n) ≡ refused BAD_FIELD
-  create_bad b e z = let q : in_range p n ≡ false = sym e ∙ not-true b z in rw q
+  pub create_bad : (b : Bool) → b ≡ in_range p n → b ≡ false → take_call v (Create p n) ≡ refused BAD_FIELD
+  create_bad b e z = let q : in_range p n ≡ false = sym e ∙ z in rw q
 
-  pub create_full : (b : Bool) → b ≡ in_range p n → not b ≡ false → 31 ≤ created v → take_call v (Create p n) ≡ refused FULL
-  create_full b e z k = let q : in_range p n ≡ true = sym e ∙ not-false b z in rw (q, le-leb 31 (created v) k)
+  pub create_full : (b : Bool) → b ≡ in_range p n → b ≡ true → 31 ≤ created v → take_call v (Create p n) ≡ refused FULL
+  create_full b e z k = let q : in_range p n ≡ true = sym e ∙ z in rw (q, le-leb 31 (created v) k)
 
-  pub create_new : (b : Bool) (t : ℕ) → b ≡ in_range p n → not b ≡ false → created v < 31 → t ≡ suc (created v) → take_call v (Create p n) ≡ took (add v p n) (item t DONE 0 0) []
-  create_new b t e z k f = let q : in_range p n ≡ true = sym e ∙ not-false b z in rw (q, lt-leb 31 (created v) k, f)
+  pub create_new : (b : Bool) (t : ℕ) → b ≡ in_range p n → b ≡ true → created v < 31 → t ≡ suc (created v) → take_call v (Create p n) ≡ took (add v p n) (item t DONE 0 0) []
+  create_new b t e z k f = let q : in_range p n ≡ true = sym e ∙ z in rw (q, lt-leb 31 (created v) k, f)
 
 pub add_packed : (s k : Core) (p n t : ℕ) (r : List ℕ) {x : Task} → Stands s → s.created < 31 → t ≡ s.created + 1 → x ≡ fresh p n → r ≡ pad (line s.ready ++ (t ∷ []))
     → k ≡ with_task s t x

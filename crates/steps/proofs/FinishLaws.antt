@@ -6,7 +6,7 @@ use mathlib.Core.List.{tail-eq_of_cons-eq}
 use lib.ListN.{length-map, get_or-eq_default}
 use Rattle.lists.proofs.LineLaws.{line_line, line_append, line_pad}
 use Rattle.lists.specs.Line.{line, pad, pad_to}
-use Rattle.lists.specs.Lists.{if◌then◌else◌, filter, count}
+use Rattle.lists.specs.Lists.{when◌then◌else◌, filter, count}
 use Rattle.lists.specs.Marks.{no_marks, mark_of, marked, with_mark}
 use Rattle.lists.proofs.MarkLaws.{filter_same, mark_in, marked_length}
 use Rattle.rules.specs.State.{State, move, running, waits_on, queue, holds, held_by, wake_all}
@@ -87,7 +87,7 @@ pub by_marks : List ℕ → List ℕ → ℕ → ℕ → List ℕ
 by_marks m l zero e = []
 by_marks m l (suc k) e = with_mark m e l ++ by_marks m l k (suc e)
 
-module _ (m l : List ℕ) (e : ℕ) (r n : List ℕ) (er : r ≡ pad (line r)) (en : n ≡ (if eqb (count e m) 0 then r else pad (line r ++ with_mark m e l))) (eq : line (with_mark m e l) ≡ with_mark m e l) (some : 0 < e) (low : e < 9) where
+module _ (m l : List ℕ) (e : ℕ) (r n : List ℕ) (er : r ≡ pad (line r)) (en : n ≡ (when eqb (count e m) 0 then r else pad (line r ++ with_mark m e l))) (eq : line (with_mark m e l) ≡ with_mark m e l) (some : 0 < e) (low : e < 9) where
   -- those with the mark e behind line r, also where there are none
   here : n ≡ pad (line r ++ with_mark m e l)
   here =

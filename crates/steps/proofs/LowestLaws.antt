@@ -1,7 +1,7 @@
 -- One pass that keeps the first caller of the lowest open entry finds the entry and the caller that SELECT takes.
 -- Assumes nothing.
 use Rattle.std.proofs.Common.{◌≡◌, ℕ, zero, suc, ◌+◌, ◌<◌, ◌≤◌, Bool, true, false, ◌&&◌, eqb, ltb, leb, List, [], ◌∷◌, length, sym, refl, ap, ◌∙◌, subst, arith, ltb-false, ltb-true, lt-ltb, eq-eqb, ne_eqb, eqb-true, le-leb}
-use Rattle.lists.specs.Lists.{if◌then◌else◌, filter, first}
+use Rattle.lists.specs.Lists.{when◌then◌else◌, filter, first}
 use Rattle.lists.proofs.MarkLaws.{filter_same}
 use Rattle.lists.proofs.ListLaws.{by_bool, by_eq}
 use Rattle.lists.proofs.Tests.{and_first, and_second}
@@ -68,13 +68,13 @@ filter_none [] = refl
 filter_none (c ∷ l) = filter_none l
 
 -- x: the caller is queued on the task; n: the entry that it has called
-call_is : (x : Bool) (o n e : ℕ) → 1 ≤ e → e ≤ 8 → eqb (if x && (ltb 0 n && leb n 8) && opens o n then n else 9) e ≡ (opens o e && (x && eqb n e))
+call_is : (x : Bool) (o n e : ℕ) → 1 ≤ e → e ≤ 8 → eqb (when x && (ltb 0 n && leb n 8) && opens o n then n else 9) e ≡ (opens o e && (x && eqb n e))
 call_is x o n e lo hi =
     by_bool (eqb n e)
     (λ q. rw (eqb-true n e q, lt-ltb 0 e lo, le-leb e 8 hi, eq-eqb e e refl) (go x (opens o e)))
     (λ q. by_bool (x && (ltb 0 n && leb n 8) && opens o n) (λ h. rw (h, q) (no (opens o e) x)) (λ h. rw (h, q, ne_eqb 9 e (λ z. omega arith)) (no (opens o e) x)))
   where
-    go : (x y : Bool) → eqb (if x && true && y then e else 9) e ≡ (y && (x && true))
+    go : (x y : Bool) → eqb (when x && true && y then e else 9) e ≡ (y && (x && true))
     go true true = eq-eqb e e refl
     go true false = ne_eqb 9 e (λ z. omega arith)
     go false true = ne_eqb 9 e (λ z. omega arith)
@@ -85,7 +85,7 @@ call_is x o n e lo hi =
     no true false = refl
     no false x = refl
 
-call_above : (x : Bool) (o n : ℕ) → (if x && (ltb 0 n && leb n 8) && opens o n then n else 9) ≡ 0 → ⊥
+call_above : (x : Bool) (o n : ℕ) → (when x && (ltb 0 n && leb n 8) && opens o n then n else 9) ≡ 0 → ⊥
 call_above x o n q =
     by_bool (x && (ltb 0 n && leb n 8) && opens o n)
     (λ h. omega (arith, rw h at q, ltb-true 0 n (and_first (ltb 0 n) (leb n 8) (and_second x (ltb 0 n && leb n 8) (and_first (x && (ltb 0 n && leb n 8)) (opens o n) h)))))
@@ -170,7 +170,7 @@ all_open (suc (suc (suc (suc (suc (suc (suc (suc (suc e))))))))) lo hi = absurd 
 
 -- ---- for the code: the test of one caller, and a turn of the pass
 
-pub open_call_is : (t o : ℕ) (p : Place) (e g : ℕ) (q i j : Bool) → e ≡ entry_of p → q ≡ is_queued p → g ≡ partner_of p → i ≡ (ltb 0 e && leb e 8) → j ≡ opens o e → (if q && eqb g t && i && j then e else 9) ≡ open_call t o p
+pub open_call_is : (t o : ℕ) (p : Place) (e g : ℕ) (q i j : Bool) → e ≡ entry_of p → q ≡ is_queued p → g ≡ partner_of p → i ≡ (ltb 0 e && leb e 8) → j ≡ opens o e → (when q && eqb g t && i && j then e else 9) ≡ open_call t o p
 open_call_is t o p e g q i j ee eq eg ei ej = rw (ei, ej, ee, eq, eg)
 
 pub lower_turn : (f : ℕ → ℕ) (b n : Caller) (c e : ℕ) (xs ys : List ℕ) → xs ≡ c ∷ ys → e ≡ f c → n ≡ lower_of b c e → lowest_of f b xs ≡ lowest_of f n ys

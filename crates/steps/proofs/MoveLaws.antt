@@ -4,9 +4,8 @@ use Rattle.std.proofs.Common.{◌≡◌, ℕ, zero, suc, ◌-◌, ◌<◌, ◌�
 use lib.Seq.{set-append_left}
 use Rattle.lists.proofs.LineLaws.{length_pad, line_picked}
 use Rattle.lists.specs.Line.{line, pad}
-use Rattle.lists.specs.Lists.{if◌then◌else◌, filter, to_head}
+use Rattle.lists.specs.Lists.{when◌then◌else◌, filter, to_head}
 use Rattle.rules.specs.State.{State, blank, set_nth, task_of, place_of, current_of, created, is_ready, kept_of, move, ranked, rank, higher, meeting, meet, part}
-use Rattle.rules.specs.Sound.{sound}
 use Rattle.rules.specs.Whole.{view_core, pack_core}
 use Rattle.rules.specs.declared.Task.{Task}
 use Rattle.rules.specs.declared.Core.{Core}
@@ -78,7 +77,7 @@ ranked_packed s t n h k =
       delays = (h.packs i).delays;
     }
   where
-    ready : (b : Bool) → ready_ranked s.ready t b ≡ pad (if b then to_head t (line s.ready) else line s.ready)
+    ready : (b : Bool) → ready_ranked s.ready t b ≡ pad (when b then to_head t (line s.ready) else line s.ready)
     ready true = refl
     ready false = ap (λ (r : Core). r.ready) h.packs
 

@@ -6,7 +6,7 @@ use Rattle.rules.specs.State.{State, task_of, move, running, after, queue, offer
 use Rattle.rules.specs.Step.{refused, took, NO_TASK, NO_ENTRY, item, WAITS, ACCEPTED, DELAY_TAKEN, ticks, open_entry, select_delay, select_none, select_at, select, take_call}
 use Rattle.rules.specs.declared.Place.TheVariants.{Accepting}
 use Rattle.rules.specs.declared.Timer.TheVariants.{Due}
-use Rattle.calls.specs.declared.Call.TheVariants.{Delay, Select}
+use Rattle.calls.specs.declared.Call.TheVariants.{Select}
 use Rattle.calls.specs.declared.SelectMode.{SelectMode}
 use Rattle.calls.specs.declared.SelectMode.TheVariants.{Plain, Else}
 use Rattle.rules.proofs.Members.{queued_there}

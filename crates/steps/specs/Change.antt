@@ -4,7 +4,7 @@ use Rattle.std.specs.Prelude.{ℕ, zero, suc, Bool, ◌&&◌, List, [], ◌∷�
 use Rattle.calls.specs.Record.{byte}
 use Rattle.calls.specs.declared.Call as C
 use Rattle.lists.specs.Line.{line, pad}
-use Rattle.lists.specs.Lists.{if◌then◌else◌}
+use Rattle.lists.specs.Lists.{when◌then◌else◌}
 use Rattle.lists.specs.Marks.{with_mark}
 use Rattle.rules.specs.Callers.{comes_by}
 use Rattle.rules.specs.Runs.{target}
@@ -31,8 +31,8 @@ comes_of c refusal result ended = refusal == 0 && comes_by c result ended
 
 -- the task whose queue it comes into, 0 where it comes into none
 abbrev pub joined_of : C.Call → ℕ → ℕ → ℕ → ℕ
-joined_of c refusal result ended = if comes_of c refusal result ended then target c else 0
+joined_of c refusal result ended = when comes_of c refusal result ended then target c else 0
 
 -- a line of callers after a step: those without a mark, and t behind them if it comes
 abbrev pub line_by : List ℕ → Bool → ℕ → List ℕ → List ℕ
-line_by m b t l = if b then pad (with_mark m 0 (line l) ++ (t ∷ [])) else pad (with_mark m 0 (line l))
+line_by m b t l = when b then pad (with_mark m 0 (line l) ++ (t ∷ [])) else pad (with_mark m 0 (line l))

@@ -3,7 +3,7 @@
 use Rattle.std.specs.Prelude.{◌≡◌, ℕ, ◌<◌, ◌≤◌, Bool, true, List, [], map, length}
 use Rattle.calls.specs.declared.Call as C
 use Rattle.lists.specs.Line.{line}
-use Rattle.lists.specs.Lists.{if◌then◌else◌, count}
+use Rattle.lists.specs.Lists.{when◌then◌else◌, count}
 use Rattle.rules.specs.Callers.{with_callers, callers_of, asks}
 use Rattle.rules.specs.State.{State, running, place_of, entry_of, partner_of, after, move, wake_all, set_clock, offer}
 use Rattle.rules.specs.Advance.{due_within}
@@ -71,7 +71,7 @@ passing s n e = took (set_clock (wake_all s (due_within s n)) (after s.clock n))
 
 -- why the wait of a task in place p ends: by FINISH of the called task, or by time
 abbrev pub reason_of : Bool → Place → ℕ
-reason_of b p = if b then TASKING_ERROR else expiry p
+reason_of b p = when b then TASKING_ERROR else expiry p
 
 -- the item of a wait that ends: task c waited in place p
 abbrev pub item_at : Bool → ℕ → Place → Item

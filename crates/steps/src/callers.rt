@@ -1,7 +1,7 @@
 // Who is queued on a task: the caller that SELECT takes, and all whom FINISH wakes.
 ghost use Rattle.std.specs.Prelude.{◌≡◌, ◌++◌, nat_eq};
 ghost use Rattle.lists.specs.Line.{line, pad};
-ghost use Rattle.lists.specs.Lists.{if◌then◌else◌, count};
+ghost use Rattle.lists.specs.Lists.{when◌then◌else◌, count};
 ghost use Rattle.lists.specs.Marks.{no_marks, marked, with_mark};
 ghost use Rattle.rules.specs.Step.{queued_on};
 ghost use Rattle.rules.specs.Whole.{view_core};
@@ -97,7 +97,7 @@ fn times(marks: [u8; 32], k: u8) -> u8
 
 // Line r, and behind it the callers with the mark of entry e. Where none has it, which is seen at once, the line is not walked.
 fn with_queue(r: [u8; 31], callers: [u8; 31], marks: [u8; 32], e: u8) -> [u8; 31]
-    ensures { result ≡ (if nat_eq (count e marks) 0 then r else pad (line r ++ with_mark marks e (line callers))) }
+    ensures { result ≡ (when nat_eq (count e marks) 0 then r else pad (line r ++ with_mark marks e (line callers))) }
 {
     if times(marks, e) == 0 {
         return r;

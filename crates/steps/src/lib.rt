@@ -1,5 +1,7 @@
 // The calls, on the core of a state: what both engines share. What a call needs to know of the callers, a line of those queued on the
 // running task, is handed in; what becomes of the callers is told by the answer and by the list of ended waits (`change`).
+#![tactic(auto)]
+
 mod advance;
 pub mod answers;
 mod call;

@@ -1,9 +1,8 @@
 -- The lines of the input.
 -- Assumes nothing.
-use Rattle.std.specs.Prelude.{◌≡◌, ℕ, ◌+◌, ◌-◌, Bool, true, false, cond, ◌&&◌, ◌||◌, List, length, ◌==◌, nat_lt}
-use Rattle.bytes.specs.Bytes.{indexOf, slice}
+use Rattle.std.specs.Prelude.{◌≡◌, ℕ, suc, ◌+◌, ◌-◌, Bool, true, false, cond, ◌&&◌, ◌||◌, List, [], ◌∷◌, length, ◌==◌, nat_lt}
 use Rattle.text.specs.Text.{number_after}
-use Rattle.stream.specs.Windows.{no_flow, moved_to, end_in, start_in, Grown}
+use Rattle.stream.specs.Windows.{no_flow, moved_to, end_in, start_in, unread_in, Grown}
 use Rattle.stream.specs.declared.line.Kind.{Kind}
 use Rattle.stream.specs.declared.line.Kind.TheVariants.{Line, Rest, Long, More, Over}
 use Rattle.stream.specs.declared.line.Lines.{Lines}
@@ -18,9 +17,14 @@ no_lines = record { flow = no_flow; number = 1; skips = false }
 abbrev pub kind_of : Bool → Bool → Bool → Bool → Kind
 kind_of whole skips last fills = cond whole (cond skips Rest Line) (cond last Over (cond fills Long More))
 
+-- how many stand in front of the first that is c: all of them where none is
+abbrev pub index_of : ℕ → List ℕ → ℕ
+index_of c [] = 0
+index_of c (x ∷ xs) = cond (x == c) 0 (suc (index_of c xs))
+
 -- where the line at the front of a window ends: before its line end, or with the window
 abbrev pub stop_in : Window → List ℕ → ℕ
-stop_in w b = start_in w b + indexOf 10 (slice (start_in w b) (end_in w b) b)
+stop_in w b = start_in w b + index_of 10 (unread_in w b)
 
 -- all of a line stands there: it has its line end, or it is the last one and not empty
 abbrev pub whole_in : Window → List ℕ → Bool

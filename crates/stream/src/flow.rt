@@ -27,11 +27,11 @@ pub fn begun() -> Flow
 }
 
 // Behind what was taken of the input up to `at`, with output up to `place`. It goes on where that can be written.
-pub fn passed(f: Flow, at: usize, place: usize, out: &[u8]) -> Flow
+pub fn passed<R: Print + Eprint>(rt: &R, f: Flow, at: usize, place: usize, out: &[u8]) -> Flow
     ensures { (result.window ≡ moved_to f.window at) × (result.waits ≡ waits_behind out.now place) }
 {
     let w = f.window;
-    let o = drained(out, place);
+    let o = drained(rt, out, place);
     let window = Window {
         at,
         end: w.end,
@@ -45,12 +45,12 @@ pub fn passed(f: Flow, at: usize, place: usize, out: &[u8]) -> Flow
 }
 
 // With more input. What waits is written first, for whoever feeds it line by line.
-pub fn fed(f: Flow, buf: &mut [u8], out: &[u8]) -> Flow
+pub fn fed<R: Input + Print + Eprint>(rt: &R, f: Flow, buf: &mut [u8], out: &[u8]) -> Flow
     ensures { Grown f.window buf.old result.window buf.new × (result.waits ≡ 0) }
 {
-    let o = flushed(out, f.waits);
+    let o = flushed(rt, out, f.waits);
     let w = f.window;
-    let window = refilled(w, buf);
+    let window = refilled(rt, w, buf);
     Flow {
         window,
         waits: o.waits,
@@ -59,10 +59,10 @@ pub fn fed(f: Flow, buf: &mut [u8], out: &[u8]) -> Flow
 }
 
 // At its end: what waits is written.
-pub fn done(f: Flow, out: &[u8]) -> Flow
+pub fn done<R: Print + Eprint>(rt: &R, f: Flow, out: &[u8]) -> Flow
     ensures { (result.window ≡ f.window) × (result.waits ≡ 0) × (result.goes ≡ false) }
 {
-    let o = flushed(out, f.waits);
+    let o = flushed(rt, out, f.waits);
     let window = f.window;
     Flow {
         window,

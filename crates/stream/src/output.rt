@@ -3,7 +3,6 @@
 ghost use Rattle.std.specs.Prelude.{◌≡◌, true, false};
 ghost use Rattle.stream.specs.Outputs.{is_full, waits_behind};
 
-use libc::{STDERR_FILENO, STDOUT_FILENO};
 use text::least;
 
 // The room that is kept free behind what waits. That it is enough for what stepper and replay print before they come back here is proved in logs.
@@ -17,33 +16,30 @@ pub struct Output {
 }
 
 // Tells that output is lost.
-fn tell_lost() {
-    io::write_all(
-        STDERR_FILENO,
-        b"standard output: cannot be written; the rest of the output is lost\n",
-    );
+fn tell_lost<R: Eprint>(rt: &R) {
+    let _ = eprintln!(rt; "standard output: cannot be written; the rest of the output is lost");
 }
 
 // Writes all that waits.
-pub fn flushed(out: &[u8], waits: usize) -> Output
+pub fn flushed<R: Print + Eprint>(rt: &R, out: &[u8], waits: usize) -> Output
     ensures { result.waits ≡ 0 }
 {
     let n = least(waits, out.len());
-    let writes = io::write_all(STDOUT_FILENO, &out[0..n]);
+    let writes = rt.write_all(&out[0..n]).is_ok();
     if !writes {
-        tell_lost();
+        tell_lost(rt);
     }
     Output { waits: 0, writes }
 }
 
 // Writes all that waits where there is little room behind it.
-pub fn drained(out: &[u8], waits: usize) -> Output
+pub fn drained<R: Print + Eprint>(rt: &R, out: &[u8], waits: usize) -> Output
     ensures waits_value { result.waits ≡ waits_behind out.now waits }
     ensures writes_value { is_full out.now waits ≡ false → result.writes ≡ true }
 {
     let n = least(waits, out.len());
     if out.len() - n < SPARE {
-        return flushed(out, n);
+        return flushed(rt, out, n);
     }
     Output {
         waits: n,

@@ -3,7 +3,7 @@
 ghost use Rattle.std.specs.Prelude.{◌≡◌, ◌-◌, ◌≤◌, length};
 ghost use Rattle.stream.specs.Windows.{no_window, shifted, Grown};
 
-use libc::{STDERR_FILENO, STDIN_FILENO};
+use std::io::Read;
 use text::least;
 
 // What stands in the buffer from `at` to `end`; `last` where no more bytes come.
@@ -40,27 +40,34 @@ fn shift(buf: &mut [u8], at: usize, end: usize) -> usize
     n
 }
 
-// Tells a read that failed.
-fn tell_failed(got: isize) {
-    if got < 0 {
-        io::write_all(
-            STDERR_FILENO,
-            b"standard input: cannot be read; it is taken to end here\n",
-        );
+// Tells that a read failed.
+fn tell_failed<R: Eprint>(rt: &R) {
+    let _ = eprintln!(rt; "standard input: cannot be read; it is taken to end here");
+}
+
+// Reads once, and answers how many bytes came. A read that fails brings none, and is told.
+fn read_some<R: Input + Eprint>(rt: &R, part: &mut [u8]) -> usize
+    ensures { result ≤ length part.new }
+{
+    let mut input = rt.reader();
+    match input.read(part) {
+        Ok(n) => n,
+        Err(_) => {
+            tell_failed(rt);
+            0
+        }
     }
 }
 
 // The window after one read more. A read that fails ends the input, and is told.
-pub fn refilled(w: Window, buf: &mut [u8]) -> Window
+pub fn refilled<R: Input + Eprint>(rt: &R, w: Window, buf: &mut [u8]) -> Window
     ensures { Grown w buf.old result buf.new }
 {
     let end = least(w.end, buf.len());
     let at = least(w.at, end);
     let n = shift(buf, at, end);
     let part = &mut buf[n..];
-    let got = libc::read(STDIN_FILENO, part);
-    let m = io::count(got, part);
-    tell_failed(got);
+    let m = read_some(rt, part);
     Window {
         at: 0,
         end: n + m,
@@ -69,20 +76,20 @@ pub fn refilled(w: Window, buf: &mut [u8]) -> Window
 }
 
 // The window with a whole head of eight bytes in it, where the input has one.
-pub fn headed(w: Window, buf: &mut [u8]) -> Window
+pub fn headed<R: Input + Eprint>(rt: &R, w: Window, buf: &mut [u8]) -> Window
     ensures { Grown w buf.old result buf.new }
 {
     let mut n = w;
     let mut i: usize = 0;
     while i < 8 {
-        n = topped(n, buf);
+        n = topped(rt, n, buf);
         i += 1;
     }
     n
 }
 
 // The window after one read more, where it has less than a head and more bytes may come.
-fn topped(w: Window, buf: &mut [u8]) -> Window
+fn topped<R: Input + Eprint>(rt: &R, w: Window, buf: &mut [u8]) -> Window
     ensures { Grown w buf.old result buf.new }
 {
     let end = least(w.end, buf.len());
@@ -93,5 +100,5 @@ fn topped(w: Window, buf: &mut [u8]) -> Window
     if 8 <= end - at {
         return w;
     }
-    refilled(w, buf)
+    refilled(rt, w, buf)
 }

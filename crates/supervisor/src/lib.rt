@@ -1,4 +1,6 @@
 // The first engine: an empty supervisor, its step, its questions. All callers stand in one line.
+#![tactic(auto)]
+
 ghost use Rattle.std.specs.Prelude.{length, ◌≡◌};
 ghost use Rattle.rules.specs.Questions.{count_whole, callable_whole, running_whole, priority_whole};
 ghost use Rattle.rules.specs.Step.{room_after};

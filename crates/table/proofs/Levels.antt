@@ -1,13 +1,13 @@
 -- One pass that keeps the first task of the highest priority finds the head of the highest ready queue.
 -- Assumes nothing.
-use Rattle.std.proofs.Common.{◌≡◌, ℕ, zero, suc, ◌-◌, ◌<◌, ◌≤◌, Bool, true, false, eqb, ltb, leb, List, [], ◌∷◌, length, get_or, take, sym, refl, ap, ◌∙◌, arith, ltb-false, ltb-true, le-ltb, lt-ltb, ne_eqb, eqb-true, le-leb, leb-false, leb-true}
+use Rattle.std.proofs.Common.{◌≡◌, ℕ, zero, suc, ◌-◌, ◌<◌, ◌≤◌, Bool, true, false, eqb, ltb, leb, List, [], ◌∷◌, length, get_or, take, sym, refl, ap, ◌∙◌, arith, ltb-false, ltb-true, le-ltb, ne_eqb, eqb-true, le-leb, leb-false, leb-true}
 use borrow.Author.Tests.{eqb-false, lt-leb}
-use Rattle.lists.specs.Lists.{if◌then◌else◌, filter}
+use Rattle.lists.specs.Lists.{when◌then◌else◌, filter}
 use Rattle.lists.proofs.ListLaws.{by_bool}
 use Rattle.rules.specs.State.{State, blank, nth, level, head_up_to, current_of, running}
 use Rattle.rules.specs.Whole.{view_core}
 use Rattle.rules.specs.declared.Core.{Core}
-use Rattle.table.specs.Best.{best_of, better_of, last_of, level_of}
+use Rattle.table.specs.Best.{best_of, better_of, last_of}
 use Rattle.table.proofs.LeafLaws.{task_in, task_past, task_out}
 use Rattle.table.specs.declared.dispatch.Best.{Best}
 use Rattle.rules.specs.declared.Task.{Task}
@@ -20,13 +20,13 @@ module _ (f : ℕ → ℕ) where
   -- the head of the highest of the levels m + 1 .. p that is not empty, d where there is none
   abbrev head_in : List ℕ → ℕ → ℕ → ℕ → ℕ
   head_in l m zero d = d
-  head_in l m (suc p) d = if leb (suc p) m then d else head_or (filter (λ t. eqb (f t) (suc p)) l) (head_in l m p d)
+  head_in l m (suc p) d = when leb (suc p) m then d else head_or (filter (λ t. eqb (f t) (suc p)) l) (head_in l m p d)
 
   none : (m p d : ℕ) → head_in [] m p d ≡ d
   none m zero d = refl
   none m (suc p) d = go (leb (suc p) m) (none m p d)
     where
-      go : (b : Bool) → head_in [] m p d ≡ d → (if b then d else head_in [] m p d) ≡ d
+      go : (b : Bool) → head_in [] m p d ≡ d → (when b then d else head_in [] m p d) ≡ d
       go true ih = refl
       go false ih = ih
 
@@ -36,8 +36,8 @@ module _ (f : ℕ → ℕ) where
     skip m (suc p) d h = go (leb (suc p) m) refl (skip m p d (λ q a b. h q a (omega arith)))
       where
         go : (b : Bool) → leb (suc p) m ≡ b → head_in (x ∷ l) m p d ≡ head_in l m p d
-            → (if b then d else head_or (filter (λ t. eqb (f t) (suc p)) (x ∷ l)) (head_in (x ∷ l) m p d))
-            ≡ (if b then d else head_or (filter (λ t. eqb (f t) (suc p)) l) (head_in l m p d))
+            → (when b then d else head_or (filter (λ t. eqb (f t) (suc p)) (x ∷ l)) (head_in (x ∷ l) m p d))
+            ≡ (when b then d else head_or (filter (λ t. eqb (f t) (suc p)) l) (head_in l m p d))
         go true e ih = refl
         go false e ih = rw (ne_eqb (f x) (suc p) (h (suc p) (leb-false (suc p) m e) (omega arith)), ih)
 
@@ -46,8 +46,8 @@ module _ (f : ℕ → ℕ) where
     hit m (suc p) d a b = rw (lt-leb (suc p) m (omega arith)) (go (eqb (f x) (suc p)) refl (λ c. hit m p d a c))
       where
         go : (t : Bool) → eqb (f x) (suc p) ≡ t → (f x ≤ p → head_in (x ∷ l) m p d ≡ head_in l (f x) p x)
-            → head_or (if t then x ∷ filter (λ t. eqb (f t) (suc p)) l else filter (λ t. eqb (f t) (suc p)) l) (head_in (x ∷ l) m p d)
-            ≡ (if leb (suc p) (f x) then x else head_or (filter (λ t. eqb (f t) (suc p)) l) (head_in l (f x) p x))
+            → head_or (when t then x ∷ filter (λ t. eqb (f t) (suc p)) l else filter (λ t. eqb (f t) (suc p)) l) (head_in (x ∷ l) m p d)
+            ≡ (when leb (suc p) (f x) then x else head_or (filter (λ t. eqb (f t) (suc p)) l) (head_in l (f x) p x))
         go true e ih = rw (le-leb (suc p) (f x) (omega (arith, eqb-true (f x) (suc p) e)))
         go false e ih =
             let ne : f x ≡ suc p → ⊥ = eqb-false (f x) (suc p) e in
@@ -77,13 +77,6 @@ unfolding running
 one_pass_running s = sym (one_pass (current_of s) s.ready (record { task = 0; priority = 0 }) ∙ from_zero s 15)
 
 -- ── one turn ──
-
-module _ (b : Best) (t p l : ℕ) (e : l ≡ level_of p) where
-  pub better_is : b.priority < l → record { task = t; priority = l } ≡ better_of b t p
-  better_is h = rw (sym e, lt-ltb b.priority l h)
-
-  pub better_not : l ≤ b.priority → b ≡ better_of b t p
-  better_not h = rw (sym e, le-ltb b.priority l h)
 
 pub last_low : (n : ℕ) → (last_of n ≤ n) × (last_of n ≤ 31)
 last_low n = by_bool (leb n 31) (λ e. rw e (omega arith, leb-true n 31 e)) (λ e. rw e (omega (arith, leb-false n 31 e), omega arith))

@@ -2,7 +2,7 @@
 -- Assumes nothing.
 use Rattle.std.specs.Prelude.{ℕ, Bool, ◌&&◌, List, [], ◌∷◌, ◌++◌, ◌==◌, nat_lt}
 use Rattle.lists.specs.Line.{line, pad}
-use Rattle.lists.specs.Lists.{if◌then◌else◌, rejoin, to_head}
+use Rattle.lists.specs.Lists.{when◌then◌else◌, rejoin, to_head}
 use Rattle.lists.specs.Marks.{no_marks, marked, with_mark}
 use Rattle.rules.specs.State.{State, set_nth, task_of, timer_of, is_ready, is_queued, is_held, ticks_left, retime, placed, partner_of, entry_of, meeting, place_of, current_of, ranked, kept_of, higher}
 use Rattle.rules.specs.declared.Place.TheVariants.{Ready, Held}
@@ -45,7 +45,7 @@ moved_of s t p w = record {
 
 -- what stands at the place of task t of n when f changes it, where k stood there; k where t is no task's number
 abbrev pub changed_task : (Task → Task) → ℕ → ℕ → Task → Task
-changed_task f n t k = if is_number t then f (shown_of n t k) else k
+changed_task f n t k = when is_number t then f (shown_of n t k) else k
 
 -- those of the list are ready, with no time, in the table; the lines stay
 abbrev pub readied_of : Core → List ℕ → Core
@@ -65,7 +65,7 @@ woken_of s l = record {
 
 -- the ready line when task t is lowered, or not
 abbrev pub ready_ranked : List ℕ → ℕ → Bool → List ℕ
-ready_ranked ready t lowered = if lowered then pad (to_head t (line ready)) else ready
+ready_ranked ready t lowered = when lowered then pad (to_head t (line ready)) else ready
 
 -- task t's current priority becomes n, in the struct
 unfoldable pub ranked_of : Core → ℕ → ℕ → Core

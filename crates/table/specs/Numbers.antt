@@ -1,7 +1,7 @@
 -- The numbers of tasks, and the places of the table.
 -- Assumes nothing.
 use Rattle.std.specs.Prelude.{ℕ, ◌-◌, Bool, ◌&&◌, nat_le, nat_lt}
-use Rattle.lists.specs.Lists.{if◌then◌else◌}
+use Rattle.lists.specs.Lists.{when◌then◌else◌}
 use Rattle.rules.specs.State.{blank}
 use Rattle.rules.specs.declared.Task.{Task}
 
@@ -11,8 +11,8 @@ is_number t = nat_lt 0 t && nat_le t 31
 
 -- where task t stands in the table; 0 where t is no task's number
 abbrev pub index_of : ℕ → ℕ
-index_of t = if is_number t then t - 1 else 0
+index_of t = when is_number t then t - 1 else 0
 
 -- of n tasks, task t, where k is what stands at its place
 abbrev pub shown_of : ℕ → ℕ → Task → Task
-shown_of n t k = if is_number t && nat_le t n then k else blank
+shown_of n t k = when is_number t && nat_le t n then k else blank

@@ -1,14 +1,15 @@
--- The kit's digits of a number are its decimal text, and how many they are at most.
+-- The decimal text of a number, digit by digit, and how many digits it has at most.
 -- Assumes nothing.
 use Prim.Native.Nat.{ℕ, zero, suc, ◌+◌, ◌-◌, ◌*◌, ◌/◌, ◌%◌, ◌^◌, ◌<◌, ◌≤◌}
 use mathlib.Core.Path.{◌≡◌, refl, sym, ap, subst, ◌∙◌}
 use mathlib.Core.List.{List, [], ◌∷◌, ◌++◌}
 use native.Mathlib.Omega.{arith}
-use native.Mathlib.Nat.{pow-suc, pow-zero, one-le-pow}
+use native.Mathlib.Nat.{pow-suc, pow-zero}
 use lib.Dec.{ltb}
-use lib.ListN.{length, length-append}
+use lib.ListN.{length, length-append, drop, set}
+use Rattle.std.proofs.Common.{append_assoc}
+use Rattle.std.proofs.lemmas.List.{drop-set}
 use borrow.Author.Tests.{lt-ltb, le-ltb, ltb-true, ltb-false}
-use Rattle.io.specs.Digits.{hex_digit_ascii, last_digits, IsDigitCount}
 use Rattle.lists.proofs.ListLaws.{by_bool}
 use Rattle.text.specs.Text.{spelled, decimal}
 
@@ -36,29 +37,29 @@ unfolding decimal
 decimal_large n h =
     ap (λ (l : List ℕ). l ++ ((48 + n % 10) ∷ [])) (enough (suc (n / 10)) n (n / 10) (omega arith) (omega arith)) ∙ sym (large n n h)
 
-glyph_digit : (n : ℕ) → hex_digit_ascii (n % 10) ≡ 48 + n % 10
-glyph_digit n = rw (lt-ltb (n % 10) 10 (omega arith)) refl
+-- a digit more in front of those that stand behind place i
+pub digit_on : (n r i d : ℕ) (row : List ℕ) → i < length row → 10 ≤ r → d ≡ 48 + r % 10 → decimal n ≡ decimal r ++ drop (i + 1) row
+    → decimal n ≡ decimal (r / 10) ++ drop i (set row i d)
+digit_on n r i d row h g e f =
+    let s : drop i (set row i d) ≡ (48 + r % 10) ∷ drop (i + 1) row = rw (← e) (drop-set row i d h) in
+    rw (f, s, ← decimal_large r g) (append_assoc (decimal (r / 10)) ((48 + r % 10) ∷ []) (drop (i + 1) row))
 
--- the kit's digits, as many as the number takes
-pub digits_decimal : (k n : ℕ) → IsDigitCount 10 1 n k → last_digits 10 k n ≡ decimal n
-digits_decimal zero n f = absurd (omega (arith, f.0))
-digits_decimal (suc zero) n f =
-    let h : n < 10 = subst (λ (p : ℕ). n < p) (pow-suc 10 0 ∙ ap (λ (p : ℕ). p * 10) (pow-zero 10)) f.1 in
-    let e : n % 10 ≡ n = omega arith in
-    ap (λ (d : ℕ). d ∷ []) (glyph_digit n ∙ ap (λ (d : ℕ). 48 + d) e) ∙ decimal_small n h
-digits_decimal (suc (suc k)) n f =
-    let p = 10 ^ k in
-    let q = 10 ^ (suc k) in
-    let pq : q ≡ p * 10 = pow-suc 10 k in
-    let one : 1 ≤ p = one-le-pow k 10 (omega arith) in
-    let h : n < q * 10 = subst (λ (x : ℕ). n < x) (pow-suc 10 (suc k)) f.1 in
-    let j : suc (suc k) - 1 ≡ suc k = omega arith in
-    let g : q ≤ n = subst (λ (x : ℕ). 10 ^ x ≤ n) j (f.2 (omega arith)) in
-    let i : suc k - 1 ≡ k = omega arith in
-    let few : IsDigitCount 10 1 (n / 10) (suc k) = (omega arith, omega arith, λ _. subst (λ (x : ℕ). 10 ^ x ≤ n / 10) (sym i) (omega arith)) in
-    ap (λ (l : List ℕ). l ++ (hex_digit_ascii (n % 10) ∷ [])) (digits_decimal (suc k) (n / 10) few)
-    ∙ ap (λ (d : ℕ). decimal (n / 10) ++ (d ∷ [])) (glyph_digit n)
-    ∙ decimal_large n (omega arith)
+-- the first digit
+pub digit_first : (n r i d : ℕ) (row : List ℕ) → i < length row → r < 10 → d ≡ 48 + r → decimal n ≡ decimal r ++ drop (i + 1) row
+    → drop i (set row i d) ≡ decimal n
+digit_first n r i d row h g e f =
+    let s : drop i (set row i d) ≡ (48 + r) ∷ drop (i + 1) row = rw (← e) (drop-set row i d h) in
+    rw (f, s, ← decimal_small r g) refl
+
+-- where a number still has two digits there is a place in front, and the number without its last digit has one digit less
+pub digit_room : (r i : ℕ) → 10 ≤ r → r < 10 ^ (i + 1) → (1 ≤ i) × (r / 10 < 10 ^ (i - 1 + 1))
+digit_room r zero h g = let z : r < 10 = subst (λ (p : ℕ). r < p) (pow-suc 10 0 ∙ ap (λ (p : ℕ). p * 10) (pow-zero 10)) g in absurd (omega arith)
+digit_room r (suc i) h g =
+    let p = 10 ^ (suc i) in
+    let e : suc i + 1 ≡ suc (suc i) = omega arith in
+    let z : r < p * 10 = subst (λ (x : ℕ). r < x) (ap (λ (k : ℕ). 10 ^ k) e ∙ pow-suc 10 (suc i)) g in
+    let k : suc i - 1 + 1 ≡ suc i = omega arith in
+    (omega arith, subst (λ (k : ℕ). r / 10 < 10 ^ k) (sym k) (omega arith))
 
 one_more : (l : List ℕ) (x d n : ℕ) → ((d : ℕ) → 0 < d → n / 10 < 10 ^ d → length l ≤ d) → 10 ≤ n → n < 10 ^ d → length (l ++ (x ∷ [])) ≤ d
 one_more l x zero n ih g h = let z : n < 1 = subst (λ (p : ℕ). n < p) (pow-zero 10) h in absurd (omega arith)

@@ -1,6 +1,8 @@
 // Text in lent room: bytes and decimal numbers, each put from a place on, with the place behind it as the answer.
 // Room that is too short cuts the text off: no byte behind the room, and no refusal.
-ghost use Rattle.std.specs.Prelude.{min, ◌≡◌, [], ◌∷◌};
+#![tactic(auto)]
+
+ghost use Rattle.std.specs.Prelude.{min, ◌≡◌, ◌≤◌, [], ◌∷◌, drop};
 ghost use Rattle.text.specs.Text.{Put, decimal};
 
 // One byte.
@@ -34,11 +36,27 @@ pub fn put_bytes(text: &[u8], out: &mut [u8], at: usize) -> usize
     place
 }
 
+// The digits of a number in decimal, at the end of a row; the answer is the place of the first.
+fn digits(n: u64, row: &mut [u8; 20]) -> usize
+    ensures within { result ≤ 20 }
+    ensures value { drop result row.new ≡ decimal n }
+{
+    let mut i = 19;
+    let mut rest = n;
+    while 10 <= rest {
+        row[i] = b'0' + (rest % 10) as u8;
+        rest /= 10;
+        i -= 1;
+    }
+    row[i] = b'0' + rest as u8;
+    i
+}
+
 // A number in decimal.
 pub fn put_number(n: u64, out: &mut [u8], at: usize) -> usize
     ensures { Put out.old at (decimal n) out.new result }
 {
-    let mut digits = [0u8; 20];
-    let k = io::decimal(n, &mut digits);
-    put_bytes(&digits[..k], out, at)
+    let mut row = [0u8; 20];
+    let from = digits(n, &mut row);
+    put_bytes(&row[from..], out, at)
 }

@@ -5,7 +5,7 @@ use Rattle.workspace.specs.declared.Stretch.{Stretch}
 use Rattle.workspace.specs.declared.Used.{Used}
 use Rattle.workspace.specs.declared.Look.{Look}
 use Rattle.workspace.specs.declared.Done.{Done}
-use Rattle.lists.specs.Lists.{if◌then◌else◌, bit}
+use Rattle.lists.specs.Lists.{when◌then◌else◌, bit}
 use Rattle.workspace.specs.Rules.{units, stretch, none, end, has_places, rules_kept}
 use Rattle.workspace.specs.Operations.{placed, fits, fit_start, cut, starts_at, length_at, without, joined, Outcome, refused, took, fresh_of, request_of, release_of, blocks_after, free_after, answer_of, unused}
 use Rattle.workspace.specs.declared.Test.TheVariants.{StartsAt, StartsBehind, HasUnits}
@@ -115,8 +115,8 @@ module _ (b f : List Stretch) (u : Used) (s : Stands b f u) where
 
     free_then : cut_at (place_of (passes_of HasUnits n) f) n (table_of f).places ≡ pad 32 (cut n fl)
     free_then =
-        (λ i. if ltb n (there i).length then set (free_seen_lem b f u s i) (found i) (stretch (((there i).start + n) % 4294967296) ((there i).length - n)) else remove_at (found i) (free_seen_lem b f u s i))
-        ∙ ap (λ (a : ℕ). if ltb n x.length then set (pad 32 fl) p (stretch a (x.length - n)) else remove_at p (pad 32 fl)) sum_fits ∙ pad_cut 32 n fl (at_most_32 b f u s) e
+        (λ i. when ltb n (there i).length then set (free_seen_lem b f u s i) (found i) (stretch (((there i).start + n) % 4294967296) ((there i).length - n)) else remove_at (found i) (free_seen_lem b f u s i))
+        ∙ ap (λ (a : ℕ). when ltb n x.length then set (pad 32 fl) p (stretch a (x.length - n)) else remove_at p (pad 32 fl)) sum_fits ∙ pad_cut 32 n fl (at_most_32 b f u s) e
 
     blocks_count : u.blocks + 1 ≡ length (placed block bl)
     blocks_count = let c : length bl ≡ u.blocks = count_blocks b f u s in let k : length (placed block bl) ≡ length bl + 1 = placed_length block bl in omega (arith, c, k)

@@ -5,7 +5,7 @@ use mathlib.Core.Bool.{and-true, and-false}
 use borrow.Author.Tests.{eqb-false, not-true}
 use Rattle.workspace.specs.declared.Stretch.{Stretch}
 use Rattle.workspace.specs.declared.Reach.{Reach}
-use Rattle.lists.specs.Lists.{if◌then◌else◌}
+use Rattle.lists.specs.Lists.{when◌then◌else◌}
 use Rattle.workspace.specs.Rules.{units, stretch, none}
 use Rattle.workspace.specs.Check.{begins_at, begins, ends, first, rest, tiled, reach_of}
 use Rattle.workspace.proofs.Pieces.{Piece, taken, spare, blocks_from, free_from, measure, Good, Sound, Within, blocks_within}
@@ -126,8 +126,8 @@ rest_there i l = rw add-one (rest_suc i l)
 -- one turn of the check, at the places reached
 abbrev Turn : ℕ → Reach → List Stretch → List Stretch → Stretch → Stretch → Bool
 Turn k t bs fs x y =
-    if begins_at t.at x then tiled k false (t.at + x.length) (drop (t.i + 1) bs) (drop t.j fs)
-    else (if not t.after && begins_at t.at y then tiled k true (t.at + y.length) (drop t.i bs) (drop (t.j + 1) fs)
+    when begins_at t.at x then tiled k false (t.at + x.length) (drop (t.i + 1) bs) (drop t.j fs)
+    else (when not t.after && begins_at t.at y then tiled k true (t.at + y.length) (drop t.i bs) (drop (t.j + 1) fs)
     else ends t.at (drop t.i bs) (drop t.j fs))
 
 abbrev pub Rest : ℕ → Reach → List Stretch → List Stretch → Bool
@@ -135,8 +135,8 @@ Rest k t bs fs = tiled k t.after t.at (drop t.i bs) (drop t.j fs)
 
 turn : (k : ℕ) (t : Reach) (bs fs : List Stretch) → Rest (suc k) t bs fs ≡ Turn k t bs fs (get_or bs t.i none) (get_or fs t.j none)
 turn k t bs fs = λ s.
-    if begins_there t.at t.i bs s then tiled k false (t.at + first_there t.i bs s) (rest_there t.i bs s) (drop t.j fs)
-    else (if not t.after && begins_there t.at t.j fs s then tiled k true (t.at + first_there t.j fs s) (drop t.i bs) (rest_there t.j fs s)
+    when begins_there t.at t.i bs s then tiled k false (t.at + first_there t.i bs s) (rest_there t.i bs s) (drop t.j fs)
+    else (when not t.after && begins_there t.at t.j fs s then tiled k true (t.at + first_there t.j fs s) (drop t.i bs) (rest_there t.j fs s)
     else ends t.at (drop t.i bs) (drop t.j fs))
 
 pub goes_on : (k : ℕ) (t : Reach) (bs fs : List Stretch) → (reach_of t (get_or bs t.i none) (get_or fs t.j none)).stuck ≡ false

@@ -2,7 +2,7 @@
 -- Assumes nothing.
 use Rattle.std.proofs.Common.{◌≡◌, ℕ, ◌+◌, ◌<◌, ◌≤◌, Bool, true, false, eqb, List, [], ◌∷◌, sym, refl, ap, ◌∙◌, subst, true≢false, arith, le-ltb, lt-ltb, eq-eqb, ne_eqb, eqb-true}
 use Rattle.workspace.specs.declared.Stretch.{Stretch}
-use Rattle.lists.specs.Lists.{if◌then◌else◌}
+use Rattle.lists.specs.Lists.{when◌then◌else◌}
 use Rattle.workspace.specs.Rules.{stretch, end}
 use Rattle.workspace.specs.Operations.{starts_at, length_at, without, joined}
 use Rattle.lists.proofs.Tests.{no}
@@ -12,7 +12,7 @@ use Rattle.workspace.proofs.Pieces.{Piece, taken, spare, blocks_from, free_from,
 -- ---- a release: the piece that starts at c becomes free, and free neighbours are joined
 pub flipped : ℕ → ℕ → List Piece → List Piece
 flipped c a [] = []
-flipped c a (taken n ∷ ps) = if eqb a c then spare n ∷ ps else taken n ∷ flipped c (a + n) ps
+flipped c a (taken n ∷ ps) = when eqb a c then spare n ∷ ps else taken n ∷ flipped c (a + n) ps
 flipped c a (spare n ∷ ps) = spare n ∷ flipped c (a + n) ps
 
 ahead : ℕ → List Piece → List Piece

@@ -6,7 +6,7 @@ use lib.ListN.{length-replicate}
 use lib.Seq.{take-append_seam, drop-append_seam}
 use borrow.Author.Tests.{lt-leb}
 use Rattle.workspace.specs.declared.Stretch.{Stretch}
-use Rattle.lists.specs.Lists.{if◌then◌else◌, every}
+use Rattle.lists.specs.Lists.{when◌then◌else◌, every}
 use Rattle.workspace.specs.Rules.{units, stretch, none, is_none, end, is_kept, has_places}
 use Rattle.workspace.specs.Operations.{placed, fits, is_short, fit_start, cut, starts_at, length_at, without, joined, refused, took, fresh_of, request_of, release_of, table_after, BAD_STATE}
 use Rattle.workspace.specs.Runs.{Area, is_sound, Op, request, release, outcome_of, after, step_of, run_of, fresh_area, refusal_of, value_of, releases_all}
@@ -160,7 +160,7 @@ module _ (a : Area) (e : is_sound a ≡ true) (b : Stretch) (ls : List Stretch) 
   first_released : outcome_of a (release b.start) ≡ took b.length ls (joined (stretch b.start b.length) (fl a e))
   unfolding release_of
   first_released =
-      rw e ((λ i. if starts_at b.start (w i) then took (length_at b.start (w i)) (without b.start (w i)) (joined (stretch b.start (length_at b.start (w i))) (fl a e)) else refused 16) ∙ rw (eq-eqb b.start b.start refl) refl)
+      rw e ((λ i. when starts_at b.start (w i) then took (length_at b.start (w i)) (without b.start (w i)) (joined (stretch b.start (length_at b.start (w i))) (fl a e)) else refused 16) ∙ rw (eq-eqb b.start b.start refl) refl)
 
   others_left : take (step_of a (release b.start)).used.blocks (step_of a (release b.start)).blocks ≡ ls
   others_left = (λ i. take (after a (first_released i)).used.blocks (after a (first_released i)).blocks) ∙ take-append_seam ls (replicate (length a.blocks - length ls) none)

@@ -6,7 +6,7 @@ use lib.Seq.{drop-nil}
 use Rattle.workspace.specs.declared.Stretch.{Stretch}
 use Rattle.lists.proofs.ListLaws.{by_bool}
 use Rattle.lists.proofs.Turns.{rest_cons}
-use Rattle.lists.specs.Lists.{if◌then◌else◌, every}
+use Rattle.lists.specs.Lists.{when◌then◌else◌, every}
 use Rattle.lists.specs.Over.{over}
 use Rattle.lists.proofs.OverLaws.{over_nil, over_next, over_laid}
 use Rattle.workspace.specs.Rules.{none, is_none}
@@ -120,10 +120,10 @@ insert_behind p x l i h k = rw add-one (insert_suc p x l i h (let m : suc i < le
 
 -- ---- a loop that looks at one place after another
 place_on : (p : Stretch → Bool) (l : List Stretch) (i : ℕ) (x : Stretch) (b : Bool) → i < length l → x ≡ get_or l i none → b ≡ p x → b ≡ false → place_of p (drop i l) ≡ suc (place_of p (drop (i + 1) l))
-place_on p l i x b h ex eb e = ap (place_of p) (rest_cons l i none h) ∙ ap (λ (c : Bool). if c then 0 else suc (place_of p (drop (i + 1) l))) (ap p (sym ex) ∙ sym eb ∙ e)
+place_on p l i x b h ex eb e = ap (place_of p) (rest_cons l i none h) ∙ ap (λ (c : Bool). when c then 0 else suc (place_of p (drop (i + 1) l))) (ap p (sym ex) ∙ sym eb ∙ e)
 
 place_here : (p : Stretch → Bool) (l : List Stretch) (i : ℕ) (x : Stretch) (b : Bool) → i < length l → x ≡ get_or l i none → b ≡ p x → b ≡ true → place_of p (drop i l) ≡ 0
-place_here p l i x b h ex eb e = ap (place_of p) (rest_cons l i none h) ∙ ap (λ (c : Bool). if c then 0 else suc (place_of p (drop (i + 1) l))) (ap p (sym ex) ∙ sym eb ∙ e)
+place_here p l i x b h ex eb e = ap (place_of p) (rest_cons l i none h) ∙ ap (λ (c : Bool). when c then 0 else suc (place_of p (drop (i + 1) l))) (ap p (sym ex) ∙ sym eb ∙ e)
 
 place_end : (p : Stretch → Bool) (l : List Stretch) (i : ℕ) → length l ≤ i → place_of p (drop i l) ≡ 0
 place_end p l i h = ap (place_of p) (drop_of_length-le l h)

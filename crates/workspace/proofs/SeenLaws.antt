@@ -4,7 +4,7 @@ use Rattle.std.proofs.Common.{◌≡◌, ℕ, zero, suc, ◌+◌, ◌-◌, ◌<�
 use lib.ListN.{length-replicate}
 use Rattle.workspace.specs.declared.Stretch.{Stretch}
 use Rattle.workspace.specs.declared.Table.{Table}
-use Rattle.lists.specs.Lists.{if◌then◌else◌}
+use Rattle.lists.specs.Lists.{when◌then◌else◌}
 use Rattle.workspace.specs.Rules.{none, is_none}
 use Rattle.workspace.specs.Operations.{table_after}
 use Rattle.lists.specs.Over.{over}
@@ -40,13 +40,13 @@ over_rest (x ∷ xs) (y ∷ ys) (suc i) = over_rest xs ys i
 
 -- what lies below the 32 places
 abbrev pub under : Bool → List Stretch → List Stretch
-under clear l = if clear then replicate (length l) none else l
+under clear l = when clear then replicate (length l) none else l
 
 pub under_length : (clear : Bool) (l : List Stretch) → length (under clear l) ≡ length l
 under_length true l = length-replicate (length l) none
 under_length false l = refl
 
-under_at : (clear : Bool) (l : List Stretch) (i : ℕ) → get_or (under clear l) i none ≡ (if clear then none else get_or l i none)
+under_at : (clear : Bool) (l : List Stretch) (i : ℕ) → get_or (under clear l) i none ≡ (when clear then none else get_or l i none)
 under_at true l i = replicate_at (length l) i
 under_at false l i = refl
 

@@ -2,7 +2,7 @@
 -- Assumes nothing.
 use Rattle.std.proofs.Common.{◌≡◌, ℕ, zero, suc, ◌+◌, ◌-◌, ◌%◌, ◌<◌, ◌≤◌, Bool, true, false, ◌&&◌, eqb, ltb, leb, List, [], ◌∷◌, get_or, take, drop, set, sym, refl, ap, ◌∙◌, zero-le, arith, ltb-true, le-ltb, lt-ltb, ne_eqb, leb-true}
 use mir.Val.{bool_byte}
-use Rattle.lists.specs.Lists.{if◌then◌else◌, bit, every}
+use Rattle.lists.specs.Lists.{when◌then◌else◌, bit, every}
 use Rattle.lists.proofs.Tests.{no, each, and_first, byte_bit}
 use Rattle.lists.proofs.ListLaws.{by_bool}
 use Rattle.workspace.specs.declared.Stretch.{Stretch}
@@ -60,13 +60,13 @@ granted_may s u n {kept = true} ek er o =
 
 pub cut_part : (l : List Stretch) (p n : ℕ) {f : Stretch} {start : ℕ} {r : List Stretch} → f ≡ get_or l p none → start ≡ (f.start + n) % 4294967296 → r ≡ set l p (stretch start (f.length - n)) → n < f.length → r ≡ cut_at p n l
 cut_part l p n {f = f} ef es er h =
-    er ∙ (λ i. set l p (stretch (es i) (f.length - n))) ∙ (λ i. if sym (lt-ltb n f.length h) i then set l p (stretch ((f.start + n) % 4294967296) (f.length - n)) else remove_at p l)
-    ∙ (λ i. if ltb n (ef i).length then set l p (stretch (((ef i).start + n) % 4294967296) ((ef i).length - n)) else remove_at p l)
+    er ∙ (λ i. set l p (stretch (es i) (f.length - n))) ∙ (λ i. when sym (lt-ltb n f.length h) i then set l p (stretch ((f.start + n) % 4294967296) (f.length - n)) else remove_at p l)
+    ∙ (λ i. when ltb n (ef i).length then set l p (stretch (((ef i).start + n) % 4294967296) ((ef i).length - n)) else remove_at p l)
 
 pub cut_whole : (l : List Stretch) (p n : ℕ) {f : Stretch} {r : List Stretch} → f ≡ get_or l p none → r ≡ remove_at p l → f.length ≤ n → r ≡ cut_at p n l
 cut_whole l p n {f = f} ef er h =
-    er ∙ (λ i. if sym (le-ltb n f.length h) i then set l p (stretch ((f.start + n) % 4294967296) (f.length - n)) else remove_at p l)
-    ∙ (λ i. if ltb n (ef i).length then set l p (stretch (((ef i).start + n) % 4294967296) ((ef i).length - n)) else remove_at p l)
+    er ∙ (λ i. when sym (le-ltb n f.length h) i then set l p (stretch ((f.start + n) % 4294967296) (f.length - n)) else remove_at p l)
+    ∙ (λ i. when ltb n (ef i).length then set l p (stretch (((ef i).start + n) % 4294967296) ((ef i).length - n)) else remove_at p l)
 
 pub grant_law : (s : Look) (u : Used) (n : ℕ) {f : Stretch} {k : ℕ} {bs fs : List Stretch} {r : Done}
     → f ≡ get_or s.free s.place none → k ≡ place_of (passes_of StartsBehind f.start) (take u.blocks s.blocks) → bs ≡ insert_at k (stretch f.start n) s.blocks
@@ -94,7 +94,7 @@ pub low_law : (b : Stretch) (k : ℕ) (l : List Stretch) {j : ℕ} {x : Stretch}
 low_law b k l ej ex = (λ i. ltb 0 k && eqb (end (ex i)) b.start) ∙ (λ i. ltb 0 k && eqb (end (get_or l (ej i) none)) b.start)
 
 pub whole_law : (low high : Bool) (b : Stretch) (k : ℕ) (l : List Stretch) {j : ℕ} {x y : Stretch} {start ahead behind front length : ℕ}
-    → j ≡ k - 1 → x ≡ get_or l j none → y ≡ get_or l k none → start ≡ (if low then x.start else b.start) → ahead ≡ (if low then x.length else 0) → behind ≡ (if high then y.length else 0)
+    → j ≡ k - 1 → x ≡ get_or l j none → y ≡ get_or l k none → start ≡ (when low then x.start else b.start) → ahead ≡ (when low then x.length else 0) → behind ≡ (when high then y.length else 0)
     → front ≡ (ahead + b.length) % 4294967296 → length ≡ (front + behind) % 4294967296 → stretch start length ≡ whole_at low high b k l
 whole_law low high b k l ej ex ey es ea eb ef e =
     let xx = ex ∙ (λ i. get_or l (ej i) none) in
@@ -103,11 +103,11 @@ whole_law low high b k l ej ex ey es ea eb ef e =
     (λ i. stretch (es i) (ee i)) ∙ (λ i. whole_as low high (xx i) (ey i) b)
 
 pub give_low : (high : Bool) (b : Stretch) (k : ℕ) (l : List Stretch) {w : Stretch} {j : ℕ} {rest r : List Stretch} {low : Bool}
-    → w ≡ whole_at low high b k l → rest ≡ (if high then remove_at k l else l) → j ≡ k - 1 → r ≡ set rest j w → low ≡ true → r ≡ give_at low high b k l
+    → w ≡ whole_at low high b k l → rest ≡ (when high then remove_at k l else l) → j ≡ k - 1 → r ≡ set rest j w → low ≡ true → r ≡ give_at low high b k l
 give_low high b k l ew er ej e el = e ∙ (λ i. set (er i) (ej i) (ew i)) ∙ rw el refl
 
 pub give_lone : (high : Bool) (b : Stretch) (k : ℕ) (l : List Stretch) {w : Stretch} {rest r : List Stretch} {low : Bool}
-    → w ≡ whole_at low high b k l → rest ≡ (if high then remove_at k l else l) → r ≡ insert_at k w rest → low ≡ false → r ≡ give_at low high b k l
+    → w ≡ whole_at low high b k l → rest ≡ (when high then remove_at k l else l) → r ≡ insert_at k w rest → low ≡ false → r ≡ give_at low high b k l
 give_lone high b k l ew er e el = e ∙ (λ i. insert_at k (ew i) (er i)) ∙ rw el refl
 
 -- a place is found among those used, or behind them

@@ -3,7 +3,7 @@
 use Rattle.std.proofs.Common.{◌≡◌, ℕ, ◌+◌, ◌-◌, ◌<◌, ◌≤◌, Bool, true, false, eqb, leb, List, [], ◌∷◌, sym, refl, ap, ◌∙◌, subst, true≢false, le_refl, lt_of_lt_of_le, eq-or-lt_of_le, arith, le-ltb, lt-ltb, eqb-true, leb-true}
 use borrow.Author.Tests.{eqb-false}
 use Rattle.workspace.specs.declared.Stretch.{Stretch}
-use Rattle.lists.specs.Lists.{if◌then◌else◌}
+use Rattle.lists.specs.Lists.{when◌then◌else◌}
 use Rattle.workspace.specs.Rules.{stretch}
 use Rattle.workspace.specs.Operations.{placed, fits, fit_start, cut}
 use Rattle.lists.proofs.Tests.{ways}
@@ -14,7 +14,7 @@ use Rattle.workspace.proofs.Pieces.{Piece, taken, spare, blocks_from, free_from,
 pub given : ℕ → List Piece → List Piece
 given n [] = []
 given n (taken m ∷ ps) = taken m ∷ given n ps
-given n (spare m ∷ ps) = if leb n m then (if eqb n m then taken n ∷ ps else taken n ∷ spare (m - n) ∷ ps) else spare m ∷ given n ps
+given n (spare m ∷ ps) = when leb n m then (when eqb n m then taken n ∷ ps else taken n ∷ spare (m - n) ∷ ps) else spare m ∷ given n ps
 
 pub given_free : (n a : ℕ) (ps : List Piece) → free_from a (given n ps) ≡ cut n (free_from a ps)
 unfolding given

@@ -2,7 +2,7 @@
 use Rattle.std.specs.Prelude.{ℕ, zero, suc, ◌+◌, Bool, true, false, not, ◌&&◌, List, [], ◌∷◌, ◌==◌, nat_lt}
 use Rattle.workspace.specs.declared.Stretch.{Stretch}
 use Rattle.workspace.specs.declared.Reach.{Reach}
-use Rattle.lists.specs.Lists.{if◌then◌else◌}
+use Rattle.lists.specs.Lists.{when◌then◌else◌}
 use Rattle.workspace.specs.Rules.{units}
 
 -- a stretch begins at a, and is not empty
@@ -34,13 +34,13 @@ rest (s ∷ ss) = ss
 abbrev pub tiled : ℕ → Bool → ℕ → List Stretch → List Stretch → Bool
 tiled zero after a bs fs = false
 tiled (suc k) after a bs fs =
-    if begins a bs then tiled k false (a + first bs) (rest bs) fs
-    else (if not after && begins a fs then tiled k true (a + first fs) bs (rest fs)
+    when begins a bs then tiled k false (a + first bs) (rest bs) fs
+    else (when not after && begins a fs then tiled k true (a + first fs) bs (rest fs)
     else ends a bs fs)
 
 -- one stretch further, x in the table of blocks or y in the table of free stretches
 abbrev pub reach_of : Reach → Stretch → Stretch → Reach
 reach_of t x y =
-    if begins_at t.at x then record { at = t.at + x.length; i = t.i + 1; j = t.j; after = false; stuck = false }
-    else (if not t.after && begins_at t.at y then record { at = t.at + y.length; i = t.i; j = t.j + 1; after = true; stuck = false }
+    when begins_at t.at x then record { at = t.at + x.length; i = t.i + 1; j = t.j; after = false; stuck = false }
+    else (when not t.after && begins_at t.at y then record { at = t.at + y.length; i = t.i; j = t.j + 1; after = true; stuck = false }
     else record { at = t.at; i = t.i; j = t.j; after = t.after; stuck = true })

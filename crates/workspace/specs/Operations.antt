@@ -3,18 +3,18 @@ use Rattle.std.specs.Prelude.{ℕ, ◌+◌, ◌-◌, Bool, true, false, ◌&&◌
 use Rattle.workspace.specs.declared.Stretch.{Stretch}
 use Rattle.workspace.specs.declared.Used.{Used}
 use Rattle.workspace.specs.declared.Answer.{Answer}
-use Rattle.lists.specs.Lists.{if◌then◌else◌}
+use Rattle.lists.specs.Lists.{when◌then◌else◌}
 use Rattle.workspace.specs.Rules.{units, stretch, none, end, has_places, rules_kept}
 
 -- a stretch put in its place in address order
 abbrev pub placed : Stretch → List Stretch → List Stretch
 placed b [] = b ∷ []
-placed b (c ∷ cs) = if nat_lt b.start c.start then b ∷ c ∷ cs else c ∷ placed b cs
+placed b (c ∷ cs) = when nat_lt b.start c.start then b ∷ c ∷ cs else c ∷ placed b cs
 
 -- some free stretch is long enough for n units
 abbrev pub fits : ℕ → List Stretch → Bool
 fits n [] = false
-fits n (f ∷ fs) = if nat_le n f.length then true else fits n fs
+fits n (f ∷ fs) = when nat_le n f.length then true else fits n fs
 
 -- a stretch is too short for n units
 abbrev pub is_short : ℕ → Stretch → Bool
@@ -23,35 +23,35 @@ is_short n s = nat_lt s.length n
 -- "takes the front of the first free stretch long enough": where that one starts, 0 if there is none
 abbrev pub fit_start : ℕ → List Stretch → ℕ
 fit_start n [] = 0
-fit_start n (f ∷ fs) = if nat_le n f.length then f.start else fit_start n fs
+fit_start n (f ∷ fs) = when nat_le n f.length then f.start else fit_start n fs
 
 -- and the free stretches afterwards
 abbrev pub cut : ℕ → List Stretch → List Stretch
 cut n [] = []
-cut n (f ∷ fs) = if nat_le n f.length then (if nat_eq n f.length then fs else stretch (f.start + n) (f.length - n) ∷ fs) else f ∷ cut n fs
+cut n (f ∷ fs) = when nat_le n f.length then (when nat_eq n f.length then fs else stretch (f.start + n) (f.length - n) ∷ fs) else f ∷ cut n fs
 
 -- a block starts at a
 abbrev pub starts_at : ℕ → List Stretch → Bool
 starts_at a [] = false
-starts_at a (b ∷ bs) = if b.start == a then true else starts_at a bs
+starts_at a (b ∷ bs) = when b.start == a then true else starts_at a bs
 
 -- its length, 0 if there is none
 abbrev pub length_at : ℕ → List Stretch → ℕ
 length_at a [] = 0
-length_at a (b ∷ bs) = if b.start == a then b.length else length_at a bs
+length_at a (b ∷ bs) = when b.start == a then b.length else length_at a bs
 
 -- and the blocks without it
 abbrev pub without : ℕ → List Stretch → List Stretch
 without a [] = []
-without a (b ∷ bs) = if b.start == a then bs else b ∷ without a bs
+without a (b ∷ bs) = when b.start == a then bs else b ∷ without a bs
 
 -- "gives its units back and joins them with free neighbours"
 abbrev pub joined : Stretch → List Stretch → List Stretch
 joined b [] = b ∷ []
 joined b (f ∷ fs) =
-    if end f == b.start then joined (stretch f.start (f.length + b.length)) fs
-    else (if nat_eq (end b) f.start then stretch b.start (b.length + f.length) ∷ fs
-    else (if ltb b.start f.start then b ∷ f ∷ fs
+    when end f == b.start then joined (stretch f.start (f.length + b.length)) fs
+    else (when nat_eq (end b) f.start then stretch b.start (b.length + f.length) ∷ fs
+    else (when ltb b.start f.start then b ∷ f ∷ fs
     else f ∷ joined b fs))
 
 -- an operation is refused with a number, or answers one and leaves these blocks and free stretches
@@ -81,23 +81,23 @@ BAD_BLOCK = 16
 
 -- "a fresh area is one free stretch"
 unfoldable pub fresh_of : List Stretch → List Stretch → Outcome
-fresh_of blocks free = if has_places blocks free then took 0 [] (stretch 0 units ∷ []) else refused BAD_STATE
+fresh_of blocks free = when has_places blocks free then took 0 [] (stretch 0 units ∷ []) else refused BAD_STATE
 
 -- "a request of 1 to 65,535 units", in the order of the refusals
 unfoldable pub request_of : List Stretch → List Stretch → Used → ℕ → Outcome
 request_of blocks free used n =
-    if rules_kept blocks free used then
-    (if leb 1 n && leb n 65535 then
-    (if ltb used.blocks 31 then
-    (if fits n (take used.free free) then
+    when rules_kept blocks free used then
+    (when leb 1 n && leb n 65535 then
+    (when ltb used.blocks 31 then
+    (when fits n (take used.free free) then
     took (fit_start n (take used.free free)) (placed (stretch (fit_start n (take used.free free)) n) (take used.blocks blocks)) (cut n (take used.free free))
     else refused NO_SPACE) else refused BLOCKS_FULL) else refused BAD_SIZE) else refused BAD_STATE
 
 -- "releasing a block gives its units back", likewise
 unfoldable pub release_of : List Stretch → List Stretch → Used → ℕ → Outcome
 release_of blocks free used a =
-    if rules_kept blocks free used then
-    (if starts_at a (take used.blocks blocks) then
+    when rules_kept blocks free used then
+    (when starts_at a (take used.blocks blocks) then
     took (length_at a (take used.blocks blocks)) (without a (take used.blocks blocks)) (joined (stretch a (length_at a (take used.blocks blocks))) (take used.free free))
     else refused BAD_BLOCK) else refused BAD_STATE
 

@@ -3,13 +3,13 @@ use Rattle.std.specs.Prelude.{ℕ, zero, suc, Bool, List, [], ◌∷◌, ◌++�
 use Rattle.workspace.specs.declared.Stretch.{Stretch}
 use Rattle.workspace.specs.declared.Test.{Test}
 use Rattle.workspace.specs.declared.Test.TheVariants.{StartsAt, StartsBehind, HasUnits}
-use Rattle.lists.specs.Lists.{if◌then◌else◌}
+use Rattle.lists.specs.Lists.{when◌then◌else◌}
 use Rattle.workspace.specs.Rules.{none}
 
 -- the place of the first stretch that passes the test; the number of places where none does
 abbrev pub place_of : (Stretch → Bool) → List Stretch → ℕ
 place_of f [] = 0
-place_of f (s ∷ ss) = if f s then 0 else suc (place_of f ss)
+place_of f (s ∷ ss) = when f s then 0 else suc (place_of f ss)
 
 -- starts at n; starts behind n; has n units
 abbrev pub passes_of : Test → ℕ → Stretch → Bool

@@ -3,7 +3,7 @@ use Rattle.std.specs.Prelude.{ℕ, ◌&&◌, ◌||◌, List, length, drop, repli
 use Rattle.workspace.specs.declared.Stretch.{Stretch}
 use Rattle.workspace.specs.declared.Table.{Table}
 use Rattle.workspace.specs.declared.Look.{Look}
-use Rattle.lists.specs.Lists.{if◌then◌else◌, every}
+use Rattle.lists.specs.Lists.{when◌then◌else◌, every}
 use Rattle.workspace.specs.Rules.{none, is_none}
 use Rattle.workspace.specs.declared.Test.TheVariants.{HasUnits}
 use Rattle.lists.specs.Over.{over}
@@ -19,11 +19,11 @@ note_of t i x = record { places = slice_set t.places i x; clear = t.clear && (na
 
 -- what is to stand at place i, where x stands: behind the 32 places nothing where those are clear, else x
 abbrev pub place_after : Table → ℕ → Stretch → Stretch
-place_after t i x = if nat_lt i 32 then slice_index_or t.places i none else (if t.clear then none else x)
+place_after t i x = when nat_lt i 32 then slice_index_or t.places i none else (when t.clear then none else x)
 
 -- the 32 places are written to a table; those behind become unused, or stay if they were not
 unfoldable pub laid : Table → List Stretch → List Stretch
-laid t l = over (if t.clear then replicate (length l) none else l) t.places
+laid t l = over (when t.clear then replicate (length l) none else l) t.places
 
 -- the parts of what is seen, of tables of m and n places
 abbrev pub seen_as : Table → Table → ℕ → ℕ → ℕ → Look

@@ -1,6 +1,6 @@
 // What each operation does to the places of both tables, and what it answers.
 ghost use Rattle.std.specs.Prelude.{◌≡◌, ◌-◌, ◌<◌, ◌≤◌};
-ghost use Rattle.lists.specs.Lists.{if◌then◌else◌};
+ghost use Rattle.lists.specs.Lists.{when◌then◌else◌};
 ghost use Rattle.workspace.specs.Places.{remove_at};
 ghost use Rattle.workspace.specs.Steps.{refused_as, done_as, fresh_seen, request_refusal, cut_at, grant_seen, request_seen, touches_low, touches_high, whole_at, give_at, free_seen, release_seen};
 
@@ -10,7 +10,7 @@ use crate::{Answer, Done, Look, Stretch, Table, Test, Used};
 
 // x or y.
 pub fn pick_u32(b: bool, x: u32, y: u32) -> u32
-    ensures { result ≡ (if b then x else y) }
+    ensures { result ≡ (when b then x else y) }
 {
     if b { x } else { y }
 }
@@ -198,7 +198,7 @@ pub fn whole_of(low: bool, high: bool, b: Stretch, k: usize, l: [Stretch; 32]) -
 
 // The free stretches without the one at place k, where that one touches.
 pub fn rest_of(high: bool, k: usize, l: [Stretch; 32]) -> [Stretch; 32]
-    ensures { result ≡ (if high then remove_at k l else l) }
+    ensures { result ≡ (when high then remove_at k l else l) }
 {
     if high { closed(l, k) } else { l }
 }

@@ -1,43 +1,29 @@
 use native.Mathlib.Omega.{arith}
-use borrow.Author.Rules.{rules}
 use Prim.Native.Nat.{◌≤◌}
 use mathlib.Core.Path.{◌≡◌, sym, ◌∙◌}
 use lib.ListN.{length, replicate, take, drop}
 use Rattle.calls.specs.Record.{byte}
 use Rattle.codec.specs.Layout.{ready_at, callers_at, held_at, delays_at, state_size, decode, lost}
 use Rattle.codec.proofs.UsedLaws.{bare_short, is_bare}
-use Rattle.codec.proofs.bare_state.Lts as lts
-use Rattle.codec.proofs.bare_state.Reads as reads
-use Rattle.codec.proofs.bare_state.Tie as tie
 use Rattle.codec.proofs.bare_state.Goals as goal
-
--- the bytes are enough for a state
-long : (c : (lts.Then1 tie.the-claims reads.Pre reads.Post)) → state_size ≤ length c.args.b.now
-long c = omega arith
-
--- the line of those held stands behind the line of callers
-held : (c : (lts.After-line_from3 tie.the-claims reads.Pre reads.Post)) → c.line_from-held.result ≡ take 31 (drop held_at c.args.b.now)
-held c = c.line_from-held.ensures
 
 pub returns-then-b-ge-STATE_SIZE : goal.returns-then-b-ge-STATE_SIZE
 unfolding decode lost
 returns-then-b-ge-STATE_SIZE c =
-    let l₄ = c.before in
-    let l₁ = l₄.before.before.before in
-    let w = l₁.before.before in
-    let enough = w.before.before.before.before.before in
-    let b = enough.args.b.now in
-    let ready : l₁.line_from-ready.result ≡ take 31 (drop ready_at b) = l₁.line_from-ready.ensures in
-    let callers : l₄.line_from-callers.result ≡ take 31 (drop callers_at b) = l₄.line_from-callers.ensures in
-    let delays : l₄.line_from-delays.result ≡ take 31 (drop delays_at b) = l₄.line_from-delays.ensures in
-    is_bare b (long enough)
+    let b = c.args.b.now in
+    let long : state_size ≤ length b = omega arith in
+    let ready : c.line_from-ready.result ≡ take 31 (drop ready_at b) = c.line_from-ready.ensures in
+    let callers : c.line_from-callers.result ≡ take 31 (drop callers_at b) = c.line_from-callers.ensures in
+    let held : c.line_from-held.result ≡ take 31 (drop held_at b) = c.line_from-held.ensures in
+    let delays : c.line_from-delays.result ≡ take 31 (drop delays_at b) = c.line_from-delays.ensures in
+    is_bare b long
     (λ i. record {
       core = record {
-        clock = w.word-clock.ensures i;
+        clock = c.word-clock.ensures i;
         created = byte b 4;
-        tasks = replicate 31 (l₁.blank_task-tasks.ensures i);
+        tasks = replicate 31 (c.blank_task-tasks.ensures i);
         ready = ready i;
-        held = held l₄.before i;
+        held = held i;
         delays = delays i;
       };
       callers = callers i;

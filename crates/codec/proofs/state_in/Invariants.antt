@@ -11,7 +11,7 @@ use Rattle.codec.proofs.UsedLaws.{used_small, used_long, Reading, reading_start,
 use Rattle.codec.proofs.state_in.Given as goal
 
 abbrev pub invariant-loop-i : goal.invariant-loop-i
-invariant-loop-i l = (l.i ≤ l.n) × (l.n ≤ 31) × (0 < l.n → state_size ≤ length l.b) × Reading l.b l.n l.i (record { l.core = l.core; l.callers = l.callers }) l.good
+invariant-loop-i l = (l.i ≤ l.n) × (l.n ≤ 31) × (0 < l.n → state_size ≤ length l.b) × Reading l.b l.n l.i (record { core = l.core; callers = l.callers }) l.good
 
 abbrev pub decreases-loop-i : goal.decreases-loop-i
 decreases-loop-i l = l.n - l.i

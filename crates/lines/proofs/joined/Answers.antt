@@ -1,10 +1,7 @@
 use native.Mathlib.Omega.{arith}
 use borrow.Author.Rules.{rules}
-use Prim.Native.Nat.{◌-◌}
 use mathlib.Core.Path.{refl}
-use mathlib.Core.List.{[], ◌∷◌, ◌++◌}
-use Rattle.lists.specs.Line.{line}
-use Rattle.lists.proofs.Turns.{Filling, fill_start, fill_keep, fill_last, fill_full}
+use Rattle.lists.proofs.Turns.{fill_start, fill_keep, fill_last, fill_full}
 use Rattle.lines.proofs.joined.Goals as goal
 
 pub returns-then-u-eq0 : goal.returns-then-u-eq0

@@ -1,10 +1,7 @@
-use native.Mathlib.Omega.{arith}
-use borrow.Author.Rules.{rules}
 use Prim.Native.Nat.{◌-◌}
-use mathlib.Core.Path.{refl}
 use mathlib.Core.List.{[], ◌∷◌, ◌++◌}
 use Rattle.lists.specs.Line.{line}
-use Rattle.lists.proofs.Turns.{Filling, fill_start, fill_keep, fill_last, fill_full}
+use Rattle.lists.proofs.Turns.{Filling}
 use Rattle.lines.proofs.joined.Given as goal
 
 -- The rest of the line comes behind the entries so far, and then t.

@@ -1,12 +1,8 @@
-use borrow.Author.Rules.{rules}
-use Prim.Native.Nat.{◌-◌, ◌≤◌, ◌<◌}
-use native.Mathlib.Omega.{arith}
-use mathlib.Core.Path.{◌≡◌, refl, ap, ◌∙◌, sym}
+use Prim.Native.Nat.{◌-◌, ◌≤◌}
+use mathlib.Core.Path.{◌≡◌}
 use mathlib.Core.List.{◌++◌}
-use lib.ListN.{length, drop, take}
+use lib.ListN.{drop, take}
 use Rattle.lists.specs.Line.{line, pad}
-use Rattle.lists.proofs.LineLaws.{length_line}
-use Rattle.lists.proofs.Turns.{rest_blank, rest_entry, rest_end, fill, fill_front, filled, filled_up, laid, laid_out}
 use Rattle.lines.proofs.joined_all.Given as goal
 
 abbrev pub invariant-loop-i : goal.invariant-loop-i

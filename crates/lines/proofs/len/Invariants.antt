@@ -1,10 +1,7 @@
 use Prim.Native.Nat.{◌+◌, ◌-◌, ◌≤◌}
-use native.Mathlib.Omega.{arith}
-use borrow.Author.Rules.{rules}
-use mathlib.Core.Path.{◌≡◌, ap}
+use mathlib.Core.Path.{◌≡◌}
 use lib.ListN.{length, drop}
 use Rattle.lists.specs.Line.{line}
-use Rattle.lists.proofs.Turns.{rest_blank, rest_entry, rest_end}
 use Rattle.lines.proofs.len.Given as goal
 
 abbrev pub invariant-loop-i : goal.invariant-loop-i

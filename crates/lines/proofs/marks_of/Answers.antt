@@ -1,15 +1,13 @@
 use native.Mathlib.Omega.{arith}
 use borrow.Author.Rules.{rules}
-use Prim.Native.Nat.{ℕ, ◌-◌, ◌≤◌}
+use Prim.Native.Nat.{ℕ}
 use mathlib.Core.Path.{◌≡◌, refl, sym, ◌∙◌}
-use lib.ListN.{drop, length, length-set}
-use Rattle.lists.specs.Line.{line}
-use Rattle.lists.specs.Marks.{no_marks, marked}
-use Rattle.lists.proofs.Tests.{ways}
+use lib.ListN.{length, length-set}
 use Rattle.lists.proofs.Turns.{rest_blank, rest_entry, rest_end}
 use Rattle.lists.proofs.MarkLaws.{mark_on, mark_off}
 use Rattle.lines.proofs.marks_of.Invariants.{one}
 use Rattle.lines.proofs.marks_of.Goals as goal
+use Rattle.lines.proofs.marks_of.Goals.{then-t-lt32, else-t-lt32}
 
 pub loop-i-init : goal.loop-i-init
 loop-i-init c = (omega arith, refl, refl)
@@ -21,12 +19,12 @@ returns-then-t-eq0 c =
 
 pub loop-i-preserved : goal.loop-i-preserved
 loop-i-preserved c =
-    let n = c.before in
-    let s = n.loop-i in
-    let rest = rest_entry n.args.a s.i (search rules) n.if-t-eq0.false in
-    ways c.if-t-lt32.branch
-    (λ w. (omega arith, rw w.1 (length-set {A = ℕ} s.r _ 1 ∙ s.invariant.1), rw w.1 (s.invariant.2 ∙ mark_on one _ _ _ s.r 1 rest refl)))
-    (λ w. (omega arith, rw w.1 s.invariant.1, rw w.1 (s.invariant.2 ∙ mark_off one _ _ _ s.r rest (omega arith))))
+    let s = c.loop-i in
+    let rest = rest_entry c.args.a s.i (search rules) c.if-t-eq0.false in
+    elim c.if-t-lt32.branch [
+      | then-t-lt32 w ↦ (omega arith, rw w.r-is (length-set {A = ℕ} s.r _ 1 ∙ s.invariant.1), rw w.r-is (s.invariant.2 ∙ mark_on one _ _ _ s.r 1 rest refl))
+      | else-t-lt32 w ↦ (omega arith, rw w.r-is s.invariant.1, rw w.r-is (s.invariant.2 ∙ mark_off one _ _ _ s.r rest (omega arith)))
+    ]
 
 pub returns : goal.returns
 returns c =

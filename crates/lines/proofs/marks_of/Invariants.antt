@@ -1,13 +1,8 @@
-use native.Mathlib.Omega.{arith}
-use borrow.Author.Rules.{rules}
 use Prim.Native.Nat.{ℕ, ◌-◌, ◌≤◌}
-use mathlib.Core.Path.{◌≡◌, refl, sym, ◌∙◌}
-use lib.ListN.{drop, length, length-set}
+use mathlib.Core.Path.{◌≡◌}
+use lib.ListN.{drop, length}
 use Rattle.lists.specs.Line.{line}
 use Rattle.lists.specs.Marks.{no_marks, marked}
-use Rattle.lists.proofs.Tests.{ways}
-use Rattle.lists.proofs.Turns.{rest_blank, rest_entry, rest_end}
-use Rattle.lists.proofs.MarkLaws.{mark_on, mark_off}
 use Rattle.lines.proofs.marks_of.Given as goal
 
 -- The invariant: the marks of the rest of the line, put upon those so far, are those of the whole line.

@@ -1,4 +1,3 @@
-use borrow.Author.Rules.{rules}
 use mathlib.Core.Path.{◌∙◌}
 use Rattle.lists.specs.Line.{line}
 use Rattle.lists.proofs.LineLaws.{pad_blank}

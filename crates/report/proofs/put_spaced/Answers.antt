@@ -1,6 +1,5 @@
 use Rattle.text.proofs.Puts.{then_put}
 use Rattle.text.specs.Text.{spaced}
-use borrow.Author.Rules.{rules}
 use Rattle.report.proofs.put_spaced.Goals as goal
 
 pub returns : goal.returns

@@ -1,6 +1,5 @@
 use Rattle.text.proofs.Puts.{then_put}
 use Rattle.report.specs.Lines.{barred}
-use borrow.Author.Rules.{rules}
 use Rattle.report.proofs.put_wait.Goals as goal
 
 pub returns : goal.returns

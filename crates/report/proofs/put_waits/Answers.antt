@@ -1,8 +1,6 @@
-use Prim.Native.Nat.{◌≤◌}
 use native.Mathlib.Omega.{arith}
-use borrow.Author.Rules.{rules}
-use lib.ListN.{length, drop}
-use Rattle.text.proofs.Puts.{Putting, toward, putting_start, putting_on, putting_done}
+use lib.ListN.{drop}
+use Rattle.text.proofs.Puts.{toward, putting_start, putting_on, putting_done}
 use Rattle.report.specs.Lines.{waits}
 use Rattle.report.proofs.LineLaws.{no_more, none_left, next_wait}
 use Rattle.report.proofs.put_waits.Goals as goal

@@ -8,13 +8,10 @@ use Rattle.rules.specs.Second.{callable_second}
 use Rattle.second.specs.Rows.{TypedSecond}
 use Rattle.second.proofs.RowLaws.{rows_long}
 use Rattle.second.proofs.TopLaws.{callable_is}
-use Rattle.second.proofs.callable.Lts as lts
-use Rattle.second.proofs.callable.Reads as reads
-use Rattle.second.proofs.callable.Tie as tie
 use Rattle.second.proofs.callable.Goals as goal
 
-typed-here : (c : (lts.Start tie.the-claims reads.Pre reads.Post)) → TypedSecond c.args.x
-typed-here c =
+pub returns-then-is_sound_second : goal.returns-then-is_sound_second
+returns-then-is_sound_second c =
     let x = c.args.x in
     let l1 : length x.core.tasks ≡ 31 = search (rules, mapped_long) in
     let l2 : length x.core.ready ≡ 31 = search (rules, mapped_long) in
@@ -22,17 +19,12 @@ typed-here c =
     let l4 : length x.core.held ≡ 31 = search (rules, mapped_long) in
     let l5 : length x.core.delays ≡ 31 = search (rules, mapped_long) in
     let k : x.core.clock < 4294967296 = search rules in
-    record {
+    let typed : TypedSecond x = record {
       core = record { clock = k; tasks = l1; ready = l2; held = l4; delays = l5 };
       rows = l3;
-      lines = λ j h. rows_long _ _ (λ r u p. mapped_long _ r.line 31 p.1.1.0.1.0.1) x.rows _ c.well-formed.0.1.1.1.0.1.1 j (omega (arith, l3));
-    }
-
-pub returns-then-is_sound_second : goal.returns-then-is_sound_second
-returns-then-is_sound_second c =
-    let s = c.before.before.before.before.before in
-    let a = s.args in
-    callable_is a.x a.t _ _ c.task_of-k.result (typed-here s) (sym c.is_sound_second.ensures ∙ c.if-is_sound_second.true) c.is_between.ensures c.task_of-k.ensures c.is_completed.ensures
+      lines = λ j h. rows_long x.rows _ c.well_formed.0.1.1.1.0.1.1 j (omega (arith, l3));
+    } in
+    callable_is x c.args.t _ _ c.task_of-k.result typed (sym c.is_sound_second.ensures ∙ c.if-is_sound_second.true) c.is_between.ensures c.task_of-k.ensures c.is_completed.ensures
 
 pub returns : goal.returns
 unfolding callable_second

@@ -1,4 +1,3 @@
-use borrow.Author.Rules.{rules}
 use mathlib.Core.Path.{◌∙◌, sym}
 use Rattle.rules.specs.Second.{gathered, running_second}
 use Rattle.rules.specs.Whole.{view_core}

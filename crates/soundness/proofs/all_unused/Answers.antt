@@ -1,5 +1,4 @@
-use Rattle.std.proofs.Common.{◌≡◌, ◌-◌, length, drop, sym, refl, ◌∙◌, arith, rules}
-use Rattle.lists.specs.Lists.{every}
+use Rattle.std.proofs.Common.{◌≡◌, length, sym, refl, ◌∙◌, arith, rules}
 use Rattle.lists.proofs.ListLaws.{mapped_long}
 use Rattle.rules.specs.State.{blank}
 use Rattle.rules.specs.Whole.{unused}

@@ -1,9 +1,6 @@
-use Rattle.std.proofs.Common.{◌≡◌, ◌-◌, length, drop, sym, refl, ◌∙◌, arith, rules}
+use Rattle.std.proofs.Common.{◌≡◌, ◌-◌, length, drop}
 use Rattle.lists.specs.Lists.{every}
-use Rattle.lists.proofs.ListLaws.{mapped_long}
-use Rattle.rules.specs.State.{blank}
 use Rattle.rules.specs.Whole.{unused}
-use Rattle.lists.proofs.Turns.{every_pass, every_fail, every_done}
 use Rattle.soundness.proofs.all_unused.Given as goal
 
 abbrev pub invariant-loop-i : goal.invariant-loop-i

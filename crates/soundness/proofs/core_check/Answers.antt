@@ -1,4 +1,4 @@
-use Rattle.std.proofs.Common.{arith, rules}
+use Rattle.std.proofs.Common.{arith}
 use borrow.Author.Tests.{lt-leb}
 use Rattle.soundness.proofs.WholeLaws.{checked_is}
 use Rattle.soundness.proofs.core_check.Goals as goal

@@ -1,4 +1,4 @@
-use Rattle.std.proofs.Common.{◌&&◌, rules}
+use Rattle.std.proofs.Common.{◌&&◌}
 use Rattle.soundness.proofs.lines_hold.Goals as goal
 
 pub returns : goal.returns

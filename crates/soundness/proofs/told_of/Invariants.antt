@@ -1,16 +1,10 @@
-use Rattle.std.proofs.Common.{◌≡◌, ℕ, ◌-◌, ◌<◌, ◌≤◌, Bool, ◌&&◌, [], length, get_or, sym, refl, ap, ◌∙◌, arith, rules}
-use mathlib.Core.Bool.{and-true}
+use Rattle.std.proofs.Common.{◌≡◌, ℕ, ◌≤◌, ◌&&◌, length}
 use Rattle.lists.specs.Lists.{every, down_from}
-use Rattle.lists.proofs.Tests.{ways, between}
-use Rattle.lists.proofs.ListLaws.{mapped_long, down_on, down_end}
-use Rattle.rules.specs.State.{blank, task_of}
+use Rattle.rules.specs.State.{task_of}
 use Rattle.rules.specs.Whole.{view_core}
 use Rattle.rules.specs.declared.Core.{Core}
-use Rattle.table.proofs.LeafLaws.{task_in}
 use Rattle.soundness.specs.Check.{Line, Ready, Callers, Held, Delays, belongs, good_in, is_changed, marked}
-use Rattle.soundness.specs.Marks.{no_marks, next_mark}
-use Rattle.soundness.proofs.TaskLaws.{called_one, called_none, good_is}
-use Rattle.soundness.proofs.Turns.{and_turn, mark_on}
+use Rattle.soundness.specs.Marks.{no_marks}
 use Rattle.soundness.proofs.told_of.Given as goal
 
 -- The invariant: of the tasks above t it is known whether they are good and who belongs where; what is left of each answer is

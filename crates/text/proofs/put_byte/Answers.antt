@@ -1,4 +1,3 @@
-use borrow.Author.Rules.{rules}
 use Rattle.text.proofs.Puts.{put_one, put_no_room}
 use Rattle.text.proofs.put_byte.Goals as goal
 

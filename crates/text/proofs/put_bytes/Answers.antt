@@ -1,18 +1,16 @@
-use Prim.Native.Nat.{◌≤◌, ◌-◌}
 use native.Mathlib.Omega.{arith}
-use borrow.Author.Rules.{rules}
 use mathlib.Core.Path.{◌≡◌}
 use mathlib.Core.List.{[], ◌∷◌}
 use Prim.Native.Nat.{◌+◌}
-use lib.ListN.{length, drop, get_or, drop_of_length-le}
+use lib.ListN.{drop, get_or, drop_of_length-le}
 use Rattle.lists.proofs.Turns.{rest_cons}
-use Rattle.text.proofs.Puts.{Putting, toward, putting_start, putting_on, putting_done}
+use Rattle.text.proofs.Puts.{toward, putting_start, putting_on, putting_done}
 use Rattle.text.proofs.put_bytes.Goals as goal
 
 pub loop-i-init : goal.loop-i-init
 loop-i-init c =
     let a = c.args in
-    (omega arith, putting_start a.out-1.now a.at a.text.now c.least-place.ensures)
+    (omega arith, putting_start a.out.now a.at a.text.now c.least-place.ensures)
 
 pub loop-i-preserved : goal.loop-i-preserved
 loop-i-preserved c =

@@ -1,12 +1,6 @@
 use Prim.Native.Nat.{◌≤◌, ◌-◌}
-use native.Mathlib.Omega.{arith}
-use borrow.Author.Rules.{rules}
-use mathlib.Core.Path.{◌≡◌}
-use mathlib.Core.List.{[], ◌∷◌}
-use Prim.Native.Nat.{◌+◌}
-use lib.ListN.{length, drop, get_or, drop_of_length-le}
-use Rattle.lists.proofs.Turns.{rest_cons}
-use Rattle.text.proofs.Puts.{Putting, toward, putting_start, putting_on, putting_done}
+use lib.ListN.{length, drop}
+use Rattle.text.proofs.Puts.{Putting}
 use Rattle.text.proofs.put_bytes.Given as goal
 
 abbrev pub invariant-loop-i : goal.invariant-loop-i

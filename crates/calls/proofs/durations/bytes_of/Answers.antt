@@ -2,7 +2,6 @@ use Prim.Native.Nat.{ℕ, ◌/◌, ◌%◌}
 use mathlib.Core.Path.{◌≡◌, ap, ◌∙◌}
 use mathlib.Core.List.{[], ◌∷◌}
 use native.Mathlib.Omega.{arith}
-use borrow.Author.Rules.{rules}
 use Rattle.calls.specs.Record.{byte}
 use Rattle.calls.proofs.durations.bytes_of.Lts as lts
 use Rattle.calls.proofs.durations.bytes_of.Reads as reads

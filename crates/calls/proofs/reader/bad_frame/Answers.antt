@@ -1,4 +1,3 @@
-use borrow.Author.Rules.{rules}
 use borrow.Author.Tests.{lt-ltb, le-ltb}
 use Rattle.calls.specs.Parts.{bad_frame}
 use Rattle.calls.proofs.reader.bad_frame.Goals as goal

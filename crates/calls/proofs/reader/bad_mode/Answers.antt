@@ -1,4 +1,3 @@
-use borrow.Author.Rules.{rules}
 use Rattle.calls.proofs.reader.bad_mode.Goals as goal
 
 pub returns : goal.returns

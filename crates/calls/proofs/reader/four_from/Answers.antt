@@ -1,4 +1,3 @@
-use borrow.Author.Rules.{rules}
 use Rattle.calls.proofs.reader.four_from.Goals as goal
 
 -- `calls::four_from` meets its contract: the bytes are those at the index and the three behind it, high byte first.

@@ -1,5 +1,4 @@
 use Prim.Native.Nat.{ℕ}
-use borrow.Author.Rules.{rules}
 use mathlib.Core.Path.{ap}
 use Rattle.calls.specs.Parts.{body_read}
 use Rattle.calls.specs.declared.Call.TheVariants.{Advance}

@@ -1,4 +1,3 @@
-use borrow.Author.Rules.{rules}
 use Rattle.calls.specs.Parts.{body_read}
 use Rattle.calls.proofs.reader.read_call.Goals as goal
 

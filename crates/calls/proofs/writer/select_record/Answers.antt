@@ -1,4 +1,3 @@
-use borrow.Author.Rules.{rules}
 use mathlib.Core.List.{[], ◌∷◌}
 use Rattle.calls.specs.Record.{byte}
 use Rattle.calls.proofs.writer.select_record.Goals as goal

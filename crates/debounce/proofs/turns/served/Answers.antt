@@ -22,7 +22,7 @@ loop-i-preserved c =
     let l = c.loop-i in
     let bits = c.args.bits in (
       omega arith,
-      l.invariant.1 ∙ serve_next l.now-1 l.t bits l.i (omega arith) (sym c.is_contact.ensures ∙ c.if-is_contact.true)
+      l.invariant.1 ∙ serve_next l.now l.t bits l.i (omega arith) (sym c.is_contact.ensures ∙ c.if-is_contact.true)
           ∙ ap (λ (k : Turned). serve (8 - (l.i + 1)) k.card k.next bits) (sym c.turn-k.ensures),
     )
 
@@ -30,10 +30,10 @@ pub returns-else-is_contact : goal.returns-else-is_contact
 returns-else-is_contact c =
     let l = c.loop-i in
     let a = c.args in
-    served_start a.card a.next a.bits (sym (l.invariant.1 ∙ serve_stop l.now-1 l.t a.bits l.i (omega arith) (sym c.is_contact.ensures ∙ c.if-is_contact.false)))
+    served_start a.card a.next a.bits (sym (l.invariant.1 ∙ serve_stop l.now l.t a.bits l.i (omega arith) (sym c.is_contact.ensures ∙ c.if-is_contact.false)))
 
 pub returns : goal.returns
 returns c =
     let l = c.loop-i in
     let a = c.args in
-    served_start a.card a.next a.bits (sym (l.invariant.1 ∙ serve_done l.now-1 l.t a.bits l.i (omega arith)))
+    served_start a.card a.next a.bits (sym (l.invariant.1 ∙ serve_done l.now l.t a.bits l.i (omega arith)))

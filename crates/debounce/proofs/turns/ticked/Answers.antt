@@ -7,4 +7,4 @@ pub returns : goal.returns
 unfolding ticked_card
 returns c =
     let cs = c.args.card.contacts in
-    c.served.ensures ∙ ap (λ (k : Stepped). all_served (record { supervisor = k.state; contacts = cs }) k.answer-1.next c.args.bits) c.stepped-out.ensures
+    c.served.ensures ∙ ap (λ (k : Stepped). all_served (record { supervisor = k.state; contacts = cs }) k.answer.next c.args.bits) c.stepped-out.ensures

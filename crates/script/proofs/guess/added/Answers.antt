@@ -1,5 +1,4 @@
 use borrow.Author.Tests.{lt-ltb, le-ltb}
-use borrow.Author.Rules.{rules}
 use Rattle.script.proofs.guess.added.Goals as goal
 
 pub returns-then-b-gt64 : goal.returns-then-b-gt64

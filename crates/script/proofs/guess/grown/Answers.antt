@@ -1,5 +1,4 @@
 use Rattle.script.proofs.Digits.{digit_counts}
-use borrow.Author.Rules.{rules}
 use Rattle.script.proofs.guess.grown.Goals as goal
 
 pub returns-then-b : goal.returns-then-b

@@ -1,5 +1,4 @@
 use borrow.Author.Tests.{eq-eqb, ne_eqb}
-use borrow.Author.Rules.{rules}
 use Rattle.script.proofs.guess.heard.Goals as goal
 
 pub returns-then-b-eq32 : goal.returns-then-b-eq32

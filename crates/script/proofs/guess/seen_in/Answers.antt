@@ -1,12 +1,12 @@
 use Rattle.script.proofs.Loops.{hear_row, heard_row}
 use Rattle.script.specs.declared.guess.Seen.{Seen}
-use Rattle.script.specs.Guess.{hear, unseen}
+use Rattle.script.specs.Guess.{hear}
 use Rattle.script.specs.Rows.{text_in}
 use borrow.Author.Rules.{rules}
 use native.Mathlib.Omega.{arith}
-use lib.ListN.{length, drop}
-use mathlib.Core.Path.{◌≡◌, sym, ap, ◌∙◌}
-use Prim.Native.Nat.{◌+◌, ◌-◌, ◌≤◌}
+use lib.ListN.{drop}
+use mathlib.Core.Path.{sym, ap, ◌∙◌}
+use Prim.Native.Nat.{◌+◌}
 use Rattle.script.proofs.guess.seen_in.Goals as goal
 
 pub loop-i-init : goal.loop-i-init

@@ -1,7 +1,6 @@
 use Rattle.script.proofs.Times.{below, above}
 use Prim.Native.Nat.{◌+◌, ◌%◌}
 use native.Mathlib.Omega.{arith}
-use borrow.Author.Rules.{rules}
 use Rattle.script.proofs.guess.time_of.Goals as goal
 
 pub returns-then-minus : goal.returns-then-minus

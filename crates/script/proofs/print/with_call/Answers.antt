@@ -1,50 +1,33 @@
-use Rattle.script.specs.CallText.{text_of}
-use Rattle.script.specs.Says.{Fits}
-use Rattle.script.proofs.Growing.{then_grown}
-use Rattle.script.proofs.Typed.{typed_fits}
-use mir.Val.{to_z, of_z}
 use mir.Syntax.{w32}
-use mathlib.Core.Path.{◌≡◌}
-use borrow.Author.Rules.{rules}
-use Rattle.script.proofs.print.with_call.Lts as lts
-use Rattle.script.proofs.print.with_call.Reads as reads
-use Rattle.script.proofs.print.with_call.Tie as tie
+use mir.Val.{to_z, of_z}
+use Rattle.std.proofs.Common.{◌≡◌, rules}
+use Rattle.script.specs.CallText.{text_of}
+use Rattle.script.proofs.Growing.{then_grown}
 use Rattle.script.proofs.print.with_call.Goals as goal
 
-fits : (c : (lts.Start tie.the-claims reads.Pre reads.Post)) → Fits c.args.c
-fits c = typed_fits c.args.c c.well-formed.1.0
-
-pub returns-in-Create : goal.returns-in-Create
+pub returns-in-Create-clause-grown : goal.returns-in-Create-clause-grown
 unfolding text_of
-returns-in-Create c = (rw c.c-1.given.1 c.with_pair.ensures, fits c.before.before.before.before)
+returns-in-Create-clause-grown c = rw c.in-Create.is c.with_pair.ensures
 
-pub returns-in-Delay : goal.returns-in-Delay
+pub returns-in-Delay-clause-grown : goal.returns-in-Delay-clause-grown
 unfolding text_of
-returns-in-Delay c =
-    let k = c.c-in-Delay-1.given in
-    let e : to_z w32 (of_z w32 k.0.0) ≡ k.0.0 = search rules in
-    (rw k.1 (rw e at c.with_time.ensures), fits c.before.before.before.before)
+returns-in-Delay-clause-grown c =
+    let d = c.in-Delay.d in
+    let e : to_z w32 (of_z w32 d) ≡ d = search rules in
+    rw c.in-Delay.is (rw e at c.with_time.ensures)
 
-pub returns-in-Call : goal.returns-in-Call
-returns-in-Call c = (rw c.c-in-Call-1.given.1 c.with_entry_call.ensures, fits c.before.before.before.before)
-
-pub returns-in-Select : goal.returns-in-Select
-returns-in-Select c = (rw c.c-in-Select-1.given.1 c.with_select.ensures, fits c.before.before.before.before)
-
-pub returns-in-End : goal.returns-in-End
+pub returns-in-End-clause-grown : goal.returns-in-End-clause-grown
 unfolding text_of
-returns-in-End c = (rw c.enum_told-1.given.1 c.with_word.ensures, fits c.before.before.before)
+returns-in-End-clause-grown c = rw c.in-End.is c.with_word.ensures
 
-pub returns-in-Finish : goal.returns-in-Finish
+pub returns-in-Finish-clause-grown : goal.returns-in-Finish-clause-grown
 unfolding text_of
-returns-in-Finish c = (rw c.enum_told-in-Finish-1.given.1 c.with_word-in-Finish.ensures, fits c.before.before.before)
+returns-in-Finish-clause-grown c = rw c.in-Finish.is c.with_word-in-Finish.ensures
 
-pub returns-in-Tick : goal.returns-in-Tick
+pub returns-in-Tick-clause-grown : goal.returns-in-Tick-clause-grown
 unfolding text_of
-returns-in-Tick c = (rw c.enum_told-in-Tick-1.given.1 c.with_word-in-Tick.ensures, fits c.before.before.before)
+returns-in-Tick-clause-grown c = rw c.in-Tick.is c.with_word-in-Tick.ensures
 
-pub returns-in-Advance : goal.returns-in-Advance
+pub returns-in-Advance-clause-grown : goal.returns-in-Advance-clause-grown
 unfolding text_of
-returns-in-Advance c =
-    let k = c.before.before.before in
-    (rw k.c-in-Advance-1.given.1 (then_grown c.with_word-in-Advance.ensures c.with_spaced.ensures), fits k.before.before)
+returns-in-Advance-clause-grown c = rw c.in-Advance.is (then_grown c.with_word-in-Advance.ensures c.with_spaced.ensures)

@@ -1,13 +1,8 @@
 use Rattle.script.proofs.Loops.{next_entry, no_entry}
-use Rattle.script.specs.CallText.{entries}
-use Rattle.script.specs.Rows.{text_in, cut}
 use Rattle.script.proofs.Growing.{growing_on, growing_done}
 use borrow.Author.Rules.{rules}
 use native.Mathlib.Omega.{arith}
-use mathlib.Core.Path.{◌≡◌, refl}
-use mathlib.Core.List.{◌++◌}
-use lib.ListN.{length}
-use Prim.Native.Nat.{◌+◌, ◌-◌, ◌≤◌}
+use mathlib.Core.Path.{refl}
 use Rattle.script.proofs.print.with_entries.Goals as goal
 
 pub loop-i-init : goal.loop-i-init

@@ -1,10 +1,6 @@
-use Rattle.script.proofs.Loops.{next_entry, no_entry}
 use Rattle.script.specs.CallText.{entries}
 use Rattle.script.specs.Rows.{text_in, cut}
-use Rattle.script.proofs.Growing.{growing_on, growing_done}
-use borrow.Author.Rules.{rules}
-use native.Mathlib.Omega.{arith}
-use mathlib.Core.Path.{◌≡◌, refl}
+use mathlib.Core.Path.{◌≡◌}
 use mathlib.Core.List.{◌++◌}
 use lib.ListN.{length}
 use Prim.Native.Nat.{◌+◌, ◌-◌, ◌≤◌}

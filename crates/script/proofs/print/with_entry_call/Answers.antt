@@ -5,7 +5,6 @@ use Rattle.script.proofs.Modes.{call_mode_text_lem}
 use Prim.Native.Nat.{ℕ}
 use mathlib.Core.List.{List, [], ◌∷◌, ◌++◌, append_assoc}
 use mathlib.Core.Path.{ap, ◌∙◌}
-use borrow.Author.Rules.{rules}
 use Rattle.script.proofs.print.with_entry_call.Goals as goal
 
 pub returns : goal.returns

@@ -1,6 +1,5 @@
 use Rattle.script.specs.CallText.{open_text}
 use borrow.Author.Tests.{eq-eqb, ne_eqb}
-use borrow.Author.Rules.{rules}
 use Rattle.script.proofs.print.with_open.Goals as goal
 
 pub returns-then-set-eq0 : goal.returns-then-set-eq0

@@ -1,5 +1,4 @@
 use Rattle.script.proofs.Growing.{then_grown}
-use borrow.Author.Rules.{rules}
 use Rattle.script.proofs.print.with_pair.Goals as goal
 
 pub returns : goal.returns

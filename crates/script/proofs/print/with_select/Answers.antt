@@ -1,7 +1,6 @@
 use Rattle.script.specs.CallText.{text_of}
 use Rattle.script.proofs.Growing.{then_grown}
 use Rattle.script.proofs.Modes.{select_mode_text_lem}
-use borrow.Author.Rules.{rules}
 use Rattle.script.proofs.print.with_select.Goals as goal
 
 pub returns : goal.returns

@@ -1,6 +1,5 @@
 use Rattle.text.specs.Text.{spaced}
 use Rattle.script.proofs.Growing.{then_grown}
-use borrow.Author.Rules.{rules}
 use Rattle.script.proofs.print.with_spaced.Goals as goal
 
 pub returns : goal.returns

@@ -1,7 +1,6 @@
 use Rattle.script.proofs.Times.{text_below, text_above}
 use Rattle.script.proofs.Growing.{then_grown, same_grown}
 use mir.Facts.{to_z-of_z}
-use borrow.Author.Rules.{rules}
 use Rattle.script.proofs.print.with_time.Goals as goal
 
 pub returns-then-d-lt0 : goal.returns-then-d-lt0

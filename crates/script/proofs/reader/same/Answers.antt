@@ -1,14 +1,14 @@
-use Rattle.script.proofs.Loops.{even, Rows, rows_begin, rows_next, rows_done}
+use Rattle.script.proofs.Loops.{Rows, rows_begin, rows_next, rows_done}
 use Rattle.script.specs.Guess.{alike}
 use Rattle.script.specs.Rows.{text_in}
 use Rattle.lists.proofs.Tests.{and_first}
 use borrow.Author.Rules.{rules}
 use native.Mathlib.Omega.{arith}
 use lib.Dec.{eqb}
-use lib.ListN.{get_or, drop}
-use mathlib.Core.Bool.{Bool, true, ◌&&◌}
-use mathlib.Core.Path.{◌≡◌, sym, ap, ◌∙◌}
-use Prim.Native.Nat.{ℕ, ◌-◌, ◌≤◌}
+use lib.ListN.{get_or}
+use mathlib.Core.Bool.{Bool, ◌&&◌}
+use mathlib.Core.Path.{sym, ap, ◌∙◌}
+use Prim.Native.Nat.{ℕ}
 use Rattle.script.proofs.reader.same.Goals as goal
 
 pub loop-i-init : goal.loop-i-init
@@ -39,10 +39,10 @@ loop-i-preserved c =
     let a = t.args.a in
     let b = t.args.b in
     let h = t.loop-i-test.true in
-    (v.0, (λ e. v.1.0 (and_first l.is_same-1 (eqb (get_or a.bytes l.i 0) (get_or b.bytes l.i 0)) e), (omega (arith, h), v.1.1.1 ∙ rows_next a b l.is_same-1 l.i v.0 v.1.0 h)))
+    (v.0, (λ e. v.1.0 (and_first l.is_same (eqb (get_or a.bytes l.i 0) (get_or b.bytes l.i 0)) e), (omega (arith, h), v.1.1.1 ∙ rows_next a b l.is_same l.i v.0 v.1.0 h)))
 
 pub returns : goal.returns
 returns c =
     let l = c.loop-i in
     let s = c.args in
-    sym (l.invariant.1.1.1 ∙ rows_done s.a s.b l.is_same-1 l.i l.invariant.0 l.invariant.1.0 c.loop-i-test.false)
+    sym (l.invariant.1.1.1 ∙ rows_done s.a s.b l.is_same l.i l.invariant.0 l.invariant.1.0 c.loop-i-test.false)

@@ -1,14 +1,10 @@
-use Rattle.script.proofs.Loops.{even, Rows, rows_begin, rows_next, rows_done}
+use Rattle.script.proofs.Loops.{even, Rows}
 use Rattle.script.specs.Guess.{alike}
 use Rattle.script.specs.Rows.{text_in}
-use Rattle.lists.proofs.Tests.{and_first}
-use borrow.Author.Rules.{rules}
-use native.Mathlib.Omega.{arith}
-use lib.Dec.{eqb}
-use lib.ListN.{get_or, drop}
-use mathlib.Core.Bool.{Bool, true, ◌&&◌}
-use mathlib.Core.Path.{◌≡◌, sym, ap, ◌∙◌}
-use Prim.Native.Nat.{ℕ, ◌-◌, ◌≤◌}
+use lib.ListN.{drop}
+use mathlib.Core.Bool.{true, ◌&&◌}
+use mathlib.Core.Path.{◌≡◌}
+use Prim.Native.Nat.{◌-◌, ◌≤◌}
 use Rattle.script.proofs.reader.same.Given as goal
 
 abbrev pub invariant-loop-i : goal.invariant-loop-i

@@ -1,14 +1,13 @@
 use Rattle.script.proofs.Loops.{next_part, no_part, comment}
 use Rattle.script.proofs.Growing.{growing_on, growing_done}
-use Rattle.script.specs.Rows.{text_in, cut}
+use Rattle.script.specs.Rows.{cut}
 use Rattle.script.specs.Words.{words_from, words_of}
 use borrow.Author.Rules.{rules}
 use native.Mathlib.Omega.{arith}
 use mathlib.Core.Bool.{false}
-use mathlib.Core.Path.{◌≡◌, sym, ap}
+use mathlib.Core.Path.{sym, ap}
 use mathlib.Core.List.{List, ◌++◌}
-use lib.ListN.{length, drop}
-use Prim.Native.Nat.{ℕ, ◌-◌, ◌≤◌}
+use Prim.Native.Nat.{ℕ}
 use Rattle.script.proofs.reader.words_of.Goals as goal
 
 pub loop-i-init : goal.loop-i-init

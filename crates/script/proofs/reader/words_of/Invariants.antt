@@ -1,14 +1,10 @@
-use Rattle.script.proofs.Loops.{next_part, no_part, comment}
-use Rattle.script.proofs.Growing.{growing_on, growing_done}
 use Rattle.script.specs.Rows.{text_in, cut}
-use Rattle.script.specs.Words.{words_from, words_of}
-use borrow.Author.Rules.{rules}
-use native.Mathlib.Omega.{arith}
+use Rattle.script.specs.Words.{words_from}
 use mathlib.Core.Bool.{false}
-use mathlib.Core.Path.{◌≡◌, sym, ap}
-use mathlib.Core.List.{List, ◌++◌}
+use mathlib.Core.Path.{◌≡◌}
+use mathlib.Core.List.{◌++◌}
 use lib.ListN.{length, drop}
-use Prim.Native.Nat.{ℕ, ◌-◌, ◌≤◌}
+use Prim.Native.Nat.{◌-◌, ◌≤◌}
 use Rattle.script.proofs.reader.words_of.Given as goal
 
 abbrev pub invariant-loop-i : goal.invariant-loop-i

@@ -1,15 +1,12 @@
 use native.Mathlib.Omega.{arith}
 use borrow.Author.Rules.{rules}
-use Prim.Native.Nat.{◌+◌, ◌-◌, ◌≤◌}
-use mathlib.Core.Path.{◌≡◌, refl, sym, ◌∙◌}
-use mathlib.Core.List.{◌++◌}
-use lib.ListN.{length, take, drop, length-set}
-use Rattle.lists.proofs.Tests.{ways}
+use mathlib.Core.Path.{refl, sym, ◌∙◌}
+use lib.ListN.{length-set}
 use Rattle.lists.proofs.ListLaws.{mapped_long}
 use Rattle.rules.specs.declared.Row.{Row}
-use Rattle.second.specs.Rows.{next_rows}
 use Rattle.second.proofs.RowLaws.{rows_touched, rows_skipped, rows_end}
 use Rattle.second.proofs.rows.next_rows.Goals as goal
+use Rattle.second.proofs.rows.next_rows.Goals.{then-joins-left, else-joins-left}
 
 pub loop-i-init : goal.loop-i-init
 loop-i-init c = (omega arith, search (rules, mapped_long), refl)
@@ -18,9 +15,10 @@ pub loop-i-preserved : goal.loop-i-preserved
 loop-i-preserved c =
     let l = c.loop-i in
     let a = c.args in
-    ways c.if-joins-left.branch
-    (λ w. (omega arith, rw w.4 (length-set {A = Row} l.n l.i _ ∙ l.invariant.1), rw w.4 (l.invariant.2 ∙ rows_touched a.left a.gone a.g a.t l.n l.i w.3.result (omega (arith, l.invariant.1)) w.0.taken w.3.ensures)))
-    (λ w. (omega arith, rw w.1 l.invariant.1, rw w.1 (l.invariant.2 ∙ rows_skipped a.left a.gone a.g a.t l.n l.i (omega (arith, l.invariant.1)) w.0.left)))
+    elim c.if-joins-left.branch [
+      | then-joins-left w ↦ (omega arith, rw w.n-is (length-set {A = Row} l.n l.i _ ∙ l.invariant.1), rw w.n-is (l.invariant.2 ∙ rows_touched a.left a.gone a.g a.t l.n l.i w.next_line-k.result (omega (arith, l.invariant.1)) w.if-joins-left.true w.next_line-k.ensures))
+      | else-joins-left w ↦ (omega arith, rw w.n-is l.invariant.1, rw w.n-is (l.invariant.2 ∙ rows_skipped a.left a.gone a.g a.t l.n l.i (omega (arith, l.invariant.1)) w.if-joins-left.false))
+    ]
 
 pub returns : goal.returns
 returns c =

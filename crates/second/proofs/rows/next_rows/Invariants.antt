@@ -1,14 +1,8 @@
-use native.Mathlib.Omega.{arith}
-use borrow.Author.Rules.{rules}
 use Prim.Native.Nat.{◌+◌, ◌-◌, ◌≤◌}
-use mathlib.Core.Path.{◌≡◌, refl, sym, ◌∙◌}
+use mathlib.Core.Path.{◌≡◌}
 use mathlib.Core.List.{◌++◌}
-use lib.ListN.{length, take, drop, length-set}
-use Rattle.lists.proofs.Tests.{ways}
-use Rattle.lists.proofs.ListLaws.{mapped_long}
-use Rattle.rules.specs.declared.Row.{Row}
+use lib.ListN.{length, take, drop}
 use Rattle.second.specs.Rows.{next_rows}
-use Rattle.second.proofs.RowLaws.{rows_touched, rows_skipped, rows_end}
 use Rattle.second.proofs.rows.next_rows.Given as goal
 
 -- The invariant: the rows so far, and from here on those that are still to be made, are all rows.

@@ -1,4 +1,3 @@
-use borrow.Author.Rules.{rules}
 use mathlib.Core.Path.{sym, ap, ◌∙◌}
 use Rattle.lists.specs.Line.{pad, pad_to}
 use Rattle.second.specs.Rows.{row_of}

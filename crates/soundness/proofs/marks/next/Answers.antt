@@ -1,4 +1,4 @@
-use Rattle.std.proofs.Common.{arith, rules}
+use Rattle.std.proofs.Common.{arith}
 use Rattle.soundness.specs.Marks.{next_mark}
 use Rattle.lists.proofs.Tests.{bit_le, byte_bit}
 use Rattle.soundness.proofs.marks.next.Goals as goal

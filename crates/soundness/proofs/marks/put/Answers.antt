@@ -1,4 +1,4 @@
-use Rattle.std.proofs.Common.{◌∙◌, rules}
+use Rattle.std.proofs.Common.{◌∙◌}
 use Rattle.soundness.proofs.MarkLaws.{put_changed, put_same}
 use Rattle.soundness.proofs.marks.put.Goals as goal
 

@@ -1,4 +1,4 @@
-use Rattle.std.proofs.Common.{ap, arith, rules, le-ltb, lt-ltb}
+use Rattle.std.proofs.Common.{ap, arith, le-ltb, lt-ltb}
 use lib.Bits.{bit_xor}
 use Rattle.soundness.specs.Marks.{without_mark}
 use Rattle.soundness.proofs.MarkLaws.{shifted}

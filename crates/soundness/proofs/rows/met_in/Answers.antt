@@ -1,5 +1,5 @@
-use Rattle.std.proofs.Common.{◌≡◌, ◌+◌, ◌-◌, ◌≤◌, false, ◌&&◌, eqb, length, get_or, drop, sym, refl, ap, ◌∙◌, arith, rules}
-use Rattle.lists.specs.Lists.{if◌then◌else◌}
+use Rattle.std.proofs.Common.{◌≡◌, ◌+◌, false, ◌&&◌, eqb, get_or, drop, sym, refl, ap, ◌∙◌, arith, rules}
+use Rattle.lists.specs.Lists.{when◌then◌else◌}
 use Rattle.soundness.specs.Marks.{Marks, without_mark}
 use Rattle.soundness.specs.Rows.{met_in}
 use Rattle.soundness.proofs.RowLaws.{met_blank, met_on, met_end}
@@ -22,7 +22,7 @@ returns-then-t-eq0 c =
 turn : (c : (lts.After-target_at tie.the-claims reads.Pre reads.Post goal.the-invariant-loop-i goal.the-decreases-loop-i)) →
     let l = c.loop-i in
     let a = c.args in
-    met_in a.targets a.g a.word a.l ≡ (if c.has.result && eqb c.target_at.result a.g then met_in a.targets a.g (without_mark l.rest (get_or a.l l.i 0)) (drop (l.i + 1) a.l) else record { ok = false; rest = l.rest })
+    met_in a.targets a.g a.word a.l ≡ (when c.has.result && eqb c.target_at.result a.g then met_in a.targets a.g (without_mark l.rest (get_or a.l l.i 0)) (drop (l.i + 1) a.l) else record { ok = false; rest = l.rest })
 turn c =
     let e = c.before.before in
     let l = e.loop-i in

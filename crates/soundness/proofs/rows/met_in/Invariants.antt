@@ -1,8 +1,5 @@
-use Rattle.std.proofs.Common.{◌≡◌, ◌+◌, ◌-◌, ◌≤◌, false, ◌&&◌, eqb, length, get_or, drop, sym, refl, ap, ◌∙◌, arith, rules}
-use Rattle.lists.specs.Lists.{if◌then◌else◌}
-use Rattle.soundness.specs.Marks.{Marks, without_mark}
+use Rattle.std.proofs.Common.{◌≡◌, ◌-◌, ◌≤◌, length, drop}
 use Rattle.soundness.specs.Rows.{met_in}
-use Rattle.soundness.proofs.RowLaws.{met_blank, met_on, met_end}
 use Rattle.soundness.proofs.rows.met_in.Given as goal
 
 abbrev pub invariant-loop-i : goal.invariant-loop-i

@@ -1,4 +1,4 @@
-use Rattle.std.proofs.Common.{sym, ◌∙◌, rules}
+use Rattle.std.proofs.Common.{sym, ◌∙◌}
 use Rattle.soundness.proofs.RowLaws.{blank_row}
 use Rattle.soundness.proofs.rows.met_row.Goals as goal
 

@@ -1,8 +1,6 @@
-use Rattle.std.proofs.Common.{◌≡◌, ◌+◌, ◌-◌, ◌≤◌, Bool, true, false, ◌&&◌, length, drop, sym, ap, ◌∙◌, arith, rules}
-use Rattle.lists.proofs.ListLaws.{mapped_long}
-use Rattle.soundness.specs.Marks.{Marks, next_mark}
+use Rattle.std.proofs.Common.{◌≡◌, ◌+◌, ◌-◌, ◌≤◌, true, false, length, drop}
+use Rattle.soundness.specs.Marks.{next_mark}
 use Rattle.soundness.specs.Rows.{met_all}
-use Rattle.soundness.proofs.RowLaws.{all_on, all_end}
 use Rattle.soundness.proofs.rows.rows_hold.Given as goal
 
 abbrev pub invariant-loop-i : goal.invariant-loop-i

@@ -1,9 +1,9 @@
-use Rattle.std.proofs.Common.{◌≡◌, ◌+◌, ◌-◌, ◌≤◌, length, ap, ◌∙◌, arith, rules}
+use Rattle.std.proofs.Common.{◌+◌, ap, ◌∙◌, arith, rules}
 use Rattle.lists.proofs.ListLaws.{mapped_long}
 use Rattle.rules.specs.declared.Task.{Task}
 use Rattle.table.proofs.LeafLaws.{shown_at, index_next}
 use Rattle.soundness.specs.Rows.{called_by}
-use Rattle.soundness.proofs.RowLaws.{TargetsTo, targets_on, targets_none}
+use Rattle.soundness.proofs.RowLaws.{targets_on, targets_none}
 use Rattle.soundness.proofs.rows.targets_of.Goals as goal
 
 pub loop-i-init : goal.loop-i-init

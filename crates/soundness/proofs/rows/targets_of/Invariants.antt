@@ -1,9 +1,5 @@
-use Rattle.std.proofs.Common.{◌≡◌, ◌+◌, ◌-◌, ◌≤◌, length, ap, ◌∙◌, arith, rules}
-use Rattle.lists.proofs.ListLaws.{mapped_long}
-use Rattle.rules.specs.declared.Task.{Task}
-use Rattle.table.proofs.LeafLaws.{shown_at, index_next}
-use Rattle.soundness.specs.Rows.{called_by}
-use Rattle.soundness.proofs.RowLaws.{TargetsTo, targets_on, targets_none}
+use Rattle.std.proofs.Common.{◌≡◌, ◌-◌, ◌≤◌, length}
+use Rattle.soundness.proofs.RowLaws.{TargetsTo}
 use Rattle.soundness.proofs.rows.targets_of.Given as goal
 
 abbrev pub invariant-loop-i : goal.invariant-loop-i

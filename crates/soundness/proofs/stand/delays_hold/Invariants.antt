@@ -1,10 +1,6 @@
-use Rattle.std.proofs.Common.{◌≡◌, ◌+◌, ◌-◌, ◌≤◌, Bool, true, false, ◌&&◌, leb, length, get_or, drop, sym, ap, ◌∙◌, arith, rules}
-use Rattle.lists.proofs.ListLaws.{mapped_long}
-use Rattle.table.proofs.LeafLaws.{left_at}
+use Rattle.std.proofs.Common.{◌≡◌, ◌-◌, ◌≤◌, length, drop}
 use Rattle.table.specs.Moved.{left_of}
 use Rattle.soundness.specs.Check.{holds_in, walked}
-use Rattle.soundness.specs.Marks.{without_mark}
-use Rattle.soundness.proofs.Turns.{walk_blank, walk_on, walk_end}
 use Rattle.soundness.proofs.stand.delays_hold.Given as goal
 
 -- The invariant: what is left of the answer is the answer for the rest of the queue, behind the ticks left of the last.

@@ -1,8 +1,5 @@
-use Rattle.std.proofs.Common.{◌≡◌, ◌+◌, ◌-◌, ◌≤◌, Bool, true, false, ◌&&◌, length, get_or, drop, sym, ap, ◌∙◌, arith, rules}
-use mathlib.Core.Bool.{and-true}
+use Rattle.std.proofs.Common.{◌≡◌, ◌-◌, ◌≤◌, length, drop}
 use Rattle.soundness.specs.Check.{any_order, holds_in, walked}
-use Rattle.soundness.specs.Marks.{Marks, without_mark}
-use Rattle.soundness.proofs.Turns.{walk_blank, walk_on, walk_end}
 use Rattle.soundness.proofs.stand.holds.Given as goal
 
 -- The invariant: what is left of the answer is the answer for the rest of the array.

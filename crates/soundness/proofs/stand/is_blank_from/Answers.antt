@@ -1,5 +1,4 @@
-use Rattle.std.proofs.Common.{◌≡◌, ◌-◌, ◌&&◌, eqb, length, drop, sym, refl, ◌∙◌, arith}
-use Rattle.lists.specs.Line.{blanks}
+use Rattle.std.proofs.Common.{◌≡◌, length, sym, refl, ◌∙◌, arith}
 use Rattle.soundness.proofs.Turns.{blank_on, blank_end}
 use Rattle.soundness.proofs.stand.is_blank_from.Goals as goal
 

@@ -1,6 +1,5 @@
-use Rattle.std.proofs.Common.{◌≡◌, ◌-◌, ◌&&◌, eqb, length, drop, sym, refl, ◌∙◌, arith}
+use Rattle.std.proofs.Common.{◌≡◌, ◌-◌, ◌&&◌, eqb, length, drop}
 use Rattle.lists.specs.Line.{blanks}
-use Rattle.soundness.proofs.Turns.{blank_on, blank_end}
 use Rattle.soundness.proofs.stand.is_blank_from.Given as goal
 
 -- The invariant: the places from i on are blank if those before j are, together, and those from j on.

@@ -1,4 +1,4 @@
-use Rattle.std.proofs.Common.{not, ◌&&◌, ltb, leb, rules}
+use Rattle.std.proofs.Common.{not, ◌&&◌, ltb, leb}
 use Rattle.soundness.proofs.task.calls_entry.Goals as goal
 
 pub returns : goal.returns

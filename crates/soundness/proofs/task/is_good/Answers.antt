@@ -1,4 +1,4 @@
-use Rattle.std.proofs.Common.{◌&&◌, rules}
+use Rattle.std.proofs.Common.{◌&&◌}
 use Rattle.soundness.proofs.task.is_good.Goals as goal
 
 pub returns : goal.returns

@@ -1,4 +1,4 @@
-use Rattle.std.proofs.Common.{not, ◌&&◌, eqb, rules}
+use Rattle.std.proofs.Common.{not, ◌&&◌, eqb}
 use Rattle.soundness.proofs.task.is_unused.Goals as goal
 
 pub returns : goal.returns

@@ -1,5 +1,4 @@
-use Rattle.std.proofs.Common.{◌≡◌, ◌-◌, ◌≤◌, true, length, drop, sym, refl, ap, ◌∙◌, arith, rules}
-use Rattle.lists.specs.Line.{line}
+use Rattle.std.proofs.Common.{sym, refl, ap, ◌∙◌, arith, rules}
 use Rattle.lists.proofs.Turns.{rest_blank, rest_entry, rest_end}
 use Rattle.soundness.specs.TreeCheck.{all_climbed}
 use Rattle.soundness.proofs.TreeTurns.{climbs_on}

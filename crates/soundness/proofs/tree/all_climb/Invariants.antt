@@ -1,8 +1,6 @@
-use Rattle.std.proofs.Common.{◌≡◌, ◌-◌, ◌≤◌, true, length, drop, sym, refl, ap, ◌∙◌, arith, rules}
+use Rattle.std.proofs.Common.{◌≡◌, ◌-◌, ◌≤◌, true, length, drop}
 use Rattle.lists.specs.Line.{line}
-use Rattle.lists.proofs.Turns.{rest_blank, rest_entry, rest_end}
 use Rattle.soundness.specs.TreeCheck.{all_climbed}
-use Rattle.soundness.proofs.TreeTurns.{climbs_on}
 use Rattle.soundness.proofs.tree.all_climb.Given as goal
 
 -- The invariant: the climbs from the rest of the line give what all climbs give.

@@ -1,5 +1,4 @@
-use Rattle.std.proofs.Common.{◌≡◌, ◌-◌, ◌≤◌, true, sym, refl, ◌∙◌, arith, rules}
-use Rattle.soundness.specs.TreeCheck.{climbed}
+use Rattle.std.proofs.Common.{true, sym, refl, ◌∙◌, arith}
 use Rattle.soundness.proofs.TreeTurns.{climb_on, climb_stop, climb_end}
 use Rattle.soundness.proofs.tree.climb.Goals as goal
 

@@ -1,6 +1,5 @@
-use Rattle.std.proofs.Common.{◌≡◌, ◌-◌, ◌≤◌, true, sym, refl, ◌∙◌, arith, rules}
+use Rattle.std.proofs.Common.{◌≡◌, ◌-◌, ◌≤◌}
 use Rattle.soundness.specs.TreeCheck.{climbed}
-use Rattle.soundness.proofs.TreeTurns.{climb_on, climb_stop, climb_end}
 use Rattle.soundness.proofs.tree.climb.Given as goal
 
 -- The invariant: what is left of the climb gives what the whole climb gives.

@@ -1,4 +1,4 @@
-use Rattle.std.proofs.Common.{◌≡◌, true, false, ◌&&◌, sym, ap, ◌∙◌, rules}
+use Rattle.std.proofs.Common.{◌≡◌, true, false, ◌&&◌, sym, ap, ◌∙◌}
 use Rattle.lists.specs.Line.{line}
 use Rattle.soundness.specs.Marks.{next_mark, is_none}
 use Rattle.soundness.specs.TreeCheck.{seen_of, all_climbed}

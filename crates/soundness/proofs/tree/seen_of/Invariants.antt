@@ -1,21 +1,11 @@
-use Rattle.std.proofs.Common.{◌≡◌, ℕ, ◌+◌, ◌-◌, ◌≤◌, Bool, true, ◌&&◌, List, [], length, get_or, drop, set, sym, refl, ap, ◌∙◌, arith, length-set, rules}
-use lib.Seq.{set_out}
+use Rattle.std.proofs.Common.{◌≡◌, ℕ, ◌-◌, ◌≤◌, true, length, drop}
 use Rattle.lists.specs.Line.{line}
 use Rattle.lists.specs.Marks.{no_marks, marked}
-use Rattle.lists.proofs.Tests.{ways}
-use Rattle.lists.proofs.Turns.{rest_blank, rest_entry, rest_end}
-use Rattle.lists.proofs.ListLaws.{mapped_long}
-use Rattle.lists.proofs.MarkLaws.{mark_on}
 use Rattle.rules.specs.State.{place_of, partner_of}
 use Rattle.rules.specs.Whole.{view_core}
 use Rattle.rules.specs.declared.Core.{Core}
-use Rattle.rules.specs.declared.Task.{Task}
-use Rattle.table.proofs.LeafLaws.{shown_at}
 use Rattle.table.specs.Tree.{holders_of}
-use Rattle.soundness.specs.declared.tree.Seen.{Seen}
-use Rattle.soundness.specs.Marks.{Marks, is_none}
-use Rattle.soundness.specs.TreeCheck.{passed, seen_of}
-use Rattle.soundness.proofs.TreeTurns.{pass_on}
+use Rattle.soundness.specs.TreeCheck.{passed}
 use Rattle.soundness.proofs.tree.seen_of.Given as goal
 
 -- The invariant: a pass over the rest of the line, from what is found so far, finds what the whole pass finds, and so do the marks of the holders.

@@ -1,12 +1,7 @@
-use Rattle.std.proofs.Common.{◌≡◌, ◌+◌, ◌-◌, ◌≤◌, not, eqb, length, get_or, drop, arith, rules}
-use mir.Val.{bool_byte}
+use Rattle.std.proofs.Common.{◌≡◌, ◌+◌, ◌-◌, ◌≤◌, length, drop}
 use Rattle.lists.specs.Line.{line}
-use Rattle.lists.proofs.Turns.{rest_blank, rest_entry, rest_end}
-use Rattle.lists.proofs.ListLaws.{mapped_long}
 use Rattle.rules.specs.Advance.{changes}
 use Rattle.table.specs.Moved.{left_of}
-use Rattle.table.proofs.LeafLaws.{left_at}
-use Rattle.steps.proofs.AdvanceLaws.{one_more, moments_on, moments_end}
 use Rattle.steps.proofs.advance.moments_of.Given as goal
 
 abbrev pub invariant-loop-i : goal.invariant-loop-i

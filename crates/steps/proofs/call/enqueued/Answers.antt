@@ -1,4 +1,4 @@
-use Rattle.std.proofs.Common.{[], rules}
+use Rattle.std.proofs.Common.{[]}
 use Rattle.steps.proofs.AnswerLaws.{move-answers}
 use Rattle.steps.proofs.call.enqueued.Goals as goal
 

@@ -1,14 +1,8 @@
-use Rattle.std.proofs.Common.{◌≡◌, ℕ, ◌-◌, ◌≤◌, length, get_or, drop, sym, refl, ap, ◌∙◌, arith, length-set, rules}
+use Rattle.std.proofs.Common.{◌≡◌, ◌-◌, ◌≤◌, length, drop}
 use Rattle.lists.specs.Line.{line}
 use Rattle.lists.specs.Marks.{no_marks, marked}
-use Rattle.lists.proofs.Tests.{ways}
-use Rattle.lists.proofs.Turns.{rest_blank, rest_entry, rest_end}
-use Rattle.lists.proofs.MarkLaws.{mark_on, mark_off}
-use Rattle.lists.proofs.ListLaws.{mapped_long}
 use Rattle.rules.specs.Whole.{view_core}
-use Rattle.rules.specs.declared.Task.{Task}
-use Rattle.table.proofs.LeafLaws.{shown_at}
-use Rattle.steps.specs.Lowest.{open_call, call_of}
+use Rattle.steps.specs.Lowest.{call_of}
 use Rattle.steps.proofs.callers.entries_called.Given as goal
 
 -- The invariant: the marks of the rest of the line, put upon those so far, are those of the whole line.

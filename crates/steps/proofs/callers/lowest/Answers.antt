@@ -1,11 +1,10 @@
-use Rattle.std.proofs.Common.{◌≡◌, ◌-◌, ◌≤◌, length, get_or, drop, sym, refl, ap, ◌∙◌, arith, rules}
-use Rattle.lists.specs.Line.{line}
+use Rattle.std.proofs.Common.{◌≡◌, get_or, sym, refl, ap, ◌∙◌, arith, rules}
 use Rattle.lists.proofs.Turns.{rest_blank, rest_entry, rest_end}
 use Rattle.lists.proofs.ListLaws.{mapped_long}
 use Rattle.rules.specs.Whole.{view_core}
 use Rattle.rules.specs.declared.Task.{Task}
 use Rattle.table.proofs.LeafLaws.{shown_at}
-use Rattle.steps.specs.Lowest.{open_call, call_of, nobody, lowest_of}
+use Rattle.steps.specs.Lowest.{open_call, call_of}
 use Rattle.steps.proofs.LowestLaws.{lower_turn}
 use Rattle.steps.proofs.callers.lowest.Lts as lts
 use Rattle.steps.proofs.callers.lowest.Reads as reads

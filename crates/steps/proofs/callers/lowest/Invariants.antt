@@ -1,12 +1,7 @@
-use Rattle.std.proofs.Common.{◌≡◌, ◌-◌, ◌≤◌, length, get_or, drop, sym, refl, ap, ◌∙◌, arith, rules}
+use Rattle.std.proofs.Common.{◌≡◌, ◌-◌, ◌≤◌, length, drop}
 use Rattle.lists.specs.Line.{line}
-use Rattle.lists.proofs.Turns.{rest_blank, rest_entry, rest_end}
-use Rattle.lists.proofs.ListLaws.{mapped_long}
 use Rattle.rules.specs.Whole.{view_core}
-use Rattle.rules.specs.declared.Task.{Task}
-use Rattle.table.proofs.LeafLaws.{shown_at}
-use Rattle.steps.specs.Lowest.{open_call, call_of, nobody, lowest_of}
-use Rattle.steps.proofs.LowestLaws.{lower_turn}
+use Rattle.steps.specs.Lowest.{call_of, nobody, lowest_of}
 use Rattle.steps.proofs.callers.lowest.Given as goal
 
 -- The lowest of the rest of the line, from the lowest so far, is that of the line.

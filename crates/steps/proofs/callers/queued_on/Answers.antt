@@ -1,4 +1,4 @@
-use Rattle.std.proofs.Common.{◌≡◌, ◌-◌, ◌≤◌, eqb, ◌++◌, length, sym, refl, ap, ◌∙◌, arith, length-take, rules}
+use Rattle.std.proofs.Common.{◌≡◌, ◌≤◌, eqb, length, sym, refl, ap, ◌∙◌, arith, length-take, rules}
 use Rattle.lists.specs.Line.{line, pad, pad_to}
 use Rattle.lists.specs.Marks.{mark_of, with_mark}
 use Rattle.lists.proofs.LineLaws.{line_line, line_picked}
@@ -6,7 +6,7 @@ use Rattle.lists.proofs.ListLaws.{mapped_long}
 use Rattle.rules.specs.Step.{queued_on}
 use Rattle.steps.specs.Taken.{seen}
 use Rattle.rules.specs.Whole.{view_core}
-use Rattle.steps.proofs.FinishLaws.{by_marks, queued_laid, queued_turn, queued_end, marks_queued}
+use Rattle.steps.proofs.FinishLaws.{queued_laid, queued_turn, queued_end, marks_queued}
 use Rattle.steps.proofs.callers.queued_on.Lts as lts
 use Rattle.steps.proofs.callers.queued_on.Reads as reads
 use Rattle.steps.proofs.callers.queued_on.Tie as tie

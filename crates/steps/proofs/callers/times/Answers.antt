@@ -1,4 +1,4 @@
-use Rattle.std.proofs.Common.{◌≡◌, ◌+◌, ◌-◌, ◌≤◌, eqb, length, get_or, drop, arith, rules}
+use Rattle.std.proofs.Common.{◌≡◌, ◌+◌, ◌≤◌, eqb, get_or, drop, arith, rules}
 use mir.Val.{bool_byte}
 use Rattle.lists.specs.Lists.{count}
 use Rattle.lists.proofs.ListLaws.{mapped_long}

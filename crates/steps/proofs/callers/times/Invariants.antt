@@ -1,8 +1,5 @@
-use Rattle.std.proofs.Common.{◌≡◌, ◌+◌, ◌-◌, ◌≤◌, eqb, length, get_or, drop, arith, rules}
-use mir.Val.{bool_byte}
+use Rattle.std.proofs.Common.{◌≡◌, ◌+◌, ◌-◌, ◌≤◌, length, drop}
 use Rattle.lists.specs.Lists.{count}
-use Rattle.lists.proofs.ListLaws.{mapped_long}
-use Rattle.steps.proofs.FinishLaws.{times_turn, times_done, times_short}
 use Rattle.steps.proofs.callers.times.Given as goal
 
 -- The invariant: what is counted, and the marks of the rest, are all of them.

@@ -1,4 +1,4 @@
-use Rattle.std.proofs.Common.{rules, eq-eqb, ne_eqb}
+use Rattle.std.proofs.Common.{eq-eqb, ne_eqb}
 use Rattle.steps.proofs.change.accepted_mark.Goals as goal
 
 pub returns-then-res-eq-ACCEPTED : goal.returns-then-res-eq-ACCEPTED

@@ -1,4 +1,4 @@
-use Rattle.std.proofs.Common.{Bool, ◌&&◌, eqb, ap, rules}
+use Rattle.std.proofs.Common.{Bool, ◌&&◌, eqb, ap}
 use Rattle.steps.proofs.change.comes.Goals as goal
 
 pub returns : goal.returns

@@ -1,4 +1,4 @@
-use Rattle.std.proofs.Common.{◌≡◌, ℕ, ◌-◌, ◌*◌, ◌≤◌, drop, sym, ap, ◌∙◌, arith, rules}
+use Rattle.std.proofs.Common.{◌≡◌, ℕ, ◌-◌, sym, ap, ◌∙◌, arith}
 use Rattle.lists.specs.Marks.{marked}
 use Rattle.steps.specs.Change.{one, bytes_in}
 use Rattle.steps.proofs.ChangeLaws.{bytes_on, bytes_end}

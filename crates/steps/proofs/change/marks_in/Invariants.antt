@@ -1,7 +1,6 @@
-use Rattle.std.proofs.Common.{◌≡◌, ℕ, ◌-◌, ◌*◌, ◌≤◌, drop, sym, ap, ◌∙◌, arith, rules}
+use Rattle.std.proofs.Common.{◌≡◌, ◌-◌, ◌*◌, ◌≤◌, drop}
 use Rattle.lists.specs.Marks.{marked}
 use Rattle.steps.specs.Change.{one, bytes_in}
-use Rattle.steps.proofs.ChangeLaws.{bytes_on, bytes_end}
 use Rattle.steps.proofs.change.marks_in.Given as goal
 
 -- The invariant: the marks of the rest of the items, put upon those so far, are those of all.

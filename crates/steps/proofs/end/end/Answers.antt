@@ -1,62 +1,48 @@
-use Rattle.std.proofs.Common.{◌≡◌, [], ◌∷◌, refl, ap, ◌∙◌, rules}
-use Rattle.calls.specs.declared.Call.TheVariants.{End}
-use Rattle.lists.specs.Lists.{last}
-use Rattle.rules.specs.State.{entry_of, place_of, held_by, part}
-use Rattle.rules.specs.Step.{item, take_call, took, DONE, SERVED}
-use Rattle.rules.specs.Step as rules
+use Rattle.std.proofs.Common.{◌≡◌, ℕ, List, length, [], ◌∷◌, refl, ap, ◌∙◌}
+use Rattle.lists.specs.Line.{line, pad}
+use Rattle.lists.specs.Lists.{last, filter}
+use Rattle.rules.specs.State.{entry_of, place_of, held_by}
+use Rattle.rules.specs.Step.{item, DONE, SERVED}
+use Rattle.rules.specs.declared.Core.{Core}
+use Rattle.table.specs.Moved.{passes_of}
 use Rattle.rules.specs.Whole.{view_core}
 use Rattle.table.specs.declared.queues.Test.TheVariants.{HeldBy}
-use Rattle.lists.proofs.Parts.{need, Answer, Room}
 use Rattle.steps.proofs.MoveLaws.{long_held, picked_line}
-use Rattle.steps.proofs.AnswerLaws.{by_both, by_ended, by_outcome, runner}
+use Rattle.steps.proofs.AnswerLaws.{by_outcome, by_ended, runner}
 use Rattle.steps.proofs.EndLaws.{end_idle, end_runs, end_none, end_one, held_last, parted_answers}
-use Rattle.steps.proofs.end.end.Lts as lts
-use Rattle.steps.proofs.end.end.Reads as reads
-use Rattle.steps.proofs.end.end.Tie as tie
 use Rattle.steps.proofs.end.end.Goals as goal
 
-end-here : (c : (lts.Else1 tie.the-claims reads.Pre reads.Post)) → take_call (view_core c.args.s) End ≡ rules.end (view_core c.args.s) c.running-t.result
-end-here c = end_runs (view_core c.args.s) c.running-t.result c.running-t.ensures c.if-t-eq0.false
-
 -- the one that was picked is the last of those that t holds
-last-here : (c : (lts.After-last_of tie.the-claims reads.Pre reads.Post)) → c.last_of-k.result ≡ last (held_by (view_core c.args.s) c.running-t.result)
-last-here c =
-    let s = c.args.s in
-    c.last_of-k.ensures ∙ ap last (picked_line s s.held-1 (HeldBy c.running-t.result) _ (long_held s c.requires.0) c.picked-l.ensures)
+last-here : (s : Core) (t k : ℕ) (l : List ℕ) → length s.held ≡ 31 → k ≡ last (line l) → l ≡ pad (filter (passes_of (view_core s) (HeldBy t)) (line s.held)) → k ≡ last (held_by (view_core s) t)
+last-here s t k l long e p = e ∙ ap last (picked_line s s.held (HeldBy t) l long p)
 
 pub returns-then-t-eq0 : goal.returns-then-t-eq0
 returns-then-t-eq0 c =
     let s = c.args.s in
-    by_both s _ _ (end_idle (view_core s) c.running-t.result c.running-t.ensures c.if-t-eq0.true) c.refused_by.ensures refl
+    let q = end_idle (view_core s) c.running-t.result c.running-t.ensures c.if-t-eq0.true in
+    record { value = by_outcome s q c.refused_by.ensures; room = by_ended _ _ q refl }
 
 pub returns-then-k-eq0 : goal.returns-then-k-eq0
 returns-then-k-eq0 c =
-    let k = c.before.before in
-    let e1 = c.before.before.before.before.before in
     let s = c.args.s in
-    by_both s _ _ (end-here e1 ∙ end_none (view_core s) e1.running-t.result _ (last-here k) c.if-k-eq0.true) c.refused_by-then-k-eq0.ensures refl
+    let v = view_core s in
+    let t = c.running-t.result in
+    let held = last-here s t c.last_of-k.result c.picked-l.result (long_held s c.requires.0) c.last_of-k.ensures c.picked-l.ensures in
+    let q = end_runs v t c.running-t.ensures c.if-t-eq0.false ∙ end_none v t c.last_of-k.result held c.if-k-eq0.true in
+    record { value = by_outcome s q c.refused_by-then-k-eq0.ensures; room = by_ended _ _ q refl }
 
 -- the caller held last is served
-serves-here : (c : (lts.Else2 tie.the-claims reads.Pre reads.Post))
-    → let v = view_core c.args.s in let t = c.running-t.result in let k = c.last_of-k.result in take_call v End ≡ took (part v t k) (item t DONE 0 0) (item k SERVED (entry_of (place_of v k)) t ∷ [])
-serves-here c =
-    let e1 = c.before.before.before.before in
-    end-here e1 ∙ end_one (view_core e1.args.s) e1.running-t.result c.last_of-k.result (last-here c.before) c.if-k-eq0.false
-
-answer-here : Answer (need tie.Need-returns-3)
-answer-here c =
-    let e2 = c.before.before.before.before.before.before.before.before in
-    let e1 = e2.before.before.before.before in
-    let r = e1.before.before.before in
-    let s = r.args.s in
-    let v = view_core s in
-    let t = e1.running-t.result in
-    let k = e2.last_of-k.result in
-    by_outcome s (serves-here e2)
-    (parted_answers s c.parted-n.result t k (item t DONE 0 0) (item k SERVED (entry_of (place_of v k)) t ∷ []) r.requires.0 (runner s t r.requires.0 e1.running-t.ensures e1.if-t-eq0.false) (held_last v t k (last-here e2.before) e2.if-k-eq0.false) c.answered.ensures c.parted-n.ensures)
-
-written-here : Room (need tie.Need-returns-3)
-written-here c = by_ended _ _ (serves-here c.before.before.before.before.before.before.before.before) (rw (c.entry_of.ensures, c.task_of-x.ensures) at c.put.ensures)
-
 pub returns : goal.returns
-returns c = (answer-here c, written-here c)
+returns c =
+    let s = c.args.s in
+    let v = view_core s in
+    let t = c.running-t.result in
+    let k = c.last_of-k.result in
+    let h = c.requires.0 in
+    let held = last-here s t k c.picked-l.result (long_held s h) c.last_of-k.ensures c.picked-l.ensures in
+    let q = end_runs v t c.running-t.ensures c.if-t-eq0.false ∙ end_one v t k held c.if-k-eq0.false in
+    record {
+      value = by_outcome s q
+          (parted_answers s c.parted-n.result t k (item t DONE 0 0) (item k SERVED (entry_of (place_of v k)) t ∷ []) h (runner s t h c.running-t.ensures c.if-t-eq0.false) (held_last v t k held c.if-k-eq0.false) c.answered.ensures c.parted-n.ensures);
+      room = by_ended _ _ q (rw (c.entry_of.ensures, c.task_of-x.ensures) at c.put.ensures);
+    }

@@ -1,4 +1,3 @@
-use Rattle.std.proofs.Common.{rules}
 use Rattle.steps.proofs.ended.item_of.Goals as goal
 
 pub returns-then-failed : goal.returns-then-failed

@@ -1,4 +1,4 @@
-use Rattle.std.proofs.Common.{arith, length-set, rules}
+use Rattle.std.proofs.Common.{arith, length-set}
 use Rattle.steps.proofs.RoomLaws.{four}
 use Rattle.steps.proofs.ended.put.Goals as goal
 

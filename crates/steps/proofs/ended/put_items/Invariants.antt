@@ -1,12 +1,7 @@
-use Rattle.std.proofs.Common.{◌≡◌, ◌+◌, ◌-◌, ◌*◌, ◌≤◌, ◌∷◌, length, get_or, drop, refl, ap, ◌∙◌, arith, length-drop, length-take, rules}
+use Rattle.std.proofs.Common.{◌≡◌, ◌-◌, ◌*◌, ◌≤◌, length, drop}
 use Rattle.lists.specs.Line.{line}
-use Rattle.lists.proofs.Turns.{rest_blank, rest_entry, rest_end}
-use Rattle.lists.proofs.ListLaws.{mapped_long}
 use Rattle.rules.specs.Whole.{view_core}
-use Rattle.rules.specs.declared.Task.{Task}
-use Rattle.table.proofs.LeafLaws.{shown_at}
-use Rattle.steps.specs.Taken.{item_at, item_of}
-use Rattle.steps.proofs.RoomLaws.{Going, going_start, going_on, going_end}
+use Rattle.steps.proofs.RoomLaws.{Going}
 use Rattle.steps.proofs.ended.put_items.Given as goal
 
 abbrev pub invariant-loop-i : goal.invariant-loop-i

@@ -8,13 +8,11 @@ use Rattle.steps.proofs.ended.wake_all.Goals as goal
 
 pub returns-then-first_of-eq0 : goal.returns-then-first_of-eq0
 returns-then-first_of-eq0 c =
-    let k = c.before.before.before in
-    let a = k.args in
-    woken_none (view_core a.s) a.s a.failed _ _ k.requires.0.packs (rest_blank a.l 0 (search rules) (first_at a.l ∙ sym c.first_of.ensures ∙ c.if-first_of-eq0.true))
+    let a = c.args in
+    woken_none (view_core a.s) a.s a.failed _ _ c.requires.0.packs (rest_blank a.l 0 (search rules) (first_at a.l ∙ sym c.first_of.ensures ∙ c.if-first_of-eq0.true))
 
 pub returns : goal.returns
 returns c =
-    let k = c.before.before.before.before.before.before.before.before in
-    let p = c.put_items-n in
-    let s = k.args.s in
-    record { state = c.woken-m.ensures ∙ woken_packed s (line k.args.l) k.requires.0 k.requires.2; number = p.ensures.0; written = p.ensures.1 }
+    let p = c.put_items-n.ensures in
+    let a = c.args in
+    record { state = c.woken-m.ensures ∙ woken_packed a.s (line a.l) c.requires.0 c.requires.2; number = p.value; written = p.room }

@@ -1,4 +1,4 @@
-use Rattle.std.proofs.Common.{◌≡◌, ◌^◌, false, leb, [], sym, refl, ap, ◌∙◌, rules}
+use Rattle.std.proofs.Common.{◌≡◌, ◌^◌, false, leb, [], sym, refl, ap, ◌∙◌}
 use Rattle.calls.specs.declared.Call.TheVariants.{Select}
 use Rattle.lists.specs.Lists.{first}
 use Rattle.rules.specs.State.{task_of, queue, meet}

@@ -1,13 +1,11 @@
-use Rattle.std.proofs.Common.{◌≡◌, ℕ, ◌-◌, ◌≤◌, length, get_or, drop, sym, refl, ◌∙◌, arith, length-set, rules}
-use Rattle.lists.specs.Line.{line}
-use Rattle.lists.specs.Marks.{no_marks, marked}
-use Rattle.lists.proofs.Tests.{ways}
+use Rattle.std.proofs.Common.{◌≡◌, ℕ, length, get_or, sym, refl, ◌∙◌, arith, length-set, rules}
 use Rattle.lists.proofs.Turns.{rest_blank, rest_entry, rest_end}
 use Rattle.lists.proofs.MarkLaws.{mark_on, mark_off}
 use Rattle.lists.proofs.ListLaws.{mapped_long}
 use Rattle.table.specs.Moved.{left_of}
 use Rattle.table.proofs.LeafLaws.{left_at}
 use Rattle.table.proofs.moves.keys_of.Goals as goal
+use Rattle.table.proofs.moves.keys_of.Goals.{then-x-lt32, else-x-lt32}
 
 pub returns-then-x-eq0 : goal.returns-then-x-eq0
 returns-then-x-eq0 c =
@@ -16,17 +14,16 @@ returns-then-x-eq0 c =
 
 pub loop-i-preserved : goal.loop-i-preserved
 loop-i-preserved c =
-    let m = c.before in
-    let i = m.before.before in
-    let e = i.before in
-    let l = e.loop-i in
-    let a = e.args in
+    let l = c.loop-i in
+    let a = c.args in
     let x = get_or a.a l.i 0 in
-    let rest = rest_entry a.a l.i (search rules) e.if-x-eq0.false in
-    let left = left_at a.s x _ _ l.invariant.1 i.index_of-at.ensures.0 m.left_of-left.ensures in
-    ways c.if-x-lt32.branch
-    (λ w. (omega arith, l.invariant.1, rw w.1 (length-set {A = ℕ} l.keys _ m.left_of-left.result ∙ l.invariant.2), rw w.1 (l.invariant.3 ∙ mark_on (left_of a.s) _ _ _ l.keys m.left_of-left.result rest left)))
-    (λ w. (omega arith, l.invariant.1, rw w.1 l.invariant.2, rw w.1 (l.invariant.3 ∙ mark_off (left_of a.s) _ _ _ l.keys rest (omega arith))))
+    let rest = rest_entry a.a l.i (search rules) c.if-x-eq0.false in
+    let left = left_at a.s x _ _ l.invariant.1 c.index_of-at.ensures.0 c.left_of-left.ensures in
+    elim c.if-x-lt32.branch [
+      | then-x-lt32 w ↦
+          (omega arith, l.invariant.1, rw w.keys-is (length-set {A = ℕ} l.keys _ c.left_of-left.result ∙ l.invariant.2), rw w.keys-is (l.invariant.3 ∙ mark_on (left_of a.s) _ _ _ l.keys c.left_of-left.result rest left))
+      | else-x-lt32 w ↦ (omega arith, l.invariant.1, rw w.keys-is l.invariant.2, rw w.keys-is (l.invariant.3 ∙ mark_off (left_of a.s) _ _ _ l.keys rest (omega arith)))
+    ]
 
 pub returns : goal.returns
 returns c =

@@ -1,12 +1,10 @@
-use Rattle.std.proofs.Common.{◌≡◌, ◌-◌, ◌≤◌, length, get_or, drop, sym, refl, ◌∙◌, arith, length-set, rules}
-use Rattle.lists.specs.Line.{line}
+use Rattle.std.proofs.Common.{◌≡◌, length, get_or, sym, refl, ◌∙◌, arith, length-set, rules}
 use Rattle.lists.proofs.Turns.{rest_blank, rest_entry, rest_end}
 use Rattle.lists.proofs.ListLaws.{mapped_long}
 use Rattle.rules.specs.State.{placed}
 use Rattle.rules.specs.declared.Place.TheVariants.{Ready}
 use Rattle.rules.specs.declared.Task.{Task}
 use Rattle.rules.specs.declared.Timer.TheVariants.{Off}
-use Rattle.table.specs.Moved.{readied_of}
 use Rattle.table.proofs.LeafLaws.{changed_put, readied_on}
 use Rattle.table.proofs.moves.readied.Goals as goal
 
@@ -17,15 +15,14 @@ returns-then-t-eq0 c =
 
 pub loop-i-preserved : goal.loop-i-preserved
 loop-i-preserved c =
-    let i = c.before.before in
-    let e = i.before in
-    let s = e.loop-i in
-    let t = e.args.l in (
+    let s = c.loop-i in
+    let l = c.args.l in
+    let t = get_or l s.i 0 in (
       omega arith,
       length-set {A = Task} s.n.tasks _ c.placed_task.result ∙ s.invariant.1,
       s.invariant.2
-          ∙ readied_on s.n (get_or t s.i 0) _ _ _ (rest_entry t s.i (search rules) e.if-t-eq0.false)
-          (changed_put (λ x. placed x Ready Off) s.n (get_or t s.i 0) _ _ s.invariant.1 i.index_of-at.ensures.0 c.placed_task.ensures),
+          ∙ readied_on s.n t _ _ _ (rest_entry l s.i (search rules) c.if-t-eq0.false)
+          (changed_put (λ x. placed x Ready Off) s.n t _ _ s.invariant.1 c.index_of-at.ensures.0 c.placed_task.ensures),
     )
 
 pub returns : goal.returns

@@ -3,13 +3,9 @@ use Rattle.lists.proofs.ListLaws.{mapped_long}
 use Rattle.table.proofs.LeafLaws.{retime_due}
 use Rattle.table.proofs.moves.retimed.Goals as goal
 
-pub returns-in-Off : goal.returns-in-Off
-returns-in-Off c = rw c.enum_told-1.given.1 c.without-a.ensures
-
 pub returns-in-Due : goal.returns-in-Due
 returns-in-Due c =
     let a = c.args in
     let long : length a.s.tasks ≡ 31 = search (rules, mapped_long) in
     let k : length a.s.delays ≡ 31 = search (rules, mapped_long) in
-    let d = c.w-1.given.1 in
-    rw d (c.put_by.ensures ∙ retime_due a.s a.t _ _ _ _ long k c.without-a.ensures c.keys_of-keys.ensures c.ticks_left.ensures)
+    rw c.in-Due.is (c.put_by.ensures ∙ retime_due a.s a.t _ _ _ _ long k c.without-a.ensures c.keys_of-keys.ensures c.ticks_left.ensures)

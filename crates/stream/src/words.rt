@@ -1,0 +1,23 @@
+// The words that a program is started with.
+ghost use Rattle.std.specs.Prelude.{◌≤◌, length};
+
+use std::env::{Env, FillError};
+
+// How many there are, the program's own name among them.
+pub fn arg_count<R: Env>(rt: &R) -> usize {
+    let mut room = [0u8; 1];
+    for i in 0..usize::MAX {
+        if let Err(FillError::NotPresent) = rt.arg(i, &mut room) {
+            return i;
+        }
+    }
+    usize::MAX
+}
+
+// Puts the word with this number, 0 for the program's own name, at the start of the room. The answer is its length, or 0 where it is missing or longer than
+// the room.
+pub fn arg<R: Env>(rt: &R, i: usize, room: &mut [u8]) -> usize
+    ensures { result ≤ length room.new }
+{
+    rt.arg(i, room).unwrap_or(0)
+}
