@@ -12,7 +12,7 @@ from pathlib import Path
 def declared(text, name):
     """The name stands in the text as a whole word at a place that declares it."""
     word = re.escape(name)
-    return re.search(rf"(?m)^\s*(abbrev |unfoldable |pub |record |data |fn |extern \"C\" )*{word}\s*[:({{,]", text) or re.search(
+    return re.search(rf"(?m)^\s*(abbrev |unfoldable |pub |record |data |fn |extern \"C\" )*{word}\s*[:({{,<]", text) or re.search(
         rf"(?m)\b(record|data|fn|struct|enum) {word}\b", text
     )
 

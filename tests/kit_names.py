@@ -7,14 +7,16 @@ import re
 import sys
 from pathlib import Path
 
-USE = re.compile(r"(?m)^(?:ghost )?use (?!Rattle·)([\w.]+)\.\{([^}]*)\};?$")
+USE = re.compile(r"(?m)^(?:ghost )?use ([\w.]+)\.\{([^}]*)\};?$")
+OURS = {folder.name for folder in Path("crates").iterdir()}
 
 
 def imported(trust):
     """The names that the definitions import, as pairs of module and name."""
     for file in re.findall(r"(?m)^\| `([\w/.-]+\.(?:antt|rt))` \| \d+ \|", trust):
         for module, names in USE.findall((Path("crates") / file).read_text()):
-            yield from ((module, name.strip()) for name in names.split(","))
+            if module.split(".")[:1] != ["Rattle"] or module.split(".")[1] not in OURS:
+                yield from ((module, name.strip()) for name in names.split(","))
 
 
 def main():

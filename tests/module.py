@@ -1,19 +1,15 @@
 """The module of a program, as the kit hands it to its compiler, with chosen functions kept as functions of their own.
 
-The compiler lays most functions into their callers, so the built programs do not show them one by one. This compiles a
-program with the kit's own front end, as `rt` does but with no proof, and takes the module that the compiler gets for the
-optimised build, and the words with which it is called. (It gets two more, one to be built with no optimisation and one
-in which its assumptions are checked, which is slower and takes more stack.)
+The compiler lays most functions into their callers, so the built programs do not show them one by one. This builds a program as the kit does, over the proved
+libraries, and takes the module that the compiler gets, and the words with which it is called.
 """
-import platform
 import re
-import subprocess
-import sys
 from pathlib import Path
 
-# what the kit calls its compiler with for the optimised build, to be seen among the words of a call
-OPTIMISED = "-O3"
+from kit import Kit, run, stop
 
+# what the kit calls its compiler with, to be seen among the words of a call
+OPTIMISED = "-O3"
 
 # a program that uses both engines, so that the compiler gets all of them; it reads no word and so links nothing
 BOTH_ENGINES = """fn main() {
@@ -30,101 +26,63 @@ BOTH_ENGINES = """fn main() {
 """
 
 
-def stop(why):
-    sys.exit(f"{Path(sys.argv[0]).name}: {why}")
-
-
-def run(*words):
-    done = subprocess.run(words, capture_output=True, text=True)
-    if done.returncode:
-        stop(f"{' '.join(map(str, words[:2]))} .. failed\n{done.stdout}{done.stderr}")
-    return done.stdout
-
-
-def rests_on(crates):
-    """Each crate of the repository, or of the kit, with what it rests on."""
-    lines = (line.split("#")[0].split(":") for line in crates.read_text().split("\n"))
-    return {name.strip(): deps.split() for name, deps in (line for line in lines if len(line) == 2)}
-
-
-def lower(name, ours, theirs, found):
-    """What `name` rests on, lowest first, and itself."""
-    for dep in ours.get(name, []) + theirs.get(name, []):
-        lower(dep, ours, theirs, found)
-    if name not in found:
-        found.append(name)
-
-
-class Kit:
-    def __init__(self):
-        self.root = Path(run("rt", "doc").strip()).resolve().parent.parent
-        self.machine = self.root / "on" / platform.machine()
-        self.tools = self.machine / "toolchain"
-        self.clang = self.tools / "bin" / "clang"
-
-    def watched(self, work):
-        """The kit's tools, with a compiler that keeps the module and the words of the optimised build."""
-        tools = work / "toolchain"
-        (tools / "bin").mkdir(parents=True)
-        (tools / "lib").symlink_to(self.root / "toolchain" / "lib")
-        for tool in self.clang.parent.iterdir():
-            if tool.name != "clang":
-                (tools / "bin" / tool.name).symlink_to(tool)
-        wrapper = tools / "bin" / "clang"
-        wrapper.write_text(
-            f"""#!/bin/sh
+def watched(kit, work):
+    """The kit's tools, with a compiler that keeps the module and the words of its call."""
+    tools = work / "toolchain"
+    (tools / "bin").mkdir(parents=True)
+    (tools / "lib").symlink_to(kit.tools / "lib")
+    for tool in kit.clang.parent.iterdir():
+        if tool.name != "clang":
+            (tools / "bin" / tool.name).symlink_to(tool)
+    wrapper = tools / "bin" / "clang"
+    wrapper.write_text(
+        f"""#!/bin/sh
 case " $* " in *" {OPTIMISED} "*) cp module.bc "{work}" && printf '%s\\n' "$@" >"{work}/words" ;; esac
-exec "{self.clang}" "$@"
+exec "{kit.clang}" "$@"
 """
-        )
-        wrapper.chmod(0o755)
-        return tools
+    )
+    wrapper.chmod(0o755)
+    return tools
 
-    def module(self, main, crates, work, crate="main"):
-        """Keeps the module of the program in the file `main`, which is the crate of that name and uses the crates, in the folder `work`."""
-        found = ["std"]
-        for name in crates:
-            lower(name, rests_on(Path("crates.txt")), rests_on(self.root / "libs" / "libs.txt"), found)
-        words = [self.machine / "bin" / "rattle-cases", "--toolchain", self.watched(work), *self.linked(found), main, "--crate-name", crate]
-        for name in found:
-            ours = Path("crates") / name
-            words += ["--lib", f"{name}={(ours if ours.exists() else self.root / 'libs' / name) / 'src' / 'lib.rt'}"]
-        said = subprocess.run(words, capture_output=True, text=True, stdin=subprocess.DEVNULL)
+
+class Module:
+    """The module of a program, in a folder of its own: of a crate of the repository, or of one made of a text that uses some of its crates."""
+
+    def __init__(self, work, program=None, text=None, uses=()):
+        self.kit, self.work = Kit(), work
+        if text is None:
+            crate = self.kit.crates()[program]
+        else:
+            (work / "src").mkdir()
+            (work / "src" / "main.rt").write_text("#![tactic(auto)]\n\n" + text)
+            crate = self.kit.program("main", work, uses)
+        self.kit.stand(crate)
+        said = self.kit.build(crate, work / "program.o", watched(self.kit, work))
         if not (work / "words").exists():
-            stop(f"{main} was not compiled\n{said.stdout}{said.stderr}")
+            stop(f"{crate.name} was not compiled\n{said}")
 
-    def linked(self, crates):
-        """The words that link what the crates call in C."""
-        return ["--link", self.root / "lib" / "libos_c.a"] if "os" in crates else []
-
-    def words(self, work):
+    def words(self):
         """The words with which the compiler is called."""
-        return (work / "words").read_text().split()
+        return (self.work / "words").read_text().split()
 
-    def text(self, work):
-        """The module that is kept, as text."""
-        target = [word for word in self.words(work) if word.startswith("--target=")]
+    def text(self):
+        """The module as text."""
+        target = [word for word in self.words() if word.startswith("--target=")]
         as_text = ["-S", "-emit-llvm", "-O0", "-Xclang", "-disable-llvm-passes"]
-        run(self.clang, "--no-default-config", *target, *as_text, "-x", "ir", work / "module.bc", "-o", work / "module.ll")
-        return (work / "module.ll").read_text()
+        run(self.kit.clang, "--no-default-config", *target, *as_text, "-x", "ir", self.work / "module.bc", "-o", self.work / "module.ll")
+        return (self.work / "module.ll").read_text()
 
-    def compiled(self, work, functions, out, form="-c", native=False):
-        """Compiles the module that is kept as the kit does, but so that the functions can be called from outside.
+    def compiled(self, functions, out, form="-c"):
+        """Compiles the module as the kit does, but so that the functions can be called from outside.
 
-        Its `main` is called `program`, which makes room for another. The form is -c for an object, -S for text. The code is for x86-64, as
-        all that the kit builds; native, it is for the processor that this runs on.
+        Its `main` is called `program`, which makes room for another. The form is -c for an object, -S for text.
         """
-        words = self.words(work)
-        ir = self.text(work).replace("@main(", "@program(")
+        ir = self.text().replace("@main(", "@program(")
         for name in functions:
             ir, times = re.subn(rf'^define internal (.*@"{re.escape(name)}"\()', r"define \1", ir, flags=re.M)
             if not times:
                 stop(f"the program has no function {name}")
-        if native and platform.machine() != "x86_64":
-            ir = ir.replace('"target-cpu"="x86-64"', "")
-            words = [word for word in words if not word.startswith(("--target=", "-march="))]
-            words += [f"--target={platform.machine()}-unknown-linux-gnu", "-Wno-override-module"]
-        text = work / "module.ll"
+        text = self.work / "module.ll"
         text.write_text(ir)
         ours = {"module.bc": text, "module.o": out, "-c": form}
-        run(self.clang, *(ours.get(word, word) for word in words))
+        run(self.kit.clang, *(ours.get(word, word) for word in self.words()))

@@ -1,13 +1,13 @@
 """own_form.py OBJECT: compiles functions of the supervisor and of the library, for tests/reference/own.rs to call.
 
-They are compiled as the kit compiles a program, but kept as functions of their own and for the processor that this runs on: see module.py.
+They are compiled as the kit compiles a program, but kept as functions of their own: see module.py.
 """
 import os
 import sys
 import tempfile
 from pathlib import Path
 
-from module import Kit
+from module import Module
 
 FUNCTIONS = [
     "supervisor::step",
@@ -41,13 +41,8 @@ def main():
         sys.exit(__doc__)
     out = Path(sys.argv[1]).resolve()
     os.chdir(Path(__file__).resolve().parent.parent)
-    kit = Kit()
     with tempfile.TemporaryDirectory() as folder:
-        work = Path(folder)
-        program = work / "main.rt"
-        program.write_text(PROGRAM)
-        kit.module(program, ["card"], work)
-        kit.compiled(work, FUNCTIONS, out, native=True)
+        Module(Path(folder), text=PROGRAM, uses=["card"]).compiled(FUNCTIONS, out)
 
 
 main()

@@ -1,13 +1,16 @@
 """unique_names.py TRUST STATEMENTS: every public function's contract determines the answer, or TRUST names the function.
 
 A function is public if another crate can name it: a `pub fn` or `pub extern "C" fn` of a library's src/lib.rt, or of a module that is
-`pub` there. For each, proofs/Unique.antt of its crate names its contract (`use ..NAME.Reads as ALIAS`) and proves `ALIAS-once` of it, and
-the row of STATEMENTS that names that file names the theorem. A function whose answer no contract determines stands in a table row of TRUST, as
+`pub` there. For each, proofs/Unique.antt of its crate names its contract (`use ..NAME.Reads as ALIAS`) and proves a theorem `.._once` of it, and
+the row of STATEMENTS that names that file names the theorem. A function that C calls stands for one of a library, of which this is proved (tests/exports.py). A function whose answer no contract determines stands in a table row of TRUST, as
 `crate::module::name`. And every function that is `pub`, in whatever file, has a contract on its answer, if it answers anything.
 """
 import re
 import sys
 from pathlib import Path
+
+# the crates that only pass functions on to C
+EXPORTING = {"card_c"}
 
 
 def public_functions(crate, modules=()):
@@ -37,22 +40,24 @@ def theorem(crate, function):
     file = Path("crates") / crate / "proofs/Unique.antt"
     text = file.read_text() if file.exists() else ""
     path = re.escape(".".join(function))
-    named = re.search(rf"(?m)^use Rattle·{crate}·proofs\.proofs\.{path}(?:\.Reads)? as (\S+)$", text)
+    named = re.search(rf"(?m)^use Rattle\.{crate}\.(?:proofs\.{path}\.Reads|specs\.contracts\.{path}) as (\S+)$", text)
     if named is None:
         return None
     alias = re.escape(named.group(1))
-    stated = re.search(rf"(?ms)^\s*pub ({alias}-once) :(.*?)^\s*{alias}-once ", text)
-    return stated.group(1) if stated and re.search(rf"\b{alias}\.(Learnt|clauses)\b", stated.group(2)) else None
+    stated = re.findall(r"(?ms)^\s*pub (\S+_once) :(.*?)^\s*\1 ", text)
+    return next((once for once, says in stated if re.search(rf"(?<![\w-]){alias}\.(Learnt|clauses)\b", says)), None)
 
 
 def main():
     trust, statements = (Path(doc).read_text() for doc in sys.argv[1:3])
     listed = without_answer(trust)
     rows = re.findall(r"(?m)^\|(.*)\| `(\w+)/proofs/Unique\.antt` \|", statements)
-    cited = {(crate, name) for row, crate in rows for name in re.findall(r"`(\S+-once)`", row)}
+    cited = {(crate, name) for row, crate in rows for name in re.findall(r"`(\S+_once)`", row)}
     wrong, public = list(without_contract()), set()
     for lib in sorted(Path("crates").glob("*/src/lib.rt")):
         crate = lib.parts[1]
+        if crate in EXPORTING:
+            continue
         for function in public_functions(crate):
             name = "::".join((crate, *function))
             public.add(name)

@@ -8,6 +8,8 @@ IMPORT = re.compile(r"^\s*(?:ghost )?use (?P<path>[^\s;{]+?)(?:\.\{(?P<names>.*)
 COMMENT = re.compile(r"^\s*(?:--|//)")
 APART = re.compile(r"^\s*(?:--|//|(?:ghost |pub )?use )")
 LAW = re.compile(r"(?m)^\s*pub ([^\s(){}]+) :")
+# the files of a function's own proof
+OF_FUNCTIONS = {"Invariants", "Answers", "Proof"}
 WORD = re.compile(r"[^\s(){}\[\],.;:`|]+")
 
 
@@ -22,10 +24,10 @@ def imported(line):
 
 
 def used(name, text):
-    """Whether the text has the name as a whole word; of an operator, as if_then_else_, whether it has each part of it."""
-    whole = re.search(rf"(?<![\w·'′-]){re.escape(name)}(?![\w'′-])", text)
-    parts = [part for part in name.split("_") if part]
-    return whole or ("_" in (name[0], name[-1]) and all(part in text for part in parts))
+    """Whether the text has the name as a whole word; of an operator, as when◌then◌else◌, whether it has each part of it."""
+    whole = re.search(rf"(?<![\w'-]){re.escape(name)}(?![\w'-])", text)
+    parts = [part for part in name.split("◌") if part]
+    return whole or ("◌" in name and all(part in text for part in parts))
 
 
 def unused_imports(file, lines):
@@ -39,11 +41,11 @@ def times(name, text):
 
 
 def unused_laws(texts, cited):
-    """The public laws whose name stands nowhere but where it is declared, and that no document cites. The toolchain asks for the names that end in -spec."""
+    """The public laws whose name stands nowhere but where it is declared, and that no document cites. Of a function's own proof the toolchain asks for the names."""
     seen = Counter(word for text in texts.values() for word in WORD.findall(text))
     for file, text in texts.items():
-        for name in LAW.findall(text) if "proofs" in file.parts else []:
-            if seen[name] <= times(name, text) and name not in cited and not name.endswith("-spec"):
+        for name in LAW.findall(text) if "proofs" in file.parts and file.stem not in OF_FUNCTIONS else []:
+            if seen[name] <= times(name, text) and name not in cited:
                 yield f"{file}: nothing uses {name}, and no document cites it"
 
 

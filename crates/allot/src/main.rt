@@ -107,14 +107,27 @@ fn applied(t: Tables, o: Operation) -> Tables {
 }
 
 // The tables unchanged, behind what stands at the front of the window.
-fn unchanged<R: Input + Print + Eprint>(rt: &R, s: State, p: Piece, buf: &mut [u8], out: &[u8]) -> State {
+fn unchanged<R: Input + Print + Eprint>(
+    rt: &R,
+    s: State,
+    p: Piece,
+    buf: &mut [u8],
+    out: &[u8],
+) -> State {
     let tables = s.tables;
     let lines = behind(rt, s.lines, p, s.lines.flow.waits, buf, out);
     State { tables, lines }
 }
 
 // An operation is carried out, and what it answers goes to the output.
-fn carried<R: Input + Print + Eprint>(rt: &R, s: State, o: Operation, p: Piece, buf: &mut [u8], out: &mut [u8]) -> State {
+fn carried<R: Input + Print + Eprint>(
+    rt: &R,
+    s: State,
+    o: Operation,
+    p: Piece,
+    buf: &mut [u8],
+    out: &mut [u8],
+) -> State {
     let tables = applied(s.tables, o);
     let place = put_line(tables, out, s.lines.flow.waits);
     let lines = behind(rt, s.lines, p, place, buf, out);
@@ -134,7 +147,11 @@ fn turn<R: Input + Print + Eprint>(rt: &R, s: State, buf: &mut [u8], out: &mut [
     if is_operation(o) {
         return carried(rt, s, o, p, buf, out);
     }
-    tell_line(rt, s.lines.number, b"f, a N, r S, b I S L, e I S L or u M N");
+    tell_line(
+        rt,
+        s.lines.number,
+        b"f, a N, r S, b I S L, e I S L or u M N",
+    );
     unchanged(rt, s, p, buf, out)
 }
 

@@ -46,11 +46,6 @@ pub second_small : (x : Second) (k : Count) (t e : ℕ) → x.core.clock < 42949
 unfolding count_second
 second_small x k t e n q = count_small (sound_second x) (view_second x) k t e n (and_second (packed_core x.core && rows_right (view_core x.core) 1 x.rows) (sound (view_second x))) q
 
--- an answer's byte and refusal, at other numbers that are the same
-pub one_as : (answer answer' : List ℕ) (r f f' v v' : ℕ) → (r ≡ if_room 1 answer 1 f) × (answer' ≡ one_after answer v) → f ≡ f' → v ≡ v'
-    → (r ≡ if_room 1 answer 1 f') × (answer' ≡ one_after answer v')
-one_as answer answer' r f f' v v' h p q = (h.0 ∙ ap (λ (n : ℕ). if_room 1 answer 1 n) p, h.1 ∙ ap (λ (n : ℕ). one_after answer n) q)
-
 -- what a step on lent bytes owes, of an engine whose states are put there by `put`
 abbrev pub Did : {S : Type 0} → (S → List ℕ → List ℕ) → List ℕ → List ℕ → StepOf S → Answer → List ℕ → List ℕ → Type 0
 Did put b room w a b' room' = (a ≡ answer_of w) × ((b' ≡ after_by put b w) × (room' ≡ room_after room w.ended))

@@ -15,8 +15,7 @@ use rules::Answer;
 use steps::answers::refused_answer;
 
 // Makes a supervisor with no tasks.
-#[unsafe(no_mangle)]
-pub extern "C" fn second_empty(state: &mut [u8], clock: u32) -> u8
+pub fn second_empty(state: &mut [u8], clock: u32) -> u8
     ensures value { result ≡ if_room second_size state.old 1 0 }
     ensures state_after { state.new ≡ stored_second (start_second clock) state.old }
 {
@@ -29,8 +28,7 @@ pub extern "C" fn second_empty(state: &mut [u8], clock: u32) -> u8
 }
 
 // Whether the state is sound.
-#[unsafe(no_mangle)]
-pub extern "C" fn second_sound(state: &[u8]) -> u8
+pub fn second_sound(state: &[u8]) -> u8
     ensures { result ≡ bit (sound_second (second_in state.now)) }
 {
     let x = second_in(state);
@@ -68,13 +66,7 @@ fn take_record(state: &mut [u8], record: &[u8], room: &mut [u8]) -> Answer
 }
 
 // One step: the call of a record. Its refusal is the answer's first number too; bytes behind the record are not looked at.
-#[unsafe(no_mangle)]
-pub extern "C" fn second_step(
-    state: &mut [u8],
-    record: &[u8],
-    room: &mut [u8],
-    answer: &mut [u8],
-) -> u8
+pub fn second_step(state: &mut [u8], record: &[u8], room: &mut [u8], answer: &mut [u8]) -> u8
     ensures value { result ≡ if_room 7 answer.old 1 (second_step state.old «record».now (length room.old)).refusal }
     ensures state_after { state.new ≡ if_room 7 answer.old state.old (second_after state.old (second_step state.old «record».now (length room.old))) }
     ensures room_after { room.new ≡ if_room 7 answer.old room.old (room_after room.old (second_step state.old «record».now (length room.old)).ended) }
@@ -89,8 +81,7 @@ pub extern "C" fn second_step(
 }
 
 // COUNT of a task and an entry.
-#[unsafe(no_mangle)]
-pub extern "C" fn second_count(state: &[u8], task: u8, entry: u8, answer: &mut [u8]) -> u8
+pub fn second_count(state: &[u8], task: u8, entry: u8, answer: &mut [u8]) -> u8
     ensures value { result ≡ if_room 1 answer.old 1 (count_second (second_in state.now) task entry).refusal }
     ensures answer_after { answer.new ≡ one_after answer.old (count_second (second_in state.now) task entry).count }
 {
@@ -100,8 +91,7 @@ pub extern "C" fn second_count(state: &[u8], task: u8, entry: u8, answer: &mut [
 }
 
 // CALLABLE of a task: 1 for yes.
-#[unsafe(no_mangle)]
-pub extern "C" fn second_callable(state: &[u8], task: u8, answer: &mut [u8]) -> u8
+pub fn second_callable(state: &[u8], task: u8, answer: &mut [u8]) -> u8
     ensures value { result ≡ if_room 1 answer.old 1 (callable_second (second_in state.now) task).refusal }
     ensures answer_after { answer.new ≡ one_after answer.old (bit (callable_second (second_in state.now) task).yes) }
 {
@@ -111,8 +101,7 @@ pub extern "C" fn second_callable(state: &[u8], task: u8, answer: &mut [u8]) -> 
 }
 
 // The dispatched task, 0 if there is none.
-#[unsafe(no_mangle)]
-pub extern "C" fn second_running(state: &[u8], answer: &mut [u8]) -> u8
+pub fn second_running(state: &[u8], answer: &mut [u8]) -> u8
     ensures value { result ≡ if_room 1 answer.old 1 (running_second (second_in state.now)).refusal }
     ensures answer_after { answer.new ≡ one_after answer.old (running_second (second_in state.now)).task }
 {
@@ -122,8 +111,7 @@ pub extern "C" fn second_running(state: &[u8], answer: &mut [u8]) -> u8
 }
 
 // The priority of a task, worked out afresh; 0 for a number not created.
-#[unsafe(no_mangle)]
-pub extern "C" fn second_priority(state: &[u8], task: u8, answer: &mut [u8]) -> u8
+pub fn second_priority(state: &[u8], task: u8, answer: &mut [u8]) -> u8
     ensures value { result ≡ if_room 1 answer.old 1 (priority_second (second_in state.now) task).refusal }
     ensures answer_after { answer.new ≡ one_after answer.old (priority_second (second_in state.now) task).priority }
 {

@@ -134,8 +134,7 @@ fn keep(refusal: u8, c: Card, room: &mut [u8])
 }
 
 // Makes a card of 48 bytes of settings.
-#[unsafe(no_mangle)]
-pub extern "C" fn debounce_fresh(card: &mut [u8], settings: &[u8]) -> u8
+pub fn debounce_fresh(card: &mut [u8], settings: &[u8]) -> u8
     ensures value { result ≡ if_room card_size card.old 1 (fresh_of settings.now).refusal }
     ensures card_after { card.new ≡ card_after card.old (fresh_of settings.now).refusal (fresh_of settings.now).card }
 {
@@ -148,8 +147,7 @@ pub extern "C" fn debounce_fresh(card: &mut [u8], settings: &[u8]) -> u8
 }
 
 // One tick with the raw bits: the report is one byte, bit k - 1 for contact k, 1 for closed.
-#[unsafe(no_mangle)]
-pub extern "C" fn debounce_tick(card: &mut [u8], bits: u8, report: &mut [u8]) -> u8
+pub fn debounce_tick(card: &mut [u8], bits: u8, report: &mut [u8]) -> u8
     ensures value { result ≡ if_room 1 report.old 1 (tick_of (card_in card.old) bits).refusal }
     ensures card_after { card.new ≡ if_room 1 report.old card.old (card_after card.old (tick_of (card_in card.old) bits).refusal (tick_of (card_in card.old) bits).card) }
     ensures report_after { report.new ≡ one_after report.old (tick_of (card_in card.old) bits).reported }

@@ -28,8 +28,7 @@ fn flag(yes: bool) -> u8
 }
 
 // Makes a supervisor with no tasks.
-#[unsafe(no_mangle)]
-pub extern "C" fn card_empty(state: &mut [u8], clock: u32) -> u8
+pub fn card_empty(state: &mut [u8], clock: u32) -> u8
     ensures value { result ≡ if_room state_size state.old 1 0 }
     ensures state_after { state.new ≡ stored (pack (empty clock)) state.old }
 {
@@ -42,8 +41,7 @@ pub extern "C" fn card_empty(state: &mut [u8], clock: u32) -> u8
 }
 
 // Whether the state is sound.
-#[unsafe(no_mangle)]
-pub extern "C" fn card_sound(state: &[u8]) -> u8
+pub fn card_sound(state: &[u8]) -> u8
     ensures { result ≡ bit (sound_whole (state_in state.now)) }
 {
     let s = state_in(state);
@@ -95,13 +93,7 @@ fn put_answer(answer: &mut [u8], a: Answer)
 }
 
 // One step: the call of a record. Its refusal is the answer's first number too; bytes behind the record are not looked at.
-#[unsafe(no_mangle)]
-pub extern "C" fn card_step(
-    state: &mut [u8],
-    record: &[u8],
-    room: &mut [u8],
-    answer: &mut [u8],
-) -> u8
+pub fn card_step(state: &mut [u8], record: &[u8], room: &mut [u8], answer: &mut [u8]) -> u8
     ensures value { result ≡ if_room 7 answer.old 1 (card_step state.old «record».now (length room.old)).refusal }
     ensures state_after { state.new ≡ if_room 7 answer.old state.old (state_after state.old (card_step state.old «record».now (length room.old))) }
     ensures room_after { room.new ≡ if_room 7 answer.old room.old (room_after room.old (card_step state.old «record».now (length room.old)).ended) }
@@ -128,8 +120,7 @@ fn put_one(answer: &mut [u8], refusal: u8, value: u8) -> u8
 }
 
 // COUNT of a task and an entry.
-#[unsafe(no_mangle)]
-pub extern "C" fn card_count(state: &[u8], task: u8, entry: u8, answer: &mut [u8]) -> u8
+pub fn card_count(state: &[u8], task: u8, entry: u8, answer: &mut [u8]) -> u8
     ensures value { result ≡ if_room 1 answer.old 1 (count_whole (state_in state.now) task entry).refusal }
     ensures answer_after { answer.new ≡ one_after answer.old (count_whole (state_in state.now) task entry).count }
 {
@@ -139,8 +130,7 @@ pub extern "C" fn card_count(state: &[u8], task: u8, entry: u8, answer: &mut [u8
 }
 
 // CALLABLE of a task: 1 for yes.
-#[unsafe(no_mangle)]
-pub extern "C" fn card_callable(state: &[u8], task: u8, answer: &mut [u8]) -> u8
+pub fn card_callable(state: &[u8], task: u8, answer: &mut [u8]) -> u8
     ensures value { result ≡ if_room 1 answer.old 1 (callable_whole (state_in state.now) task).refusal }
     ensures answer_after { answer.new ≡ one_after answer.old (bit (callable_whole (state_in state.now) task).yes) }
 {
@@ -150,8 +140,7 @@ pub extern "C" fn card_callable(state: &[u8], task: u8, answer: &mut [u8]) -> u8
 }
 
 // The dispatched task, 0 if there is none.
-#[unsafe(no_mangle)]
-pub extern "C" fn card_running(state: &[u8], answer: &mut [u8]) -> u8
+pub fn card_running(state: &[u8], answer: &mut [u8]) -> u8
     ensures value { result ≡ if_room 1 answer.old 1 (running_whole (state_in state.now)).refusal }
     ensures answer_after { answer.new ≡ one_after answer.old (running_whole (state_in state.now)).task }
 {
@@ -161,8 +150,7 @@ pub extern "C" fn card_running(state: &[u8], answer: &mut [u8]) -> u8
 }
 
 // The priority of a task, worked out afresh; 0 for a number not created.
-#[unsafe(no_mangle)]
-pub extern "C" fn card_priority(state: &[u8], task: u8, answer: &mut [u8]) -> u8
+pub fn card_priority(state: &[u8], task: u8, answer: &mut [u8]) -> u8
     ensures value { result ≡ if_room 1 answer.old 1 (priority_whole (state_in state.now) task).refusal }
     ensures answer_after { answer.new ≡ one_after answer.old (priority_whole (state_in state.now) task).priority }
 {

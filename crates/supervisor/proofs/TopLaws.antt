@@ -1,7 +1,7 @@
 -- The whole step, and the questions.
 -- Assumes nothing.
 use Prim.Native.Nat.{ℕ}
-use mathlib.Core.Path.{◌≡◌, refl, sym, ap, ◌∙◌}
+use mathlib.Core.Path.{◌≡◌, refl, sym, ◌∙◌}
 use mathlib.Core.Bool.{Bool, true, false, not, ◌&&◌}
 use mathlib.Core.List.{List, ◌++◌}
 use native.Mathlib.Omega.{arith}
@@ -14,7 +14,7 @@ use Rattle.lists.proofs.LineLaws.{tidy_pad}
 use Rattle.rules.specs.State.{created, task_of, is_completed}
 use Rattle.rules.specs.Step.{Outcome, refused, took, take_call, room_after, SHORT_ROOM, BAD_STATE}
 use Rattle.rules.specs.Callers.{accepted_in}
-use Rattle.rules.specs.Whole.{Typed, view, Whole, sound_whole, decline, done, step_whole, stepped_of}
+use Rattle.rules.specs.Whole.{Typed, view, sound_whole, decline, done, step_whole}
 use Rattle.rules.specs.declared.Task.{Task}
 use Rattle.rules.specs.declared.Supervisor.{Supervisor}
 use Rattle.rules.proofs.Apart.{tells}
@@ -23,7 +23,6 @@ use Rattle.steps.specs.Taken.{Stands, SeesFor, taken_of, ended_by}
 use Rattle.steps.specs.Change.{one, task_at, bytes_in, comes_of, line_by}
 use Rattle.steps.proofs.ChangeLaws.{Lines, line_is}
 use Rattle.steps.specs.declared.answers.Taken.{Taken}
-use Rattle.rules.specs.declared.Stepped.{Stepped}
 use Rattle.rules.specs.declared.Callable.{Callable}
 use Rattle.rules.specs.Questions.{callable_whole}
 use Rattle.calls.specs.declared.Call as C

@@ -1,10 +1,10 @@
 -- Laws for the leaf functions: the table of tasks, and lines.
 -- Assumes nothing.
-use Rattle.std.proofs.Common.{◌≡◌, ℕ, zero, suc, ◌+◌, ◌-◌, ◌<◌, ◌≤◌, Bool, true, false, ◌&&◌, eqb, ltb, leb, List, ◌∷◌, ◌++◌, length, get_or, take, set, sym, refl, ap, ◌∙◌, arith, length-set, length-take, get_or-take, ltb-false, ltb-true, lt-ltb, le-leb, leb-false, leb-true}
+use Rattle.std.proofs.Common.{◌≡◌, ℕ, zero, suc, ◌+◌, ◌-◌, ◌<◌, ◌≤◌, Bool, eqb, ltb, leb, List, ◌∷◌, ◌++◌, length, get_or, take, set, sym, refl, ap, ◌∙◌, arith, length-set, length-take, get_or-take, ltb-false, ltb-true, lt-ltb, le-leb, leb-false, leb-true}
 use native.Mathlib.Numerals.{unary_clauses}
 use lib.Seq.{set_out, set-get_or}
 use Rattle.lists.specs.Line.{line, pad}
-use Rattle.lists.proofs.ListLaws.{by_bool, by_eq, clash}
+use Rattle.lists.proofs.ListLaws.{by_bool}
 use Rattle.lists.proofs.LineLaws.{left_over, line_picked}
 use Rattle.lists.proofs.MarkLaws.{insert_by_lem}
 use Rattle.lists.specs.Lists.{when◌then◌else◌, remove, rejoin}
@@ -18,7 +18,7 @@ use Rattle.rules.specs.declared.Timer.TheVariants.{Off, Due}
 use Rattle.rules.specs.declared.Place.TheVariants.{Ready, Held}
 use Rattle.rules.specs.declared.Task.{Task}
 use Rattle.rules.proofs.Members.{nth_beyond}
-use Rattle.table.specs.Moved.{with_tasks, with_task, moved_of, changed_task, readied_of, woken_of, ready_ranked, ranked_of, met_of, parted_of, left_of}
+use Rattle.table.specs.Moved.{with_tasks, moved_of, changed_task, readied_of, woken_of, ready_ranked, ranked_of, met_of, parted_of, left_of}
 use Rattle.table.specs.Numbers.{is_number, index_of, shown_of}
 
 -- ---- the table
@@ -46,23 +46,6 @@ module _ (ts : List Task) (x : Task) where
   set_beyond zero h = refl
   set_beyond (suc k) h = sym (set_out ts k x (omega arith))
 
-none_beyond : (t : ℕ) → is_number t ≡ false → (t ≡ 0 → ⊥) → 31 < t
-none_beyond t e z =
-    by_bool (ltb 0 t)
-    (λ p. by_bool (leb t 31) (λ q. let y : is_number t ≡ true = rw (p, q) in clash y e) (λ q. leb-false t 31 q))
-    (λ p. absurd (z (omega (arith, ltb-false 0 t p))))
-
-set_none : (ts : List Task) (x : Task) (t : ℕ) → length ts ≡ 31 → is_number t ≡ false → ts ≡ set_nth ts t x
-set_none ts x t l e = by_eq t 0 (λ z. rw z) (λ z. set_beyond ts x t (omega (arith, none_beyond t e z, l)))
-
--- task t, from what the code's test says of its number
-module _ (n t : ℕ) (k : Task) (b : Bool) (e : b ≡ is_number t) where
-  pub shown_in : (b && leb t n) ≡ true → k ≡ shown_of n t k
-  shown_in q = rw (ap (λ (a : Bool). a && leb t n) (sym e) ∙ q)
-
-  pub shown_out : (x : Task) → x ≡ blank → (b && leb t n) ≡ false → x ≡ shown_of n t k
-  shown_out x z q = rw (ap (λ (a : Bool). a && leb t n) (sym e) ∙ q) z
-
 -- what stands at the place of t is task t, where t is the number of one
 pub shown_is : (ts : List Task) (n t : ℕ) → length ts ≡ 31 → shown_of n t (get_or ts (index_of t) blank) ≡ nth (take n ts) t
 shown_is ts n t l =
@@ -89,14 +72,6 @@ put_back ts t x l =
     (λ r. rw (p, r) (set-get_or ts 0 blank ∙ set_beyond ts x t (omega (arith, leb-false t 31 r, l)))))
     (λ p. let z : t ≡ 0 = omega (arith, ltb-false 0 t p) in rw (p, z) (set-get_or ts 0 blank))
 
--- what stands at the place of t as f changes it, from what the code's test says of its number
-module _ (f : Task → Task) (n t : ℕ) (k : Task) where
-  pub changed_in : (b : Bool) (x y : Task) → b ≡ is_number t → b ≡ true → x ≡ shown_of n t k → y ≡ f x → y ≡ changed_task f n t k
-  changed_in b x y e q ex ey = ey ∙ ap f ex ∙ rw (sym e ∙ q)
-
-  pub changed_out : (b : Bool) → b ≡ is_number t → b ≡ false → k ≡ changed_task f n t k
-  changed_out b e q = rw (sym e ∙ q)
-
 -- task t, put back into the table as f changes it
 pub changed_put : (f : Task → Task) (s : Core) (t at : ℕ) (z : Task) → length s.tasks ≡ 31 → at ≡ index_of t → z ≡ changed_task f s.created t (get_or s.tasks at blank)
     → set s.tasks at z ≡ set_nth s.tasks t (f (task_of (view_core s) t))
@@ -107,9 +82,6 @@ changed_put f s t at z l ea ez =
     ap (set s.tasks at) e ∙ ap (λ (i : ℕ). set s.tasks i (back i)) ea ∙ put_back s.tasks t (f (task_of (view_core s) t)) l
 
 -- ---- the move, from what its parts answer
-
-pub with_out : (s : Core) (t : ℕ) (x : Task) → length s.tasks ≡ 31 → is_number t ≡ false → s ≡ with_task s t x
-with_out s t x l e = ap (with_tasks s) (set_none s.tasks x t l e)
 
 -- the delay queue with t in its place: ordered insertion by the ticks left
 pub retime_due : (s : Core) (t d n : ℕ) (l keys : List ℕ) → length s.tasks ≡ 31 → length s.delays ≡ 31 → l ≡ pad (remove t (line s.delays)) → keys ≡ marked (left_of s) (line l) no_marks → n ≡ ticks_left s.clock (Due d)

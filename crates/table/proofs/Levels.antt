@@ -1,13 +1,13 @@
 -- One pass that keeps the first task of the highest priority finds the head of the highest ready queue.
 -- Assumes nothing.
-use Rattle.std.proofs.Common.{◌≡◌, ℕ, zero, suc, ◌-◌, ◌<◌, ◌≤◌, Bool, true, false, eqb, ltb, leb, List, [], ◌∷◌, length, get_or, take, sym, refl, ap, ◌∙◌, arith, ltb-false, ltb-true, le-ltb, lt-ltb, ne_eqb, eqb-true, le-leb, leb-false, leb-true}
+use Rattle.std.proofs.Common.{◌≡◌, ℕ, zero, suc, ◌-◌, ◌<◌, ◌≤◌, Bool, true, false, eqb, ltb, leb, List, [], ◌∷◌, length, get_or, take, sym, refl, ap, ◌∙◌, arith, ltb-false, ltb-true, le-ltb, ne_eqb, eqb-true, le-leb, leb-false, leb-true}
 use borrow.Author.Tests.{eqb-false, lt-leb}
 use Rattle.lists.specs.Lists.{when◌then◌else◌, filter}
 use Rattle.lists.proofs.ListLaws.{by_bool}
 use Rattle.rules.specs.State.{State, blank, nth, level, head_up_to, current_of, running}
 use Rattle.rules.specs.Whole.{view_core}
 use Rattle.rules.specs.declared.Core.{Core}
-use Rattle.table.specs.Best.{best_of, better_of, last_of, level_of}
+use Rattle.table.specs.Best.{best_of, better_of, last_of}
 use Rattle.table.proofs.LeafLaws.{task_in, task_past, task_out}
 use Rattle.table.specs.declared.dispatch.Best.{Best}
 use Rattle.rules.specs.declared.Task.{Task}
@@ -77,13 +77,6 @@ unfolding running
 one_pass_running s = sym (one_pass (current_of s) s.ready (record { task = 0; priority = 0 }) ∙ from_zero s 15)
 
 -- ── one turn ──
-
-module _ (b : Best) (t p l : ℕ) (e : l ≡ level_of p) where
-  pub better_is : b.priority < l → record { task = t; priority = l } ≡ better_of b t p
-  better_is h = rw (sym e, lt-ltb b.priority l h)
-
-  pub better_not : l ≤ b.priority → b ≡ better_of b t p
-  better_not h = rw (sym e, le-ltb b.priority l h)
 
 pub last_low : (n : ℕ) → (last_of n ≤ n) × (last_of n ≤ 31)
 last_low n = by_bool (leb n 31) (λ e. rw e (omega arith, leb-true n 31 e)) (λ e. rw e (omega (arith, leb-false n 31 e), omega arith))

@@ -1,15 +1,13 @@
 -- Places in the last arm of a match, which takes all that have none of their own: what is told there is that the place's number is
 -- one of a list.
 -- Assumes nothing.
-use Rattle.std.proofs.Common.{◌≡◌, ℕ, false, List, [], ◌∷◌, refl}
+use Rattle.std.proofs.Common.{◌≡◌, ℕ, List}
 use denote.Enum.Declared.{tag_of}
 use types.Run.{OneOf, miss}
 use mir.Val.{has_key}
 use Rattle.lists.specs.Lists.{when◌then◌else◌}
 use Rattle.lists.proofs.ListLaws.{by_bool}
 use Rattle.rules.specs.contracts.Place.{the_type}
-use Rattle.rules.specs.State.{is_ready, is_queued, is_held, is_completed, partner_of, entry_of, kept_of, accepts}
-use Rattle.rules.specs.Step.{expiry}
 use Rattle.rules.specs.declared.Waiting.{Waiting}
 use Rattle.rules.specs.declared.Meeting.{Meeting}
 use Rattle.rules.specs.declared.Offer.{Offer}
@@ -38,30 +36,3 @@ in_arm f x ks b r d q h a c (Queued w) k = asked ks 3 ((q : Waiting) → x ≡ f
 in_arm f x ks b r d q h a c (Held m) k = asked ks 4 ((m : Meeting) → x ≡ f (Held m)) h k m
 in_arm f x ks b r d q h a c (Accepting o) k = asked ks 5 ((o : Offer) → x ≡ f (Accepting o)) a k o
 in_arm f x ks b r d q h a c Completed k = asked ks 6 (x ≡ f Completed) c k
-
-pub not-ready : (p : Place) → Among (0 ∷ 2 ∷ 3 ∷ 4 ∷ 5 ∷ 6 ∷ []) p → false ≡ is_ready p
-not-ready = in_arm is_ready false (0 ∷ 2 ∷ 3 ∷ 4 ∷ 5 ∷ 6 ∷ []) refl tt refl (λ q. refl) (λ m. refl) (λ o. refl) refl
-
-pub not-queued : (p : Place) → Among (0 ∷ 1 ∷ 2 ∷ 4 ∷ 5 ∷ 6 ∷ []) p → false ≡ is_queued p
-not-queued = in_arm is_queued false (0 ∷ 1 ∷ 2 ∷ 4 ∷ 5 ∷ 6 ∷ []) refl refl refl tt (λ m. refl) (λ o. refl) refl
-
-pub not-held : (p : Place) → Among (0 ∷ 1 ∷ 2 ∷ 3 ∷ 5 ∷ 6 ∷ []) p → false ≡ is_held p
-not-held = in_arm is_held false (0 ∷ 1 ∷ 2 ∷ 3 ∷ 5 ∷ 6 ∷ []) refl refl refl (λ q. refl) tt (λ o. refl) refl
-
-pub not-completed : (p : Place) → Among (0 ∷ 1 ∷ 2 ∷ 3 ∷ 4 ∷ 5 ∷ []) p → false ≡ is_completed p
-not-completed = in_arm is_completed false (0 ∷ 1 ∷ 2 ∷ 3 ∷ 4 ∷ 5 ∷ []) refl refl refl (λ q. refl) (λ m. refl) (λ o. refl) tt
-
-pub not-accepting : (e : ℕ) (p : Place) → Among (0 ∷ 1 ∷ 2 ∷ 3 ∷ 4 ∷ 6 ∷ []) p → false ≡ accepts p e
-not-accepting e = in_arm (λ p. accepts p e) false (0 ∷ 1 ∷ 2 ∷ 3 ∷ 4 ∷ 6 ∷ []) refl refl refl (λ q. refl) (λ m. refl) tt refl
-
-pub calls_nobody : (p : Place) → Among (0 ∷ 1 ∷ 2 ∷ 5 ∷ 6 ∷ []) p → 0 ≡ partner_of p
-calls_nobody = in_arm partner_of 0 (0 ∷ 1 ∷ 2 ∷ 5 ∷ 6 ∷ []) refl refl refl tt tt (λ o. refl) refl
-
-pub calls_nothing : (p : Place) → Among (0 ∷ 1 ∷ 2 ∷ 5 ∷ 6 ∷ []) p → 0 ≡ entry_of p
-calls_nothing = in_arm entry_of 0 (0 ∷ 1 ∷ 2 ∷ 5 ∷ 6 ∷ []) refl refl refl tt tt (λ o. refl) refl
-
-pub keeps_nothing : (p : Place) → Among (0 ∷ 1 ∷ 2 ∷ 3 ∷ 5 ∷ 6 ∷ []) p → 0 ≡ kept_of p
-keeps_nothing = in_arm kept_of 0 (0 ∷ 1 ∷ 2 ∷ 3 ∷ 5 ∷ 6 ∷ []) refl refl refl (λ q. refl) tt (λ o. refl) refl
-
-pub no_expiry : (p : Place) → Among (0 ∷ 1 ∷ 4 ∷ 6 ∷ []) p → 0 ≡ expiry p
-no_expiry = in_arm expiry 0 (0 ∷ 1 ∷ 4 ∷ 6 ∷ []) refl refl tt tt (λ m. refl) tt refl

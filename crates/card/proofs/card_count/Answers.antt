@@ -1,15 +1,12 @@
 use Prim.Native.Nat.{◌<◌}
+use borrow.Author.Rules.{rules}
 use mathlib.Core.Path.{◌≡◌, ap, ◌∙◌}
 use Rattle.rules.specs.declared.Supervisor.{Supervisor}
 use Rattle.rules.specs.Questions.{count_whole}
 use Rattle.rules.specs.declared.Count.{Count}
 use Rattle.codec.specs.Layout.{state_in}
 use Rattle.card.specs.Answers.{if_room, one_after}
-use Rattle.card.proofs.CardLaws.{whole_small, one_as}
-use borrow.Author.Rules.{rules}
-use Rattle.card.proofs.card_count.Lts as lts
-use Rattle.card.proofs.card_count.Reads as reads
-use Rattle.card.proofs.card_count.Tie as tie
+use Rattle.card.proofs.CardLaws.{whole_small}
 use Rattle.card.proofs.card_count.Goals as goal
 
 pub overflow_cast-k : goal.overflow_cast-k
@@ -18,20 +15,13 @@ overflow_cast-k c =
     let clock : s.core.clock < 4294967296 = search rules in
     record { fits = whole_small s c.count-k.result c.args.task c.args.entry clock c.count-k.ensures }
 
--- the state in the bytes was asked
-counted : (c : (lts.After-count tie.the-claims reads.Pre reads.Post)) → let a = c.args in c.count-k.result ≡ count_whole (state_in a.state.now) a.task a.entry
-counted c = let a = c.args in c.count-k.ensures ∙ ap (λ (s : Supervisor). count_whole s a.task a.entry) c.state_in-s.ensures
-
--- its refusal is returned, and the number put into the answer
-put : (c : (lts.After-put_one tie.the-claims reads.Pre reads.Post)) →
-    let k = c.before.before.before in
-    let answer = k.args.answer.now in
-    (c.put_one.result ≡ if_room 1 answer 1 k.count-k.result.refusal) × (c.put_one.new.0 ≡ one_after answer k.count-k.result.count)
-put c = c.put_one.ensures
-
 pub returns : goal.returns
 returns c =
-    let p = c.before.before in
-    let k = p.before.before.before in
-    let q = counted k in
-    one_as k.args.answer.now _ _ _ _ _ _ (put p) (ap (λ (k : Count). k.refusal) q) (ap (λ (k : Count). k.count-k) q)
+    let a = c.args in
+    let answer = a.answer.now in
+    -- the state in the bytes was asked
+    let asked : c.count-k.result ≡ count_whole (state_in a.state.now) a.task a.entry = c.count-k.ensures ∙ ap (λ (s : Supervisor). count_whole s a.task a.entry) c.state_in-s.ensures in
+    record {
+      value = c.put_one.ensures.value ∙ ap (λ (k : Count). if_room 1 answer 1 k.refusal) asked;
+      answer_after = c.put_one.ensures.answer_after ∙ ap (λ (k : Count). one_after answer k.count) asked;
+    }

@@ -1,4 +1,3 @@
-use Rattle.std.proofs.Common.{refl}
 use Rattle.lists.specs.Line.{pad, pad_to}
 use Rattle.supervisor.proofs.empty.Goals as goal
 

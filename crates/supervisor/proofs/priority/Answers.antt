@@ -6,8 +6,7 @@ use lib.ListN.{length}
 use Rattle.lists.specs.Line.{line}
 use Rattle.lists.proofs.ListLaws.{mapped_long}
 use Rattle.rules.specs.Questions.{priority_whole}
-use Rattle.rules.specs.Tree.{highest_of}
-use Rattle.rules.specs.Whole.{view, sound_whole}
+use Rattle.rules.specs.Whole.{sound_whole}
 use Rattle.rules.proofs.WholeLaws.{parts}
 use Rattle.table.proofs.HighestLaws.{highest_sound}
 use Rattle.supervisor.proofs.priority.Goals as goal

@@ -1,4 +1,3 @@
-use borrow.Author.Rules.{rules}
 use mathlib.Core.Path.{◌∙◌, sym}
 use Rattle.rules.specs.Questions.{running_whole}
 use Rattle.lists.specs.Line.{line}

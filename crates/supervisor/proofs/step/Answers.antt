@@ -1,9 +1,8 @@
 use borrow.Author.Rules.{rules}
 use Prim.Native.Nat.{◌<◌}
 use mathlib.Core.Path.{◌≡◌, refl, sym, ◌∙◌, ap}
-use lib.Dec.{ltb}
 use lib.ListN.{length}
-use mathlib.Core.Bool.{true, false}
+use mathlib.Core.Bool.{true}
 use borrow.Author.Tests.{ltb-false}
 use Rattle.rules.specs.Step.{take_call, room_after, SHORT_ROOM, BAD_STATE}
 use Rattle.rules.specs.Whole.{Typed, Whole, view, pack, sound_whole, decline, done, step_whole, stepped_of, answer_of}
@@ -63,12 +62,12 @@ returns c =
     -- the call is looked at where both tests have passed
     let whole : step_whole s a.c (length a.room.now) ≡ done s (take_call v a.c) = step_sound s a.c (length a.room.now) (sym c.is_short.ensures ∙ c.if-is_short.false) sound in
     let state =
-        state_is s a.c t.result a.room.now _ c.gone_marks-gone.result c.next_line-callers_now.result c.comes-joins.result typed sound
-        t.ensures.value t.ensures.room c.gone_marks-gone.ensures c.comes-joins.ensures c.next_line-callers_now.ensures ∙ sym (ap (λ (w : Whole). w.state) whole) in
+    state_is s a.c t.result a.room.now _ c.gone_marks-gone.result c.next_line-callers_now.result c.comes-joins.result typed sound
+    t.ensures.value t.ensures.room c.gone_marks-gone.ensures c.comes-joins.ensures c.next_line-callers_now.ensures ∙ sym (ap (λ (w : Whole). w.state) whole) in
     let answer =
-        c.answer_by-answer.ensures
-        ∙ answer_is pack s s.core v (take_call v a.c) t.result c.running-next.result refl (call_sound v a.c (sound_view s typed sound)) t.ensures.value c.running-next.ensures
-        ∙ sym (ap (λ (w : Whole). answer_of w) whole) in
+    c.answer_by-answer.ensures
+    ∙ answer_is pack s s.core v (take_call v a.c) t.result c.running-next.result refl (call_sound v a.c (sound_view s typed sound)) t.ensures.value c.running-next.ensures
+    ∙ sym (ap (λ (w : Whole). answer_of w) whole) in
     record {
       value = λ i. record { state = state i; answer = answer i };
       room = t.ensures.room ∙ ap (room_after a.room.now) (ended_is pack s v (take_call v a.c) ∙ sym (ap (λ (w : Whole). w.ended) whole));

@@ -6,30 +6,30 @@ use Rattle.rules.specs.declared.SecondStepped.{SecondStepped}
 use Rattle.rules.specs.declared.Second.{Second}
 use Rattle.codec.specs.Rows.{second_in, stored_second}
 use Rattle.card.proofs.CardLaws.{did_take, did_refuse}
-use borrow.Author.Rules.{rules}
-use Rattle.card.proofs.by_rows.take_call.Lts as lts
-use Rattle.card.proofs.by_rows.take_call.Reads as reads
-use Rattle.card.proofs.by_rows.take_call.Tie as tie
 use Rattle.card.proofs.by_rows.take_call.Goals as goal
-
--- what the step answers, of the state in the lent bytes
-stepped : (c : (lts.After-step tie.the-claims reads.Pre reads.Post)) → let a = c.args in c.step-k.result ≡ second_of (step_second (second_in a.state-1.now) a.c (length a.room-1.now))
-stepped c =
-    let a = c.args in
-    c.step-k.ensures.0 ∙ ap (λ (x : Second). second_of (step_second x a.c (length a.room-1.now))) c.second_in-x.ensures
 
 pub returns-then-answer-eq0 : goal.returns-then-answer-eq0
 returns-then-answer-eq0 c =
-    let p = c.before.before.before.before.before.before.before.before.before in
-    let a = p.args in
-    let n = length a.room-1.now in
-    let r = p.step-k.ensures.1 ∙ ap (λ (x : Second). room_after a.room-1.now (step_second x a.c n).ended) p.second_in-x.ensures in
-    did_take stored_second a.state-1.now a.room-1.now (step_second (second_in a.state-1.now) a.c n) p.step-k.result.answer (ap (λ (k : SecondStepped). k.answer-1) (stepped p)) _ r p.step-k.result.state _ (ap (λ (k : SecondStepped). k.state-1) (stepped p)) c.if-answer-eq0.true c.second_store.ensures
+    let a = c.args in
+    let b = a.state.now in
+    let room = a.room.now in
+    let n = length room in
+    let w = step_second (second_in b) a.c n in
+    -- what the step answers, of the state in the lent bytes
+    let q : c.step-k.result ≡ second_of w = c.step-k.ensures.value ∙ ap (λ (x : Second). second_of (step_second x a.c n)) c.second_in-x.ensures in
+    let r = c.step-k.ensures.room ∙ ap (λ (x : Second). room_after room (step_second x a.c n).ended) c.second_in-x.ensures in
+    let d = did_take stored_second b room w c.step-k.result.answer (ap (λ (k : SecondStepped). k.answer) q) _ r c.step-k.result.state _ (ap (λ (k : SecondStepped). k.state) q) c.if-answer-eq0.true c.second_store.ensures in
+    record { value = d.0; state_after = d.1.0; room_after = d.1.1 }
 
 pub returns : goal.returns
 returns c =
-    let p = c.before.before.before.before.before in
-    let a = p.args in
-    let n = length a.room-1.now in
-    let r = p.step-k.ensures.1 ∙ ap (λ (x : Second). room_after a.room-1.now (step_second x a.c n).ended) p.second_in-x.ensures in
-    did_refuse stored_second a.state-1.now a.room-1.now (step_second (second_in a.state-1.now) a.c n) p.step-k.result.answer (ap (λ (k : SecondStepped). k.answer-1) (stepped p)) _ r c.if-answer-eq0.false
+    let a = c.args in
+    let b = a.state.now in
+    let room = a.room.now in
+    let n = length room in
+    let w = step_second (second_in b) a.c n in
+    -- what the step answers, of the state in the lent bytes
+    let q : c.step-k.result ≡ second_of w = c.step-k.ensures.value ∙ ap (λ (x : Second). second_of (step_second x a.c n)) c.second_in-x.ensures in
+    let r = c.step-k.ensures.room ∙ ap (λ (x : Second). room_after room (step_second x a.c n).ended) c.second_in-x.ensures in
+    let d = did_refuse stored_second b room w c.step-k.result.answer (ap (λ (k : SecondStepped). k.answer) q) _ r c.if-answer-eq0.false in
+    record { value = d.0; state_after = d.1.0; room_after = d.1.1 }

@@ -7,24 +7,21 @@ use Rattle.lists.proofs.ListLaws.{mapped_long}
 use Rattle.codec.proofs.Kept.{Sized}
 use Rattle.card.specs.Contacts.{card_size}
 use Rattle.card.proofs.ContactsLaws.{card_short, card_long}
-use Rattle.card.proofs.contacts.store_card.Lts as lts
-use Rattle.card.proofs.contacts.store_card.Reads as reads
-use Rattle.card.proofs.contacts.store_card.Tie as tie
 use Rattle.card.proofs.contacts.store_card.Goals as goal
 
 pub returns-then-room-lt-CARD_SIZE : goal.returns-then-room-lt-CARD_SIZE
 returns-then-room-lt-CARD_SIZE c = card_short c.args.room.now c.args.c c.if-room-lt-CARD_SIZE.true
 
--- what the types say of the card
-sized : (c : (lts.Start tie.the-claims reads.Pre reads.Post)) → Sized c.args.c.supervisor × (length c.args.c.contacts ≡ 8)
-sized c = (record { tasks = search (rules, mapped_long); ready = search rules; callers = search rules; held = search rules; delays = search rules }, search (rules, mapped_long))
-
--- a card has room in the bytes
-long : (c : (lts.Else1 tie.the-claims reads.Pre reads.Post)) → card_size ≤ length c.args.room.now
-long c = omega arith
-
 pub returns : goal.returns
 returns c =
-    let start = c.before.before.before.before.before.before.before.before.before.before.before.before in
-    let z = sized start in
-    card_long start.args.room.now start.args.c _ _ (long c.before.before.before.before.before.before.before.before.before.before) z.0 z.1 c.store.ensures c.put_contacts.ensures
+    let s = c.args.c.supervisor in
+    let room = c.args.room.now in
+    let long : card_size ≤ length room = omega arith in
+    let tasks : length s.core.tasks ≡ 31 = search (rules, mapped_long) in
+    let ready : length s.core.ready ≡ 31 = search rules in
+    let callers : length s.callers ≡ 31 = search rules in
+    let held : length s.core.held ≡ 31 = search rules in
+    let delays : length s.core.delays ≡ 31 = search rules in
+    let contacts : length c.args.c.contacts ≡ 8 = search (rules, mapped_long) in
+    let sized : Sized s = record { tasks = tasks; ready = ready; callers = callers; held = held; delays = delays } in
+    card_long room c.args.c _ _ long sized contacts c.store.ensures c.put_contacts.ensures

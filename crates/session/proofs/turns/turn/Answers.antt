@@ -1,6 +1,6 @@
 use Rattle.std.proofs.Common.{length}
 use Rattle.session.specs.Turn.{first, made}
-use Rattle.session.proofs.TurnLaws.{turn_refused, turn_took, same_turn, leaves_room}
+use Rattle.session.proofs.TurnLaws.{turn_refused, same_turn, leaves_room}
 use Rattle.session.proofs.turns.turn.Goals as goal
 
 pub returns-in_default : goal.returns-in_default

@@ -1,10 +1,7 @@
-use Rattle.std.proofs.Common.{◌≡◌, ◌-◌, ◌≤◌, length, get_or, drop, sym, refl, ◌∙◌, arith, rules}
-use Rattle.lists.specs.Line.{line}
+use Rattle.std.proofs.Common.{sym, refl, ◌∙◌, arith, rules}
 use Rattle.lists.proofs.Turns.{rest_blank, rest_entry, rest_end}
 use Rattle.lists.proofs.ListLaws.{mapped_long}
-use Rattle.rules.specs.State.{running, current_of}
 use Rattle.rules.specs.Whole.{view_core}
-use Rattle.table.specs.Best.{best_of, last_of}
 use Rattle.table.proofs.Levels.{one_pass_running, last_low, best_turn, best_skip}
 use Rattle.table.proofs.dispatch.running.Goals as goal
 use Rattle.table.proofs.dispatch.running.Goals.{then-t-n, else-t-n}

@@ -1,6 +1,4 @@
-use Rattle.std.proofs.Common.{◌≡◌, ℕ, ◌-◌, ◌≤◌, length, get_or, drop, sym, refl, ◌∙◌, arith, length-set, rules}
-use Rattle.lists.specs.Line.{line}
-use Rattle.lists.specs.Marks.{no_marks, marked}
+use Rattle.std.proofs.Common.{◌≡◌, ℕ, length, get_or, sym, refl, ◌∙◌, arith, length-set, rules}
 use Rattle.lists.proofs.Turns.{rest_blank, rest_entry, rest_end}
 use Rattle.lists.proofs.MarkLaws.{mark_on, mark_off}
 use Rattle.lists.proofs.ListLaws.{mapped_long}

@@ -1,12 +1,7 @@
-use Rattle.std.proofs.Common.{◌≡◌, ℕ, ◌-◌, ◌≤◌, length, get_or, drop, sym, refl, ◌∙◌, arith, length-set, rules}
+use Rattle.std.proofs.Common.{◌≡◌, ◌-◌, ◌≤◌, length, drop}
 use Rattle.lists.specs.Line.{line}
 use Rattle.lists.specs.Marks.{no_marks, marked}
-use Rattle.lists.proofs.Tests.{ways}
-use Rattle.lists.proofs.Turns.{rest_blank, rest_entry, rest_end}
-use Rattle.lists.proofs.MarkLaws.{mark_on, mark_off}
-use Rattle.lists.proofs.ListLaws.{mapped_long}
 use Rattle.table.specs.Moved.{left_of}
-use Rattle.table.proofs.LeafLaws.{left_at}
 use Rattle.table.proofs.moves.keys_of.Given as goal
 
 -- The invariant: the ticks left of the rest of the line, put upon those so far, are those of the whole line.

@@ -1,7 +1,5 @@
-use Rattle.std.proofs.Common.{◌≡◌, length, refl, arith, rules}
+use Rattle.std.proofs.Common.{◌≡◌, length, refl, rules}
 use Rattle.lists.proofs.ListLaws.{mapped_long}
-use Rattle.rules.specs.State.{higher, meeting}
-use Rattle.rules.specs.declared.Place.TheVariants.{Held}
 use Rattle.table.proofs.LeafLaws.{shown_at, place_given, met_law}
 use Rattle.table.proofs.moves.met.Goals as goal
 

@@ -1,9 +1,5 @@
-use Rattle.std.proofs.Common.{◌≡◌, length, arith, rules}
-use Rattle.lists.specs.Line.{line, pad}
-use Rattle.lists.specs.Lists.{rejoin}
+use Rattle.std.proofs.Common.{◌≡◌, length, rules}
 use Rattle.lists.proofs.ListLaws.{mapped_long}
-use Rattle.rules.specs.State.{retime}
-use Rattle.rules.specs.Whole.{view_core}
 use Rattle.table.proofs.LeafLaws.{moved_law}
 use Rattle.table.proofs.moves.moved.Goals as goal
 

@@ -1,7 +1,5 @@
-use Rattle.std.proofs.Common.{◌≡◌, length, refl, arith, rules}
+use Rattle.std.proofs.Common.{◌≡◌, length, refl, rules}
 use Rattle.lists.proofs.ListLaws.{mapped_long}
-use Rattle.rules.specs.declared.Place.TheVariants.{Ready}
-use Rattle.table.specs.Numbers.{index_of}
 use Rattle.table.proofs.LeafLaws.{shown_at, place_given, parted_law}
 use Rattle.table.proofs.moves.parted.Goals as goal
 

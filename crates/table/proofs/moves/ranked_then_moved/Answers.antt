@@ -1,6 +1,5 @@
-use Rattle.std.proofs.Common.{◌≡◌, ltb, length, arith, rules}
+use Rattle.std.proofs.Common.{◌≡◌, length, rules}
 use Rattle.lists.proofs.ListLaws.{mapped_long}
-use Rattle.table.specs.Moved.{ready_ranked}
 use Rattle.table.proofs.LeafLaws.{ranked_moved_law}
 use Rattle.table.proofs.moves.ranked_then_moved.Goals as goal
 

@@ -1,12 +1,10 @@
-use Rattle.std.proofs.Common.{◌≡◌, ◌-◌, ◌≤◌, length, get_or, drop, sym, refl, ◌∙◌, arith, length-set, rules}
-use Rattle.lists.specs.Line.{line}
+use Rattle.std.proofs.Common.{◌≡◌, length, get_or, sym, refl, ◌∙◌, arith, length-set, rules}
 use Rattle.lists.proofs.Turns.{rest_blank, rest_entry, rest_end}
 use Rattle.lists.proofs.ListLaws.{mapped_long}
 use Rattle.rules.specs.State.{placed}
 use Rattle.rules.specs.declared.Place.TheVariants.{Ready}
 use Rattle.rules.specs.declared.Task.{Task}
 use Rattle.rules.specs.declared.Timer.TheVariants.{Off}
-use Rattle.table.specs.Moved.{readied_of}
 use Rattle.table.proofs.LeafLaws.{changed_put, readied_on}
 use Rattle.table.proofs.moves.readied.Goals as goal
 

@@ -1,6 +1,5 @@
-use Rattle.std.proofs.Common.{◌≡◌, ◌++◌, length, rules}
-use Rattle.lists.specs.Line.{line, pad}
-use Rattle.lists.specs.Marks.{with_mark}
+use Rattle.std.proofs.Common.{◌≡◌, length, rules}
+use Rattle.lists.specs.Line.{line}
 use Rattle.lists.proofs.ListLaws.{mapped_long}
 use Rattle.table.proofs.LeafLaws.{woken_law}
 use Rattle.table.proofs.moves.woken.Goals as goal

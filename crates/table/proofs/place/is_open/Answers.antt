@@ -1,4 +1,4 @@
-use Rattle.std.proofs.Common.{arith, rules}
+use Rattle.std.proofs.Common.{arith}
 use Rattle.table.proofs.Bits.{open_none, open_bit, open_high}
 use Rattle.table.proofs.place.is_open.Goals as goal
 

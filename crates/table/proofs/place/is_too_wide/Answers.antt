@@ -1,4 +1,4 @@
-use Rattle.std.proofs.Common.{arith, rules}
+use Rattle.std.proofs.Common.{arith}
 use Rattle.table.proofs.Bits.{set_high, set_test}
 use Rattle.table.proofs.place.is_too_wide.Goals as goal
 

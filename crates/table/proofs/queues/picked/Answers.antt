@@ -1,11 +1,8 @@
-use Rattle.std.proofs.Common.{◌≡◌, ◌-◌, Bool, true, false, length, get_or, sym, refl, ap, ◌∙◌, arith, rules}
-use Rattle.lists.specs.Line.{line}
-use Rattle.lists.specs.Lists.{filter}
-use Rattle.lists.proofs.Turns.{Filling, fill_start, fill_keep, fill_skip, fill_stop, fill_over}
+use Rattle.std.proofs.Common.{get_or, sym, refl, ap, ◌∙◌, arith, rules}
+use Rattle.lists.proofs.Turns.{fill_start, fill_keep, fill_skip, fill_stop, fill_over}
 use Rattle.lists.proofs.ListLaws.{mapped_long}
-use Rattle.rules.specs.Whole.{view_core}
 use Rattle.rules.specs.declared.Task.{Task}
-use Rattle.table.specs.Moved.{is_picked, passes_of}
+use Rattle.table.specs.Moved.{is_picked}
 use Rattle.table.proofs.LeafLaws.{shown_at}
 use Rattle.table.proofs.queues.picked.Goals as goal
 use Rattle.table.proofs.queues.picked.Goals.{then-passes, else-passes}

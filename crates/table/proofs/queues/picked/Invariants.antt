@@ -1,14 +1,9 @@
-use Rattle.std.proofs.Common.{◌≡◌, ◌-◌, Bool, true, false, length, get_or, sym, refl, ap, ◌∙◌, arith, rules}
+use Rattle.std.proofs.Common.{◌≡◌, ◌-◌, length}
 use Rattle.lists.specs.Line.{line}
 use Rattle.lists.specs.Lists.{filter}
-use Rattle.lists.proofs.Tests.{ways}
-use Rattle.lists.proofs.Parts.{need, When, Taken, Left}
-use Rattle.lists.proofs.Turns.{Filling, fill_start, fill_keep, fill_skip, fill_stop, fill_over}
-use Rattle.lists.proofs.ListLaws.{mapped_long}
+use Rattle.lists.proofs.Turns.{Filling}
 use Rattle.rules.specs.Whole.{view_core}
-use Rattle.rules.specs.declared.Task.{Task}
-use Rattle.table.specs.Moved.{is_picked, passes_of}
-use Rattle.table.proofs.LeafLaws.{shown_at}
+use Rattle.table.specs.Moved.{passes_of}
 use Rattle.table.proofs.queues.picked.Given as goal
 
 abbrev pub invariant-loop-i : goal.invariant-loop-i

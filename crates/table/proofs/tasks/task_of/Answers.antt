@@ -1,6 +1,4 @@
-use Rattle.std.proofs.Common.{◌≡◌, length, get_or, rules}
-use Rattle.rules.specs.State.{blank}
-use Rattle.table.specs.Numbers.{index_of, shown_of}
+use Rattle.std.proofs.Common.{◌≡◌, length, rules}
 use Rattle.lists.proofs.ListLaws.{mapped_long}
 use Rattle.table.proofs.LeafLaws.{shown_at}
 use Rattle.table.proofs.tasks.task_of.Goals as goal

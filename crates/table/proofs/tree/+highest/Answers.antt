@@ -1,7 +1,6 @@
 -- What is left of the callers makes of the best so far what all of them make of t's own priority; and all of them are those that t holds.
 use Rattle.std.proofs.Common.{◌≡◌, ◌-◌, ℕ, eqb, length, sym, ap, ◌∙◌, arith, rules}
 use Rattle.lists.specs.Line.{line}
-use Rattle.lists.specs.Lists.{filter}
 use Rattle.lists.specs.Marks.{mark_of}
 use Rattle.lists.proofs.LineLaws.{line_picked}
 use Rattle.lists.proofs.Turns.{rest_blank, rest_end}

@@ -1,15 +1,10 @@
-use Rattle.std.proofs.Common.{◌≡◌, ℕ, ◌-◌, ◌≤◌, length, get_or, drop, sym, refl, ap, ◌∙◌, arith, length-set, rules}
-use Rattle.lists.specs.Line.{line}
-use Rattle.lists.specs.Marks.{marked}
+use Rattle.std.proofs.Common.{ℕ, get_or, sym, refl, ap, ◌∙◌, arith, length-set, rules}
 use Rattle.lists.proofs.Turns.{rest_blank, rest_entry, rest_end}
 use Rattle.lists.proofs.MarkLaws.{mark_on, mark_off}
 use Rattle.lists.proofs.ListLaws.{mapped_long}
-use Rattle.rules.specs.State.{place_of, partner_of}
-use Rattle.rules.specs.Whole.{view_core}
+use Rattle.rules.specs.State.{partner_of}
 use Rattle.rules.specs.declared.Task.{Task}
-use Rattle.rules.specs.declared.Core.{Core}
 use Rattle.table.proofs.LeafLaws.{shown_at}
-use Rattle.table.specs.Tree.{holders_of}
 use Rattle.table.proofs.tree.holders_of.Invariants.{holder}
 use Rattle.table.proofs.tree.holders_of.Goals as goal
 use Rattle.table.proofs.tree.holders_of.Goals.{then-c-lt32, else-c-lt32}

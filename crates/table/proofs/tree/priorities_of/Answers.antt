@@ -1,12 +1,10 @@
-use Rattle.std.proofs.Common.{◌≡◌, ℕ, ◌-◌, length, sym, refl, ap, ◌∙◌, arith, length-set, rules}
-use Rattle.lists.specs.Lists.{down_from}
+use Rattle.std.proofs.Common.{ℕ, sym, refl, ap, ◌∙◌, arith, length-set, rules}
 use Rattle.lists.specs.Marks.{marked}
 use Rattle.lists.proofs.MarkLaws.{mark_on, mark_off}
 use Rattle.lists.proofs.ListLaws.{mapped_long, down_on, down_end}
 use Rattle.rules.specs.State.{priority_of}
 use Rattle.rules.specs.Whole.{view_core}
 use Rattle.rules.specs.declared.Task.{Task}
-use Rattle.table.specs.Tree.{priorities_of}
 use Rattle.table.proofs.LeafLaws.{shown_at}
 use Rattle.table.proofs.tree.priorities_of.Goals as goal
 use Rattle.table.proofs.tree.priorities_of.Goals.{then-t-lt32, else-t-lt32}

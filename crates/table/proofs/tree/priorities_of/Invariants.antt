@@ -1,14 +1,9 @@
-use Rattle.std.proofs.Common.{◌≡◌, ℕ, ◌-◌, length, sym, refl, ap, ◌∙◌, arith, length-set, rules}
+use Rattle.std.proofs.Common.{◌≡◌, length}
 use Rattle.lists.specs.Lists.{down_from}
 use Rattle.lists.specs.Marks.{marked}
-use Rattle.lists.proofs.Tests.{ways}
-use Rattle.lists.proofs.MarkLaws.{mark_on, mark_off}
-use Rattle.lists.proofs.ListLaws.{mapped_long, down_on, down_end}
 use Rattle.rules.specs.State.{priority_of}
 use Rattle.rules.specs.Whole.{view_core}
-use Rattle.rules.specs.declared.Task.{Task}
 use Rattle.table.specs.Tree.{priorities_of}
-use Rattle.table.proofs.LeafLaws.{shown_at}
 use Rattle.table.proofs.tree.priorities_of.Given as goal
 
 -- The invariant: the marks of the tasks t, t - 1, .., 1, put upon those so far, are those of all.

@@ -1,4 +1,4 @@
-use Rattle.std.proofs.Common.{◌≡◌, true, ltb, refl, le-ltb, lt-ltb, arith}
+use Rattle.std.proofs.Common.{◌≡◌, true, false, ◌&&◌, ltb, leb, refl, le-ltb, lt-ltb, arith}
 use Rattle.workspace.specs.Steps.{request_refusal}
 use Rattle.workspace.proofs.steps.request_refusal.Goals as goal
 
@@ -12,7 +12,10 @@ returns-then-not-kept c = rw c.if-not-kept.true refl
 
 pub returns-then-not-sized : goal.returns-then-not-sized
 unfolding request_refusal
-returns-then-not-sized c = rw (c.if-not-kept.false, c.if-not-sized.true) refl
+returns-then-not-sized c =
+    let n = c.args.size in
+    let big : leb 1 n && leb n 65535 ≡ false = c.if-not-sized.true in
+    rw (c.if-not-kept.false, big) refl
 
 pub returns-then-m-ge31 : goal.returns-then-m-ge31
 unfolding request_refusal
