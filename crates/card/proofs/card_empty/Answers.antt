@@ -11,19 +11,15 @@ use Rattle.lists.proofs.Tests.{if-true, if-false}
 use Rattle.codec.proofs.CodecLaws.{stored_short}
 use Rattle.card.proofs.card_empty.Goals as goal
 
-pub returns-then-state-lt-STATE_SIZE : goal.returns-then-state-lt-STATE_SIZE
-returns-then-state-lt-STATE_SIZE c =
-    let a = c.args in
-    let b = a.state.now in
-    let short = c.if-state-lt-STATE_SIZE.true in
-    record { value = sym (if-true _ _ _ (lt-ltb (length b) state_size short)); state_after = stored_short b (pack (empty a.clock)) short }
+pub returns-then-state-lt-STATE_SIZE-clause-state_after : goal.returns-then-state-lt-STATE_SIZE-clause-state_after
+returns-then-state-lt-STATE_SIZE-clause-state_after c = stored_short c.args.state.now (pack (empty c.args.clock)) c.if-state-lt-STATE_SIZE.true
 
-pub returns : goal.returns
-returns c =
-    let a = c.args in
-    let b = a.state.now in
+pub returns-clause-value : goal.returns-clause-value
+returns-clause-value c =
+    let b = c.args.state.now in
     let long : state_size ≤ length b = omega arith in
-    record {
-      value = sym (if-false _ _ _ (le-ltb (length b) state_size long));
-      state_after = c.store.ensures ∙ ap (λ (s : Supervisor). stored s b) c.empty-s.ensures;
-    }
+    sym (if-false _ _ _ (le-ltb (length b) state_size long))
+
+-- what is put there has no tasks, and the clock that was given
+pub returns-clause-state_after : goal.returns-clause-state_after
+returns-clause-state_after c = c.store.ensures ∙ ap (λ (s : Supervisor). stored s c.args.state.now) c.empty-s.ensures

@@ -10,19 +10,15 @@ use Rattle.lists.proofs.Tests.{if-true, if-false}
 use Rattle.codec.proofs.RowsLaws.{stored_second_short}
 use Rattle.card.proofs.by_rows.second_empty.Goals as goal
 
-pub returns-then-state-lt-SECOND_SIZE : goal.returns-then-state-lt-SECOND_SIZE
-returns-then-state-lt-SECOND_SIZE c =
-    let a = c.args in
-    let b = a.state.now in
-    let short = c.if-state-lt-SECOND_SIZE.true in
-    record { value = sym (if-true _ _ _ (lt-ltb (length b) second_size short)); state_after = stored_second_short b (start_second a.clock) short }
+pub returns-then-state-lt-SECOND_SIZE-clause-state_after : goal.returns-then-state-lt-SECOND_SIZE-clause-state_after
+returns-then-state-lt-SECOND_SIZE-clause-state_after c = stored_second_short c.args.state.now (start_second c.args.clock) c.if-state-lt-SECOND_SIZE.true
 
-pub returns : goal.returns
-returns c =
-    let a = c.args in
-    let b = a.state.now in
+pub returns-clause-value : goal.returns-clause-value
+returns-clause-value c =
+    let b = c.args.state.now in
     let long : second_size ≤ length b = omega arith in
-    record {
-      value = sym (if-false _ _ _ (le-ltb (length b) second_size long));
-      state_after = c.second_store.ensures ∙ ap (λ (x : Second). stored_second x b) c.empty-x.ensures;
-    }
+    sym (if-false _ _ _ (le-ltb (length b) second_size long))
+
+-- what is put there has no tasks, and the clock that was given
+pub returns-clause-state_after : goal.returns-clause-state_after
+returns-clause-state_after c = c.second_store.ensures ∙ ap (λ (x : Second). stored_second x c.args.state.now) c.empty-x.ensures

@@ -10,19 +10,17 @@ use Rattle.card.specs.Contacts.{card_size, card_after}
 use Rattle.card.proofs.ContactsLaws.{after_short}
 use Rattle.card.proofs.contacts.debounce_fresh.Goals as goal
 
-pub returns-then-card-lt-CARD_SIZE : goal.returns-then-card-lt-CARD_SIZE
-returns-then-card-lt-CARD_SIZE c =
-    let b = c.args.card.now in
+pub returns-then-card-lt-CARD_SIZE-clause-card_after : goal.returns-then-card-lt-CARD_SIZE-clause-card_after
+returns-then-card-lt-CARD_SIZE-clause-card_after c =
     let m = fresh_of c.args.settings.now in
-    let short = c.if-card-lt-CARD_SIZE.true in
-    record { value = sym (if-true _ _ _ (lt-ltb (length b) card_size short)); card_after = after_short b m.refusal m.card short }
+    after_short c.args.card.now m.refusal m.card c.if-card-lt-CARD_SIZE.true
 
-pub returns : goal.returns
-returns c =
+pub returns-clause-value : goal.returns-clause-value
+returns-clause-value c =
     let b = c.args.card.now in
     let long : card_size ≤ length b = omega arith in
-    let q = c.fresh-made.ensures in
-    record {
-      value = ap (λ (m : Made). m.refusal) q ∙ sym (if-false _ _ _ (le-ltb (length b) card_size long));
-      card_after = c.keep.ensures ∙ ap (λ (m : Made). card_after b m.refusal m.card) q;
-    }
+    ap (λ (m : Made). m.refusal) c.fresh-made.ensures ∙ sym (if-false _ _ _ (le-ltb (length b) card_size long))
+
+-- what is made is put there, unless it is refused
+pub returns-clause-card_after : goal.returns-clause-card_after
+returns-clause-card_after c = c.keep.ensures ∙ ap (λ (m : Made). card_after c.args.card.now m.refusal m.card) c.fresh-made.ensures
