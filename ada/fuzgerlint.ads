@@ -2,7 +2,7 @@
 --
 --  For Ada 95 and later. Byte is Interfaces.Unsigned_8: `use type Fuzgerlint.Byte;` makes = and /= visible.
 --
---  Link target/staticlib/libcard.a (x86-64); it needs memcpy and memmove of the program. The bytes of an array are passed as the address of
+--  Link target/staticlib/libcard.a (x86-64); it needs memcpy, memmove and memset of the program. The bytes of an array are passed as the address of
 --  its first byte and their number. include/fuzgerlint.h says what each function does, what the fields of a call record are, and the four
 --  things that the caller has to keep: as many bytes as are said (with 0 any address will do), arrays of one call that do not overlap, no
 --  other call on the same state until one has returned, and the 128 bytes below the stack pointer left alone by interrupts.

@@ -1,6 +1,6 @@
 /* Fuzgerlint for C: an Ada 83 tasking supervisor whose state lies in bytes that the caller lends.
  *
- * Link target/staticlib/libcard.a (x86-64); it needs memcpy and memmove of the program. A slice is a pointer and a number of bytes. The
+ * Link target/staticlib/libcard.a (x86-64); it needs memcpy, memmove and memset of the program. A slice is a pointer and a number of bytes. The
  * caller has to keep this; all else is taken:
  *   a pointer points to as many bytes as are said; with 0 bytes it may be anything, NULL too;
  *   the slices of one call do not overlap;

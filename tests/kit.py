@@ -98,15 +98,21 @@ def is_left(crate):
 
 
 def main():
-    """kit.py lib CRATE OUT: builds the static library CRATE, over what is built, into the file OUT."""
-    if len(sys.argv) != 4 or sys.argv[1] != "lib":
+    """kit.py lib CRATE OUT: builds the static library CRATE, over what is built, into the file OUT.
+    kit.py check CRATE FOLDER: checks the crate from nothing, over what is built, and keeps what it proved in the folder."""
+    if len(sys.argv) != 4 or sys.argv[1] not in ("lib", "check"):
         sys.exit(main.__doc__)
-    kit, out = Kit(), Path(sys.argv[3]).resolve()
-    crates = kit.crates()
-    if sys.argv[2] not in crates or not crates[sys.argv[2]].is_static:
-        stop(f"{sys.argv[2]} is no static library of crates.txt")
-    kit.stand(crates[sys.argv[2]])
-    print(kit.build(crates[sys.argv[2]], out), end="")
+    kit, verb, out = Kit(), sys.argv[1], Path(sys.argv[3]).resolve()
+    crate = kit.crates().get(sys.argv[2])
+    if crate is None or verb == "lib" and not crate.is_static:
+        stop(f"{sys.argv[2]} is no {'static library' if verb == 'lib' else 'crate'} of crates.txt")
+    kit.stand(crate)
+    if verb == "lib":
+        print(kit.build(crate, out), end="")
+        return
+    said, status = kit.check(crate, crate.folder, out)
+    print(said, end="")
+    sys.exit(status)
 
 
 if __name__ == "__main__":

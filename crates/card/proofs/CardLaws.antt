@@ -26,7 +26,7 @@ use Rattle.rules.proofs.WholeLaws.{callers_fit}
 use Rattle.codec.specs.Layout.{state_in}
 use Rattle.codec.specs.Rows.{second_in}
 use Rattle.lists.proofs.Tests.{and_second, if-true, if-false}
-use Rattle.card.specs.Answers.{step_by, card_step, second_step, after_by, answer_bytes, if_room, one_after}
+use Rattle.card.specs.Answers.{step_by, card_step, second_step, after_by, answer_bytes, if_room}
 
 -- the first byte of lent bytes is set
 pub one_set : (l : List ℕ) (v : ℕ) → 1 ≤ length l → set l 0 v ≡ v ∷ drop 1 l

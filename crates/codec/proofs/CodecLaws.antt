@@ -2,12 +2,12 @@
 use Prim.Native.Nat.{ℕ, suc, ◌+◌, ◌-◌, ◌*◌, ◌<◌, ◌≤◌}
 use mathlib.Core.Path.{◌≡◌, refl, sym, ap, ◌∙◌}
 use mathlib.Core.Bool.{Bool, ◌&&◌}
-use mathlib.Core.List.{List, [], ◌∷◌, ◌++◌, append_assoc, append-nil}
+use mathlib.Core.List.{List, [], ◌∷◌, ◌++◌, append_assoc}
 use native.Mathlib.Numerals.{add-one}
 use native.Mathlib.Nat.{add-zero, zero-add}
 use native.Mathlib.Omega.{arith}
-use lib.ListN.{length, replicate, set, take, drop, take-append-drop, length-append, length-take, length-drop, drop_of_length-le}
-use lib.Seq.{take_at, drop_at, drop-drop, take_all, take-suc-set, append_snoc, take-length}
+use lib.ListN.{length, set, take, drop, take-append-drop, length-append, length-take, length-drop, drop_of_length-le}
+use lib.Seq.{take_at, drop_at, drop-drop, take_all, take-suc-set, append_snoc}
 use borrow.Rule.Slice.PartMut.{put_mid}
 use borrow.Author.Tests.{le-leb, lt-leb, lt-ltb, le-ltb}
 use Rattle.lists.specs.Lists.{when◌then◌else◌}

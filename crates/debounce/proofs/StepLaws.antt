@@ -6,7 +6,7 @@ use Rattle.lists.proofs.ListLaws.{length_remove}
 use Rattle.lists.proofs.Tests.{if-true}
 use Rattle.calls.specs.declared.Call as C
 use Rattle.calls.specs.declared.Call.TheVariants.{Create, Delay, Tick}
-use Rattle.rules.specs.State.{State, task_of, place_of, timer_of, created, running, after, left, ticks_left, fresh, add, move}
+use Rattle.rules.specs.State.{State, task_of, place_of, timer_of, created, running, after, ticks_left, fresh, add, move}
 use Rattle.rules.specs.Step.{Outcome, of_running, delay_for, take_call, tick_to, due_at, ends_at, ticks}
 use Rattle.rules.specs.Whole.{Whole, pack}
 use Rattle.rules.specs.declared.Task.{Task}

@@ -1,3 +1,4 @@
 pub mod Puts
 pub mod Decimals
+pub mod Places
 pub mod Unique

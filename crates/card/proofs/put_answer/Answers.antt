@@ -1,7 +1,6 @@
 use mathlib.Core.Path.{◌∙◌}
 use Rattle.card.specs.Answers.{answer_bytes}
 use Rattle.codec.proofs.CodecLaws.{placed_fits}
-use borrow.Author.Rules.{rules}
 use Rattle.card.proofs.put_answer.Goals as goal
 
 pub returns : goal.returns

@@ -1,12 +1,5 @@
 use native.Mathlib.Omega.{arith}
-use borrow.Author.Rules.{rules}
-use Prim.Native.Nat.{◌-◌, ◌≤◌}
-use mathlib.Core.Path.{◌≡◌, refl, sym, ◌∙◌}
-use mathlib.Core.Bool.{◌&&◌}
-use lib.ListN.{length}
-use Rattle.lists.specs.Line.{blanks}
-use Rattle.codec.specs.Layout.{ready_at, state_size}
-use Rattle.codec.specs.Used.{table_from}
+use mathlib.Core.Path.{refl, sym, ◌∙◌}
 use Rattle.codec.proofs.UsedLaws.{zero_next, zero_end}
 use Rattle.codec.proofs.are_zero.Goals as goal
 

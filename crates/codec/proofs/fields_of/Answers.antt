@@ -1,4 +1,3 @@
-use borrow.Author.Rules.{rules}
 use Rattle.calls.specs.Record.{byte}
 use Rattle.codec.proofs.fields_of.Goals as goal
 

@@ -1,4 +1,3 @@
-use borrow.Author.Rules.{rules}
 use Rattle.lists.specs.Line.{pad, pad_to}
 use Rattle.codec.specs.Layout.{lost}
 use Rattle.codec.proofs.lost_state.Goals as goal

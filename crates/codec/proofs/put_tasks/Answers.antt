@@ -7,7 +7,7 @@ use lib.ListN.{length, get_or, drop}
 use Rattle.lists.proofs.ListLaws.{mapped_long}
 use Rattle.lists.proofs.Turns.{rest_cons}
 use Rattle.rules.specs.State.{blank}
-use Rattle.codec.specs.Layout.{task_size, state_size, task_bytes, tasks_bytes, put_at, placed_at}
+use Rattle.codec.specs.Layout.{task_size, task_bytes, tasks_bytes, put_at, placed_at}
 use Rattle.codec.proofs.CodecLaws.{put_turn, put_end, put_length, placed_fits}
 use Rattle.codec.proofs.put_tasks.Goals as goal
 

@@ -1,11 +1,11 @@
 use native.Mathlib.Omega.{arith}
-use Prim.Native.Nat.{ℕ, ◌+◌, ◌-◌, ◌*◌, ◌<◌, ◌≤◌}
+use Prim.Native.Nat.{ℕ, ◌+◌, ◌*◌}
 use mathlib.Core.Path.{◌≡◌, ap, subst, ◌∙◌}
 use mathlib.Core.Bool.{Bool}
 use mathlib.Core.List.{List}
-use lib.ListN.{length, length-take, length-drop}
+use lib.ListN.{length-take, length-drop}
 use Rattle.rules.specs.declared.Supervisor.{Supervisor}
-use Rattle.codec.specs.Layout.{task_size, state_size, fields_of, fields_good, fields_task}
+use Rattle.codec.specs.Layout.{task_size, fields_of, fields_good, fields_task}
 use Rattle.codec.specs.Used.{used_tasks}
 use Rattle.codec.proofs.CodecLaws.{rest_all}
 use Rattle.codec.proofs.UsedLaws.{used_small, used_long, Reading, reading_start, reading_next, read_good, read_bad}

@@ -1,13 +1,7 @@
-use native.Mathlib.Omega.{arith}
-use borrow.Author.Rules.{rules}
-use Prim.Native.Nat.{ℕ, ◌+◌, ◌-◌, ◌*◌, ◌<◌, ◌≤◌}
-use mathlib.Core.Path.{◌≡◌, ap, subst, ◌∙◌}
-use lib.ListN.{length, length-take, length-drop}
-use Rattle.rules.specs.declared.Supervisor.{Supervisor}
-use Rattle.codec.specs.Layout.{task_size, state_size, fields_of, fields_good, fields_task}
-use Rattle.codec.specs.Used.{used_tasks}
-use Rattle.codec.proofs.CodecLaws.{rest_all}
-use Rattle.codec.proofs.UsedLaws.{used_small, used_long, Reading, reading_start, reading_next, read_good, read_bad}
+use Prim.Native.Nat.{◌-◌, ◌<◌, ◌≤◌}
+use lib.ListN.{length}
+use Rattle.codec.specs.Layout.{state_size}
+use Rattle.codec.proofs.UsedLaws.{Reading}
 use Rattle.codec.proofs.state_in.Given as goal
 
 abbrev pub invariant-loop-i : goal.invariant-loop-i

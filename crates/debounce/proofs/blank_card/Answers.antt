@@ -1,4 +1,3 @@
-use Rattle.std.proofs.Common.{rules}
 use Rattle.debounce.proofs.blank_card.Goals as goal
 
 pub returns : goal.returns

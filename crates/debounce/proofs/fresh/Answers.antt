@@ -1,4 +1,4 @@
-use Rattle.std.proofs.Common.{sym, ap, ◌∙◌, rules}
+use Rattle.std.proofs.Common.{sym, ap, ◌∙◌}
 use Rattle.debounce.specs.Card.{no_tasks, start_all}
 use Rattle.debounce.proofs.CodeLaws.{good_length, fresh_made, fresh_refused}
 use Rattle.debounce.proofs.fresh.Goals as goal

@@ -1,4 +1,4 @@
-use Rattle.std.proofs.Common.{sym, ap, ◌∙◌, rules}
+use Rattle.std.proofs.Common.{sym, ap, ◌∙◌}
 use Rattle.debounce.specs.declared.Card.{Card}
 use Rattle.debounce.specs.Card.{answered}
 use Rattle.debounce.proofs.CodeLaws.{tick_taken, tick_refused}

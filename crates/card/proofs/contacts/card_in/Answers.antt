@@ -1,4 +1,3 @@
-use borrow.Author.Rules.{rules}
 use Rattle.card.specs.Contacts.{card_in}
 use Rattle.card.proofs.contacts.card_in.Goals as goal
 

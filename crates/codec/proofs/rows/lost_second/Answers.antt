@@ -1,4 +1,3 @@
-use borrow.Author.Rules.{rules}
 use Rattle.codec.specs.Rows.{lost_second}
 use Rattle.codec.proofs.rows.lost_second.Goals as goal
 

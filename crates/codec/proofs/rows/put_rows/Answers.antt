@@ -3,11 +3,10 @@ use borrow.Author.Rules.{rules}
 use Prim.Native.Nat.{ℕ, ◌+◌, ◌≤◌}
 use mathlib.Core.Path.{◌≡◌, sym, ap, ◌∙◌}
 use mathlib.Core.List.{List, [], ◌∷◌}
-use lib.ListN.{length, get_or, drop}
+use lib.ListN.{length, drop}
 use Rattle.lists.proofs.ListLaws.{mapped_long}
 use Rattle.lists.proofs.Turns.{rest_cons}
-use Rattle.rules.specs.declared.Row.{Row}
-use Rattle.codec.specs.Rows.{row_place, second_size, put_rows}
+use Rattle.codec.specs.Rows.{row_place, put_rows}
 use Rattle.codec.proofs.CodecLaws.{put_length, placed_fits}
 use Rattle.codec.proofs.RowsLaws.{put_row, put_rows_end}
 use Rattle.codec.proofs.rows.put_rows.Goals as goal

@@ -1,15 +1,7 @@
-use native.Mathlib.Omega.{arith}
-use borrow.Author.Rules.{rules}
-use Prim.Native.Nat.{ℕ, ◌+◌, ◌-◌, ◌≤◌}
-use mathlib.Core.Path.{◌≡◌, refl, sym, ap, ◌∙◌}
-use mathlib.Core.List.{List, [], ◌∷◌}
-use lib.ListN.{length, get_or, drop}
-use Rattle.lists.proofs.ListLaws.{mapped_long}
-use Rattle.lists.proofs.Turns.{rest_cons}
-use Rattle.rules.specs.declared.Row.{Row}
-use Rattle.codec.specs.Rows.{row_place, second_size, put_rows}
-use Rattle.codec.proofs.CodecLaws.{put_length, placed_fits}
-use Rattle.codec.proofs.RowsLaws.{put_row, put_rows_end}
+use Prim.Native.Nat.{◌-◌, ◌≤◌}
+use mathlib.Core.Path.{◌≡◌}
+use lib.ListN.{length, drop}
+use Rattle.codec.specs.Rows.{second_size, put_rows}
 use Rattle.codec.proofs.rows.put_rows.Given as goal
 
 abbrev pub invariant-loop-i : goal.invariant-loop-i

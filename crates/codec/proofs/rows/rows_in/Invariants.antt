@@ -1,13 +1,8 @@
-use native.Mathlib.Omega.{arith}
-use borrow.Author.Rules.{rules}
 use Prim.Native.Nat.{◌-◌, ◌≤◌}
-use mathlib.Core.Path.{◌≡◌, refl, sym, ◌∙◌}
+use mathlib.Core.Path.{◌≡◌}
 use mathlib.Core.List.{◌++◌}
-use lib.ListN.{length, take, drop, length-set}
-use Rattle.lists.proofs.ListLaws.{mapped_long}
-use Rattle.rules.specs.declared.Row.{Row}
+use lib.ListN.{length, take, drop}
 use Rattle.codec.specs.Rows.{rows_at, row_place, second_size, rows_in}
-use Rattle.codec.proofs.RowsLaws.{rows_next, rows_read}
 use Rattle.codec.proofs.rows.rows_in.Given as goal
 
 abbrev pub invariant-loop-i : goal.invariant-loop-i

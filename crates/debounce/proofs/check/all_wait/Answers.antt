@@ -1,6 +1,5 @@
-use Rattle.std.proofs.Common.{◌≡◌, ◌-◌, ◌≤◌, length, drop, sym, refl, ◌∙◌, arith, rules}
+use Rattle.std.proofs.Common.{sym, refl, ◌∙◌, arith, rules}
 use Rattle.lists.proofs.ListLaws.{mapped_long}
-use Rattle.debounce.specs.Card.{all_wait}
 use Rattle.debounce.proofs.CodeLaws.{waits_next, waits_stop, waits_done}
 use Rattle.debounce.proofs.check.all_wait.Goals as goal
 

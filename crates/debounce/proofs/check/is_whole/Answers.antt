@@ -1,4 +1,4 @@
-use Rattle.std.proofs.Common.{◌&&◌, eqb, rules}
+use Rattle.std.proofs.Common.{◌&&◌, eqb}
 use Rattle.debounce.specs.Card.{whole}
 use Rattle.debounce.proofs.check.is_whole.Goals as goal
 

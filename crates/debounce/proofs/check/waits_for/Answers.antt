@@ -1,4 +1,4 @@
-use Rattle.std.proofs.Common.{◌&&◌, leb, rules}
+use Rattle.std.proofs.Common.{◌&&◌, leb}
 use Rattle.debounce.proofs.check.waits_for.Goals as goal
 
 pub returns : goal.returns

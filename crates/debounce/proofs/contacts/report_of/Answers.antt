@@ -1,4 +1,4 @@
-use Rattle.std.proofs.Common.{◌≡◌, ◌+◌, ◌-◌, ◌≤◌, length, get_or, ap, ◌∙◌, arith, rules}
+use Rattle.std.proofs.Common.{◌≡◌, ◌+◌, ◌-◌, length, get_or, ap, ◌∙◌, arith, rules}
 use Rattle.lists.proofs.ListLaws.{mapped_long}
 use Rattle.lists.proofs.Tests.{bit_le, byte_bit}
 use Rattle.debounce.specs.Card.{no_contact}

@@ -1,4 +1,4 @@
-use Rattle.std.proofs.Common.{rules, le-ltb, lt-ltb}
+use Rattle.std.proofs.Common.{le-ltb, lt-ltb}
 use Rattle.debounce.proofs.contacts.with_sample.Goals as goal
 
 pub returns-then-c : goal.returns-then-c

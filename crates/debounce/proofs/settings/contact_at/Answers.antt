@@ -1,4 +1,4 @@
-use Rattle.std.proofs.Common.{◌+◌, ◌*◌, false, rules}
+use Rattle.std.proofs.Common.{◌+◌, ◌*◌, false}
 use Rattle.calls.specs.Record.{byte}
 use Rattle.debounce.proofs.settings.contact_at.Goals as goal
 

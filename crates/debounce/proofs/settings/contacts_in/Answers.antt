@@ -1,4 +1,4 @@
-use Rattle.std.proofs.Common.{[], ◌∷◌, rules}
+use Rattle.std.proofs.Common.{[], ◌∷◌}
 use Rattle.debounce.specs.Settings.{settings_in}
 use Rattle.debounce.proofs.settings.contacts_in.Goals as goal
 

@@ -1,4 +1,4 @@
-use Rattle.std.proofs.Common.{◌+◌, ◌*◌, ◌&&◌, eqb, ap, ◌∙◌, arith, rules}
+use Rattle.std.proofs.Common.{◌+◌, ◌*◌, ◌&&◌, eqb, ap, ◌∙◌, arith}
 use Rattle.calls.specs.Record.{byte}
 use Rattle.debounce.specs.Card.{good_setting}
 use Rattle.debounce.proofs.settings.is_field.Goals as goal

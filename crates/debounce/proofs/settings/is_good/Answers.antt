@@ -1,5 +1,4 @@
-use Rattle.std.proofs.Common.{◌≡◌, ◌-◌, ◌≤◌, true, false, length, sym, refl, ◌∙◌, arith}
-use Rattle.debounce.specs.Settings.{good_from}
+use Rattle.std.proofs.Common.{true, false, sym, refl, ◌∙◌, arith}
 use Rattle.debounce.proofs.CodeLaws.{fields_next, fields_stop, fields_done, fields_are, wrong_length}
 use Rattle.debounce.proofs.settings.is_good.Goals as goal
 

@@ -1,6 +1,5 @@
-use Rattle.std.proofs.Common.{◌≡◌, ◌-◌, ◌≤◌, true, false, length, sym, refl, ◌∙◌, arith}
+use Rattle.std.proofs.Common.{◌≡◌, ◌-◌, ◌≤◌, length}
 use Rattle.debounce.specs.Settings.{good_from}
-use Rattle.debounce.proofs.CodeLaws.{fields_next, fields_stop, fields_done, fields_are, wrong_length}
 use Rattle.debounce.proofs.settings.is_good.Given as goal
 
 abbrev pub invariant-loop-i : goal.invariant-loop-i

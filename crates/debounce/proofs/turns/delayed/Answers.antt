@@ -1,4 +1,4 @@
-use Rattle.std.proofs.Common.{◌^◌, ◌<◌, ℤ, ap, ◌∙◌, arith, w32, rules}
+use Rattle.std.proofs.Common.{◌^◌, ◌<◌, ℤ, ap, ◌∙◌, arith, w32}
 use mir.Facts.{to_z_pos}
 use Rattle.calls.specs.declared.Call.TheVariants.{Delay}
 use Rattle.rules.specs.Whole.{stepped_of}

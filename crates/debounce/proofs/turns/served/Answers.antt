@@ -1,4 +1,4 @@
-use Rattle.std.proofs.Common.{◌≡◌, ◌+◌, ◌-◌, ◌≤◌, sym, refl, ap, ◌∙◌, arith, rules}
+use Rattle.std.proofs.Common.{◌+◌, ◌-◌, sym, refl, ap, ◌∙◌, arith}
 use Rattle.debounce.specs.declared.turns.Turned.{Turned}
 use Rattle.lists.proofs.Tests.{between}
 use Rattle.debounce.specs.Card.{serve}

@@ -1,8 +1,5 @@
-use Rattle.std.proofs.Common.{◌≡◌, ◌+◌, ◌-◌, ◌≤◌, sym, refl, ap, ◌∙◌, arith, rules}
-use Rattle.debounce.specs.declared.turns.Turned.{Turned}
-use Rattle.lists.proofs.Tests.{between}
+use Rattle.std.proofs.Common.{◌≡◌, ◌-◌, ◌≤◌}
 use Rattle.debounce.specs.Card.{serve}
-use Rattle.debounce.proofs.CodeLaws.{serve_next, serve_stop, serve_done, served_start}
 use Rattle.debounce.proofs.turns.served.Given as goal
 
 abbrev pub invariant-loop-i : goal.invariant-loop-i

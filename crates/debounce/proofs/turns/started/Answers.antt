@@ -1,4 +1,4 @@
-use Rattle.std.proofs.Common.{◌≡◌, ◌+◌, ◌-◌, ◌≤◌, length, drop, sym, refl, ap, ◌∙◌, arith, rules}
+use Rattle.std.proofs.Common.{◌+◌, drop, sym, refl, ap, ◌∙◌, arith, rules}
 use Rattle.rules.specs.declared.Supervisor.{Supervisor}
 use Rattle.lists.proofs.ListLaws.{mapped_long}
 use Rattle.debounce.specs.Card.{start_all}

@@ -1,8 +1,5 @@
-use Rattle.std.proofs.Common.{◌≡◌, ◌+◌, ◌-◌, ◌≤◌, length, drop, sym, refl, ap, ◌∙◌, arith, rules}
-use Rattle.rules.specs.declared.Supervisor.{Supervisor}
-use Rattle.lists.proofs.ListLaws.{mapped_long}
+use Rattle.std.proofs.Common.{◌≡◌, ◌-◌, ◌≤◌, length, drop}
 use Rattle.debounce.specs.Card.{start_all}
-use Rattle.debounce.proofs.CodeLaws.{start_next, start_done}
 use Rattle.debounce.proofs.turns.started.Given as goal
 
 abbrev pub invariant-loop-i : goal.invariant-loop-i

@@ -1,4 +1,4 @@
-use Rattle.std.proofs.Common.{pos, ap, ◌∙◌, rules}
+use Rattle.std.proofs.Common.{pos, ap, ◌∙◌}
 use Rattle.calls.specs.declared.Call.TheVariants.{Delay}
 use Rattle.rules.specs.declared.Stepped.{Stepped}
 use Rattle.debounce.specs.Card.{takes}

@@ -1,4 +1,4 @@
-use Rattle.std.proofs.Common.{ap, ◌∙◌, rules}
+use Rattle.std.proofs.Common.{ap, ◌∙◌}
 use Rattle.rules.specs.declared.Stepped.{Stepped}
 use Rattle.debounce.specs.Card.{all_served, ticked_card}
 use Rattle.debounce.proofs.turns.ticked.Goals as goal

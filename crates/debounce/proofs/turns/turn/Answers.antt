@@ -1,4 +1,4 @@
-use Rattle.std.proofs.Common.{◌-◌, set, ap, ◌∙◌, rules}
+use Rattle.std.proofs.Common.{◌-◌, set, ap, ◌∙◌}
 use Rattle.debounce.specs.Card.{sampled, nth_of}
 use Rattle.debounce.proofs.turns.turn.Goals as goal
 
