@@ -28,20 +28,16 @@ void *memmove(void *to, const void *from, size_t n) {
 #endif
 
 typedef struct {
-    const void *start;
-    size_t length;
-} slice;
-
-typedef struct {
     _Alignas(16) uint8_t bytes[FORM];
 } form;
 
-typedef void step_function(form *stepped, const form *state, const uint8_t *call, const slice *room);
+// A struct goes by a pointer, as a result too; a slice as a pointer and a number of bytes.
+typedef void step_function(form *stepped, const form *state, const uint8_t *call, uint8_t *room, size_t length);
 typedef void empty_function(form *state, uint32_t clock);
 
 step_function first_step __asm__("\"supervisor::step\""), second_step __asm__("\"second::step\"");
 empty_function first_empty __asm__("\"supervisor::empty\""), second_empty __asm__("\"second::empty\"");
-void read_record(form *read, const slice *record) __asm__("\"calls::reader::read_record\"");
+void read_record(form *read, const uint8_t *record, size_t length) __asm__("\"calls::reader::read_record\"");
 
 // A state, and the place where the next one is put.
 typedef struct {
@@ -58,15 +54,13 @@ static void started(engine *e, step_function *step, empty_function *empty) {
 
 static void taken(engine *e, const form *call) {
     static uint8_t room[124];
-    slice lent = {room, sizeof room};
-    e->step(&e->forms[1 - e->now], &e->forms[e->now], call->bytes + CALL_AT, &lent);
+    e->step(&e->forms[1 - e->now], &e->forms[e->now], call->bytes + CALL_AT, room, sizeof room);
     e->now = 1 - e->now;
 }
 
 static form call_of(const uint8_t *record, size_t n) {
     form read;
-    slice bytes_of = {record, n};
-    read_record(&read, &bytes_of);
+    read_record(&read, record, n);
     return read;
 }
 

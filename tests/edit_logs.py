@@ -2,6 +2,7 @@
 
 `rt ci` tries them too, and tells of each only the first line that refused it. A log whose texts have not changed since stays as it is.
 """
+import contextlib
 import hashlib
 import os
 import shutil
@@ -32,9 +33,15 @@ def is_kept(crate, edit):
 
 
 def begun(source, to):
-    """Copies what earlier checks proved; the prover replaces such files, and writes into none."""
-    link = lambda one, other: os.link(one, other) if one.endswith(".oantt") else shutil.copy2(one, other)
-    shutil.copytree(source, to, symlinks=True, copy_function=link)
+    """Copies what earlier checks proved, by links where these can be made: the prover replaces such files, and writes into none."""
+
+    def copy(one, other):
+        if one.endswith(".oantt"):
+            with contextlib.suppress(OSError):
+                return os.link(one, other)
+        return shutil.copy2(one, other)
+
+    shutil.copytree(source, to, symlinks=True, copy_function=copy)
 
 
 def copied(crate, folder, texts):

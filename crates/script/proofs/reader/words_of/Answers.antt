@@ -5,7 +5,8 @@ use Rattle.script.specs.Words.{words_from, words_of}
 use borrow.Author.Rules.{rules}
 use native.Mathlib.Omega.{arith}
 use mathlib.Core.Bool.{false}
-use mathlib.Core.Path.{sym, ap}
+use mathlib.Core.Path.{◌≡◌, sym, ap}
+use lib.ListN.{get_or}
 use mathlib.Core.List.{List, ◌++◌}
 use Prim.Native.Nat.{ℕ}
 use Rattle.script.proofs.reader.words_of.Goals as goal
@@ -24,11 +25,12 @@ returns-then-b-eq35 c =
 
 pub loop-i-preserved : goal.loop-i-preserved
 loop-i-preserved c =
-    let p = c.before in
-    let l = p.loop-i in
-    let w = p.args.line.now in
+    let l = c.loop-i in
+    let w = c.args.line.now in
+    let part = c.with_part-words in
+    let goes_on : get_or w l.i 0 ≡ 35 → ⊥ = λ e. omega arith in
     rw c.is_blank-inside.ensures
-    (omega arith, (p.with_part-words.ensures.long, growing_on _ p.with_part-words.ensures (next_part w l.inside l.i (omega arith) p.if-b-eq35.false) l.invariant.1.1))
+    (omega arith, (part.ensures.long, growing_on _ part.ensures (next_part w l.inside l.i (omega arith) goes_on) l.invariant.1.1))
 
 pub returns : goal.returns
 unfolding words_of

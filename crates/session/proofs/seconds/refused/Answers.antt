@@ -1,4 +1,4 @@
-use Rattle.std.proofs.Common.{ℕ, ◌≤◌, List, length, ap, ◌∙◌, subst, arith, eq-eqb, ne_eqb}
+use Rattle.std.proofs.Common.{◌≡◌, ℕ, ◌≤◌, true, eqb, List, length, ap, ◌∙◌, subst, arith, eq-eqb, ne_eqb}
 use Rattle.report.specs.Lines.{line_text, longest_line}
 use Rattle.rules.specs.declared.Answer.{Answer}
 use Rattle.rules.specs.declared.Running.{Running}
@@ -16,10 +16,13 @@ returns-then-last-many c =
     record { value = said.0; out_after = said.1.0; room_len_bound = said.1.1 }
 
 -- there are no bytes
+over : (c : goal.After-least-then-n-eq-END_OF_LOG) → eqb c.args.n 12 ≡ true
+over c = eq-eqb _ 12 c.if-n-eq-END_OF_LOG.true
+
 pub returns-then-n-eq-END_OF_LOG : goal.returns-then-n-eq-END_OF_LOG
 returns-then-n-eq-END_OF_LOG c =
     let a = c.args in
-    let said = says second_made _ _ (ends second a.s a.n a.many a.last a.room.now c.if-last-many.false (eq-eqb _ 12 c.if-n-eq-END_OF_LOG.true)) (put_none c.least-then-n-eq-END_OF_LOG.ensures) (omega arith) in
+    let said = says second_made _ _ (ends second a.s a.n a.many a.last a.room.now c.if-last-many.false (over c)) (put_none c.least-then-n-eq-END_OF_LOG.ensures) (omega arith) in
     record { value = said.0; out_after = said.1.0; room_len_bound = said.1.1 }
 
 pub returns : goal.returns

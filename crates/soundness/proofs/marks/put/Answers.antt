@@ -4,9 +4,8 @@ use Rattle.soundness.proofs.marks.put.Goals as goal
 
 pub returns-then-there-here : goal.returns-then-there-here
 returns-then-there-here c =
-    let h = c.before.before in
-    let a = h.args in
-    c.without.ensures ∙ put_changed a.word a.t a.here h.has-there.result h.has-there.ensures c.if-there-here.true
+    let a = c.args in
+    c.without.ensures ∙ put_changed a.word a.t a.here c.has-there.result c.has-there.ensures c.if-there-here.true
 
 pub returns-else-there-here : goal.returns-else-there-here
-returns-else-there-here c = let h = c.before in let a = h.args in put_same a.word a.t a.here h.has-there.result h.has-there.ensures c.if-there-here.false
+returns-else-there-here c = let a = c.args in put_same a.word a.t a.here c.has-there.result c.has-there.ensures c.if-there-here.false

@@ -10,10 +10,9 @@ loop-i-init c = (omega arith, search (rules, mapped_long), ap (λ (m : Marks). m
 
 pub loop-i-preserved : goal.loop-i-preserved
 loop-i-preserved c =
-    let k = c.before in
-    let l = k.loop-i in
-    let a = k.args in
-    (omega arith, l.invariant.1, l.invariant.2 ∙ all_on a.targets l.ok l.rest a.rows l.i k.met_row-m.result (omega (arith, l.invariant.1)) k.met_row-m.ensures)
+    let l = c.loop-i in
+    let a = c.args in
+    (omega arith, l.invariant.1, l.invariant.2 ∙ all_on a.targets l.ok l.rest a.rows l.i c.met_row-m.result (omega (arith, l.invariant.1)) c.met_row-m.ensures)
 
 pub returns : goal.returns
 returns c =

@@ -11,10 +11,9 @@ loop-i-init c = (omega arith, search (rules, mapped_long), targets_none c.args.s
 
 pub loop-i-preserved : goal.loop-i-preserved
 loop-i-preserved c =
-    let h = c.before in
-    let l = h.loop-i in
-    let s = h.args.s in
-    let e = shown_at s (l.i + 1) l.i h.shown-x.result l.invariant.1 (index_next l.i (omega arith)) h.shown-x.ensures in
+    let l = c.loop-i in
+    let s = c.args.s in
+    let e = shown_at s (l.i + 1) l.i c.shown-x.result l.invariant.1 (index_next l.i (omega arith)) c.shown-x.ensures in
     (omega arith, l.invariant.1, targets_on s l.targets l.i c.called-g.result (omega arith) l.invariant.2 (c.called-g.ensures ∙ ap (λ (x : Task). called_by x.place) e))
 
 pub returns : goal.returns

@@ -4,17 +4,15 @@ use Rattle.soundness.proofs.stand.is_blank_from.Goals as goal
 
 pub loop-j-preserved : goal.loop-j-preserved
 loop-j-preserved c =
-    let l = c.before.before in
-    let a = l.args.a.now in
-    let k : length a ≡ 31 = l.loop-j.invariant.0 in
-    (k, l.loop-j.invariant.1 ∙ blank_on a l.loop-j.j l.loop-j.seen (omega arith))
+    let a = c.args.a.now in
+    let k : length a ≡ 31 = c.loop-j.invariant.0 in
+    (k, c.loop-j.invariant.1 ∙ blank_on a c.loop-j.j c.loop-j.seen (omega arith))
 
 pub returns : goal.returns
 returns c =
-    let l = c.before in
-    let a = l.args.a.now in
-    let k : length a ≡ 31 = l.loop-j.invariant.0 in
-    sym (l.loop-j.invariant.1 ∙ blank_end a l.loop-j.j l.loop-j.seen (omega arith))
+    let a = c.args.a.now in
+    let k : length a ≡ 31 = c.loop-j.invariant.0 in
+    sym (c.loop-j.invariant.1 ∙ blank_end a c.loop-j.j c.loop-j.seen (omega arith))
 
 pub loop-j-init : goal.loop-j-init
 loop-j-init c = (c.requires, refl)

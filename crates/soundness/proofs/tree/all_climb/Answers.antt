@@ -9,20 +9,15 @@ loop-i-init c = (omega arith, search rules, refl)
 
 pub returns-then-t-eq0 : goal.returns-then-t-eq0
 returns-then-t-eq0 c =
-    let l = c.before.before in
-    let a = l.args in
-    sym (l.loop-i.invariant.2 ∙ ap (all_climbed a.holders l.loop-i.good l.loop-i.rest) (rest_blank a.held l.loop-i.i (omega arith) c.if-t-eq0.true))
+    let a = c.args in
+    sym (c.loop-i.invariant.2 ∙ ap (all_climbed a.holders c.loop-i.good c.loop-i.rest) (rest_blank a.held c.loop-i.i (omega arith) c.if-t-eq0.true))
 
 pub loop-i-preserved : goal.loop-i-preserved
 loop-i-preserved c =
-    let k = c.before in
-    let e = k.before in
-    let l = e.before.before in
-    let a = l.args in
-    (omega arith, l.loop-i.invariant.1, l.loop-i.invariant.2 ∙ climbs_on a.holders l.loop-i.good l.loop-i.rest _ _ _ k.climb-k.result (rest_entry a.held l.loop-i.i (omega arith) e.if-t-eq0.false) k.climb-k.ensures)
+    let a = c.args in
+    (omega arith, c.loop-i.invariant.1, c.loop-i.invariant.2 ∙ climbs_on a.holders c.loop-i.good c.loop-i.rest _ _ _ c.climb-k.result (rest_entry a.held c.loop-i.i (omega arith) c.if-t-eq0.false) c.climb-k.ensures)
 
 pub returns : goal.returns
 returns c =
-    let l = c.before in
-    let a = l.args in
-    sym (l.loop-i.invariant.2 ∙ ap (all_climbed a.holders l.loop-i.good l.loop-i.rest) (rest_end a.held l.loop-i.i (omega arith)))
+    let a = c.args in
+    sym (c.loop-i.invariant.2 ∙ ap (all_climbed a.holders c.loop-i.good c.loop-i.rest) (rest_end a.held c.loop-i.i (omega arith)))

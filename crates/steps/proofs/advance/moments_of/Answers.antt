@@ -33,13 +33,12 @@ overflow_add-n c = let m = more c in record { fits = omega arith }
 
 pub loop-i-preserved : goal.loop-i-preserved
 loop-i-preserved c =
-    let e = c.before.before.before in
-    let a = e.args in
-    let l = e.loop-i in (
+    let a = c.args in
+    let l = c.loop-i in (
       omega arith,
       more c,
       l.invariant.2,
-      moments_on (left_of a.s) _ l.n l.before _ l.invariant.3 (get_or a.l l.i 0) c.left_of-left.result _ (rest_entry a.l l.i (search rules) e.if-t-eq0.false) (left_here c),
+      moments_on (left_of a.s) _ l.n l.before _ l.invariant.3 (get_or a.l l.i 0) c.left_of-left.result _ (rest_entry a.l l.i (search rules) c.if-t-eq0.false) (left_here c),
     )
 
 pub returns : goal.returns

@@ -4,5 +4,4 @@ use Rattle.steps.proofs.call.enqueued.Goals as goal
 
 pub returns : goal.returns
 returns c =
-    let b = c.before.before in
-    move-answers b.args.s _ _ _ _ _ [] b.requires.0 b.requires.1 c.answered.ensures c.moved-m.ensures
+    move-answers c.args.s _ _ _ _ _ [] c.requires.0 c.requires.1 c.answered.ensures c.moved-m.ensures

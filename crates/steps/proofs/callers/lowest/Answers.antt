@@ -6,9 +6,6 @@ use Rattle.rules.specs.declared.Task.{Task}
 use Rattle.table.proofs.LeafLaws.{shown_at}
 use Rattle.steps.specs.Lowest.{open_call, call_of}
 use Rattle.steps.proofs.LowestLaws.{lower_turn}
-use Rattle.steps.proofs.callers.lowest.Lts as lts
-use Rattle.steps.proofs.callers.lowest.Reads as reads
-use Rattle.steps.proofs.callers.lowest.Tie as tie
 use Rattle.steps.proofs.callers.lowest.Goals as goal
 
 pub loop-i-init : goal.loop-i-init
@@ -19,19 +16,16 @@ returns-then-c-eq0 c =
     let l = c.loop-i in
     sym (rw (rest_blank c.args.mine l.i (omega arith) c.if-c-eq0.true) at l.invariant.3)
 
--- the open entry that the caller at place i has called
-call_here : (c : (lts.After-open_call tie.the-claims reads.Pre reads.Post goal.the-invariant-loop-i goal.the-decreases-loop-i)) → let a = c.args in c.open_call.result ≡ call_of (view_core a.s) a.t a.o (get_or a.mine c.loop-i.i 0)
-call_here c =
-    let a = c.args in
-    let l = c.loop-i in
-    c.open_call.ensures ∙ ap (λ (x : Task). open_call a.t a.o x.place) (shown_at a.s (get_or a.mine l.i 0) _ _ l.invariant.1 c.index_of-at.ensures.0 refl)
-
 pub loop-i-preserved : goal.loop-i-preserved
 loop-i-preserved c =
     let l = c.loop-i in
     let a = c.args in
+    let t = get_or a.mine l.i 0 in
     let rest = rest_entry a.mine l.i (omega arith) c.if-c-eq0.false in
-    (omega arith, l.invariant.1, l.invariant.2, l.invariant.3 ∙ lower_turn (call_of (view_core a.s) a.t a.o) l.b c.lower-b.result _ c.open_call.result _ _ rest (call_here c.before) c.lower-b.ensures)
+    -- the open entry that the caller at place i has called
+    let e : c.open_call.result ≡ call_of (view_core a.s) a.t a.o t =
+    c.open_call.ensures ∙ ap (λ (x : Task). open_call a.t a.o x.place) (shown_at a.s t _ _ l.invariant.1 c.index_of-at.ensures.0 refl) in
+    (omega arith, l.invariant.1, l.invariant.2, l.invariant.3 ∙ lower_turn (call_of (view_core a.s) a.t a.o) l.b c.lower-b.result _ c.open_call.result _ _ rest e c.lower-b.ensures)
 
 pub returns : goal.returns
 returns c =

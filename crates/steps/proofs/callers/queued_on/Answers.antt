@@ -7,9 +7,6 @@ use Rattle.rules.specs.Step.{queued_on}
 use Rattle.steps.specs.Taken.{seen}
 use Rattle.rules.specs.Whole.{view_core}
 use Rattle.steps.proofs.FinishLaws.{queued_laid, queued_turn, queued_end, marks_queued}
-use Rattle.steps.proofs.callers.queued_on.Lts as lts
-use Rattle.steps.proofs.callers.queued_on.Reads as reads
-use Rattle.steps.proofs.callers.queued_on.Tie as tie
 use Rattle.steps.proofs.callers.queued_on.Goals as goal
 
 pub loop-e-init : goal.loop-e-init
@@ -37,16 +34,12 @@ loop-e-preserved c =
       l.invariant.4 ∙ queued_turn m a l.e l.r n.result l.invariant.3 n.ensures (picked-here c) (omega arith) (omega arith),
     )
 
-long-here : (c : (lts.Start tie.the-claims reads.Pre reads.Post goal.the-invariant-loop-e goal.the-decreases-loop-e)) → length c.args.s.tasks ≡ 31
-long-here c = search (rules, mapped_long)
-
 pub returns : goal.returns
 unfolding queued_on
 returns c =
     let l = c.loop-e in
     let m = c.entries_called-marks.result in
-    let k = c.before.before.before in
-    let s = k.args.s in
-    let long = long-here k in
+    let s = c.args.s in
+    let long : length s.tasks ≡ 31 = search (rules, mapped_long) in
     let few : length (view_core s).tasks ≤ 31 = simp length-take (omega arith) in
-    sym (ap pad (sym (marks_queued (seen s k.args.mine) k.args.t m few c.entries_called-marks.ensures 8 1 (omega arith) (omega arith))) ∙ l.invariant.4 ∙ queued_end m (line k.args.mine) l.e l.r (omega arith) l.invariant.3)
+    sym (ap pad (sym (marks_queued (seen s c.args.mine) c.args.t m few c.entries_called-marks.ensures 8 1 (omega arith) (omega arith))) ∙ l.invariant.4 ∙ queued_end m (line c.args.mine) l.e l.r (omega arith) l.invariant.3)

@@ -9,8 +9,6 @@ returns-then-times-eq0 c = rw (eq-eqb _ 0 (sym c.times.ensures ∙ c.if-times-eq
 
 pub returns : goal.returns
 returns c =
-    let q = c.before in
-    let n = q.before.before in
-    let a = n.args in
-    rw (ne_eqb _ 0 (λ z. q.if-times-eq0.false (n.times.ensures ∙ z)))
-    (c.joined_all.ensures ∙ ap (λ (x : List ℕ). pad (line a.r ++ x)) (ap line q.picked-q.ensures ∙ line_picked (λ t. eqb (mark_of a.marks t) a.e) a.callers (search rules)))
+    let a = c.args in
+    rw (ne_eqb _ 0 (λ z. c.if-times-eq0.false (c.times.ensures ∙ z)))
+    (c.joined_all.ensures ∙ ap (λ (x : List ℕ). pad (line a.r ++ x)) (ap line c.picked-q.ensures ∙ line_picked (λ t. eqb (mark_of a.marks t) a.e) a.callers (search rules)))

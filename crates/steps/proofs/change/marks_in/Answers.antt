@@ -12,10 +12,9 @@ loop-i-init c =
 
 pub loop-i-preserved : goal.loop-i-preserved
 loop-i-preserved c =
-    let b = c.before in
-    let l = b.loop-i in
-    let a = b.args in
-    (omega arith, l.invariant.1 ∙ bytes_on a.field a.room.now l.marks c.with_mark-next.result a.n l.i b.byte_at-t.result (omega arith) b.byte_at-t.ensures c.with_mark-next.ensures)
+    let l = c.loop-i in
+    let a = c.args in
+    (omega arith, l.invariant.1 ∙ bytes_on a.field a.room.now l.marks c.with_mark-next.result a.n l.i c.byte_at-t.result (omega arith) c.byte_at-t.ensures c.with_mark-next.ensures)
 
 pub returns : goal.returns
 returns c =
