@@ -42,7 +42,7 @@ def by_folder(cells, text, folders):
 
 def main():
     doc, folders = Path(sys.argv[1]), sys.argv[2:]
-    text = "\n".join(f.read_text() for folder in folders for form in ("*.antt", "*.rt") for f in Path(folder).rglob(form))
+    text = "\n".join(f.read_text() for folder in folders for form in ("*.antt", "*.rt") for f in Path(folder).rglob(form) if "out" not in f.parts)
     cited, amiss = 0, []
     for number, line in enumerate(doc.read_text().splitlines(), 1):
         if not line.startswith("|"):

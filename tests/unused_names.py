@@ -8,6 +8,8 @@ IMPORT = re.compile(r"^\s*(?:ghost )?use (?P<path>[^\s;{]+?)(?:\.\{(?P<names>.*)
 COMMENT = re.compile(r"^\s*(?:--|//)")
 APART = re.compile(r"^\s*(?:--|//|(?:ghost |pub )?use )")
 LAW = re.compile(r"(?m)^\s*pub ([^\s(){}]+) :")
+# the traits of std whose methods are called, and not their names
+METHODS = {"Read": r"\.read\w*\(", "Write": r"\.(?:write|flush)\w*\("}
 # the files of a function's own proof
 OF_FUNCTIONS = {"Invariants", "Answers", "Proof"}
 WORD = re.compile(r"[^\s(){}\[\],.;:`|]+")
@@ -24,7 +26,9 @@ def imported(line):
 
 
 def used(name, text):
-    """Whether the text has the name as a whole word; of an operator, as when◌then◌else◌, whether it has each part of it."""
+    """Whether the text has the name as a whole word; of an operator, as when◌then◌else◌, whether it has each part of it; of a trait, whether it calls its methods."""
+    if name in METHODS and re.search(METHODS[name], text):
+        return True
     whole = re.search(rf"(?<![\w'-]){re.escape(name)}(?![\w'-])", text)
     parts = [part for part in name.split("◌") if part]
     return whole or ("◌" in name and all(part in text for part in parts))
@@ -50,7 +54,7 @@ def unused_laws(texts, cited):
 
 
 def main():
-    files = {f: f.read_text().splitlines() for form in ("*.antt", "*.rt") for f in sorted(Path("crates").rglob(form))}
+    files = {f: f.read_text().splitlines() for form in ("*.antt", "*.rt") for f in sorted(Path("crates").rglob(form)) if "out" not in f.parts}
     texts = {f: "\n".join(line for line in lines if not COMMENT.match(line)) for f, lines in files.items()}
     cited = {name for doc in Path("docs").rglob("*.md") for name in re.findall(r"`([^`\s]+)`", doc.read_text())}
     amiss = [wrong for file, lines in files.items() for wrong in unused_imports(file, lines)]
