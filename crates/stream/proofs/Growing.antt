@@ -5,8 +5,6 @@ use borrow.Rule.Slice.PartMut.{put_mid}
 use Rattle.stream.specs.declared.window.Window.{Window}
 use Rattle.stream.specs.Windows.{moved_to, shifted, end_in, start_in, unread_in, Grown}
 
-}
-
 -- the window on u and what stands behind it, up to m places behind u
 window_on : (u x : List ℕ) (m : ℕ) (z : Bool)
     → unread_in (record { at = 0; end = length u + m; last = z }) (u ++ x) ≡ u ++ take (min (length u + m) (length (u ++ x)) - length u) x

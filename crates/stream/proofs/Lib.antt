@@ -1,4 +1,3 @@
 mod Shifts
-pub mod Spare
 pub mod Growing
 pub mod Unique

@@ -1,1 +1,0 @@
--- Room that is kept free behind what waits. Assumes nothing.
