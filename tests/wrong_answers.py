@@ -4,7 +4,7 @@ An edit replaces one or more texts of its crate, each by a wrong one. The commen
 contract a line `law: FILE NAME` names the theorem that refuses it; above a text of a function's body a line `at: GOAL` may name the goal of the
 function that does (as `returns` or `loop-i-preserved`), and must where the edit has two wrong answers of one function.
   texts   each replaced text stands once in its file, in a function or in a definition, and has its comment; no two wrong answers
-          of an edit are refused by the same law or at the same goal; and every public function whose contract determines its answer
+          of an edit are refused by the same law or at the same goal, but where each of them but one has an edit in which it is alone there; and every public function whose contract determines its answer
           has two wrong answers of its own, or one and two in its parts if PARTS has it (a function that only passes one on to C has those of that one)
   table   the table of DOC between its two marks lists them all (--write puts it there)
   logs    in what the prover said of the edits (of the named crates; tests/edit_logs.py has it say so), each changed function was refused by itself, at a fact
@@ -99,10 +99,25 @@ def replacements(edit):
             found += (Wrong(edit=edit, crate=crate, file=file, old=old, new=new, where=where, **name) for name in named)
             texts[file], named = text.replace(old, new, 1), []
     amiss += (f"{edit}: {why}: {wrong.old.strip()}" for wrong in found for why in amiss_with(wrong))
-    by = [refusing(wrong) for wrong in found]
     twice = {wrong.where for wrong in found if not wrong.law and not wrong.at and [w.where for w in found].count(wrong.where) > 1}
-    amiss += [f"{edit}: {place} refuses two wrong answers" for place in sorted({b for b in by if by.count(b) > 1} | twice)]
+    amiss += [f"{edit}: {place} refuses two wrong answers" for place in sorted(twice)]
     return found, amiss, texts
+
+
+def text_of(wrong):
+    """What a wrong answer replaces, and by what."""
+    return wrong.crate, wrong.file, wrong.old, wrong.new
+
+
+def without_the_others(found):
+    """The places that refuse two texts of an edit, where more than one of these has no other edit in which its place refuses it alone."""
+    texts = {}
+    for wrong in found:
+        texts.setdefault((wrong.edit, refusing(wrong)), {})[text_of(wrong)] = wrong
+    alone = {text for there in texts.values() if len(there) == 1 for text in there}
+    for (edit, place), there in texts.items():
+        if len(there) > 1 and sum(text not in alone for text in there) > 1:
+            yield f"{edit}: {place} refuses two wrong answers"
 
 
 def all_wrong():
@@ -113,7 +128,7 @@ def all_wrong():
             more, wrong, _ = replacements(edit)
             found += more
             amiss += wrong
-    return found, amiss
+    return found, amiss + list(without_the_others(found))
 
 
 def texts():
@@ -123,7 +138,7 @@ def texts():
         if crate in EXPORTING or not (Path("crates") / crate / "src/lib.rt").exists():
             continue
         for function in ("::".join(f) for f in public_functions(crate)):
-            own = [w for w in found if (w.crate, w.where) == (crate, function)]
+            own = {(text_of(w), w.says) for w in found if (w.crate, w.where) == (crate, function)}
             name = f"{crate}::{function}"
             least = 1 if name in PARTS else 2
             if name not in unbound and len(own) < least:
@@ -132,7 +147,7 @@ def texts():
         crate = function.split("::")[0]
         if len([w for w in found if w.crate == crate and w.where in parts]) < 2:
             amiss.append(f"{function}: fewer than two wrong answers in the parts that it rests on")
-    return amiss, f"{len(found)} wrong answers in {len({w.edit for w in found})} edits"
+    return amiss, f"{len({(text_of(w), w.says) for w in found})} wrong answers in {len({w.edit for w in found})} edits"
 
 
 def rows():
@@ -145,7 +160,7 @@ def rows():
         own = [w for w in found if (w.crate, w.where) == (crate, where)]
         name = f"{crate}/{where}" if "/" in where else f"{crate}::{where}"
         edits = " ".join(dict.fromkeys(f"`{crate}/must-fail/{w.edit.name}`" for w in own))
-        says = (w.says + (f" (`{w.law[1]}`)" if w.law else "") for w in own)
+        says = dict.fromkeys(w.says + (f" (`{w.law[1]}`)" if w.law else "") for w in own)
         yield f"| `{name}` | {'; '.join(says)} | {edits} |"
 
 

@@ -1,5 +1,5 @@
-// A supervisor whose state lies in lent bytes, for programs in C and Ada. Each function takes every input; a slice is passed as a
-// pointer and a number of bytes, and lent slices do not overlap.
+// A supervisor whose state lies in lent bytes, for programs in C and Ada: the crate card_c passes these functions on to them. Each function
+// takes every input.
 #![tactic(auto)]
 
 pub mod by_rows;

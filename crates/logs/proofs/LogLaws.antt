@@ -162,10 +162,6 @@ passed_on {left} {w} {w''} {b} {b'' = b''} {s = s} p g =
 
 -- ---- a number in a head
 
--- there are fewer than four bytes
-pub few_there : (b : List ℕ) (at : ℕ) → length b < at + 4 → 0 ≡ number_at b at
-few_there b at h = rw (lt-leb (at + 4) (length b) h)
-
 -- all four are there
 pub all_there : (b : List ℕ) (at : ℕ) → at + 4 ≤ length b → four_from b at ≡ number_at b at
 all_there b at h = rw (le-leb (at + 4) (length b) h)

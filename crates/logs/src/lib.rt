@@ -274,7 +274,7 @@ fn run_input_with<R: Input + Print + Eprint>(rt: &R, clock: u32, second: bool) {
 
 // The same, with the engine that the program's word chooses.
 pub fn run_input<R: Input + Print + Eprint + Env>(rt: &R, clock: u32) {
-    let count = words::arg_count(rt);
+    let count = words::arg_count(rt, 3);
     let second = is_second(rt, count);
     if second | (count < 2) {
         run_input_with(rt, clock, second);
@@ -410,7 +410,7 @@ fn run_logs_with<R: Input + Print + Eprint>(rt: &R, second: bool) {
 
 // The same, with the engine that the program's word chooses.
 pub fn run_logs<R: Input + Print + Eprint + Env>(rt: &R) {
-    let count = words::arg_count(rt);
+    let count = words::arg_count(rt, 3);
     let second = is_second(rt, count);
     if second | (count < 2) {
         run_logs_with(rt, second);

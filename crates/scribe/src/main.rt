@@ -22,7 +22,7 @@ fn main(rt: HostRuntime) {
     let mut buf = [0u8; 65536];
     let mut out = [0u8; 65536];
     let mut word = [0u8; 5];
-    let count = arg_count(&rt);
+    let count = arg_count(&rt, 3);
     let n = arg(&rt, 1, &mut word);
     if is_back(count, &word, n) {
         back::run(&rt, &mut buf, &mut out);

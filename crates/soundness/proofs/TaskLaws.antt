@@ -1,16 +1,14 @@
 -- Tests on one task, on the task that it has called, and where a task stands in the table.
 -- Assumes nothing.
-use Rattle.std.proofs.Common.{◌≡◌, ℕ, ◌-◌, ◌<◌, ◌≤◌, Bool, true, false, not, ◌&&◌, ltb, leb, [], ◌∷◌, get_or, sym, refl, ap, ◌∙◌, arith, ltb-false, le-ltb, lt-ltb, le-leb, leb-false, leb-true}
-use mathlib.Core.Bool.{and-true}
+use Rattle.std.proofs.Common.{◌≡◌, ℕ, ◌-◌, ◌<◌, ◌≤◌, Bool, true, false, ◌&&◌, ltb, leb, [], ◌∷◌, get_or, refl, ap, ◌∙◌, arith, ltb-false, lt-ltb, le-leb, leb-false}
 use Rattle.lists.proofs.ListLaws.{by_bool, clash}
 use Rattle.lists.proofs.Tests.{between}
-use Rattle.rules.specs.State.{blank, task_of, partner_of, left}
-use Rattle.rules.specs.Sound.{time_in_range, good_task}
+use Rattle.rules.specs.State.{blank, task_of, partner_of}
+use Rattle.rules.specs.Sound.{good_task}
 use Rattle.rules.specs.Whole.{view_core, is_blank}
 use Rattle.rules.specs.declared.Core.{Core}
 use Rattle.rules.specs.declared.Task.{Task}
 use Rattle.rules.specs.declared.Place.{Place}
-use Rattle.rules.specs.declared.Timer.TheVariants.{Due}
 use Rattle.table.proofs.LeafLaws.{task_in, task_past}
 use Rattle.table.proofs.PlaceLaws.{Among, in_arm}
 use Rattle.soundness.specs.Check.{good_in}
@@ -19,14 +17,8 @@ use Rattle.soundness.specs.Check.{good_in}
 abbrev pub named : ℕ → ℕ → Bool
 named most x = ltb 0 x && leb x most
 
-pub not-leb : (a b : ℕ) → not (leb a b) ≡ ltb b a
-not-leb a b = by_bool (leb a b) (λ e. rw (e, le-ltb b a (leb-true a b e))) (λ e. rw (e, lt-ltb b a (leb-false a b e)))
-
 pub not-blank : (p : Place) → Among (1 ∷ 2 ∷ 3 ∷ 4 ∷ 5 ∷ 6 ∷ []) p → false ≡ is_blank p
 not-blank = in_arm is_blank false (1 ∷ 2 ∷ 3 ∷ 4 ∷ 5 ∷ 6 ∷ []) tt refl refl (λ q. refl) (λ m. refl) (λ o. refl) refl
-
-pub in_time_due : (now d l : ℕ) → l ≡ left now d → d < 4294967296 → (ltb 0 l && leb l 2147483647) ≡ time_in_range now (Due d)
-in_time_due now d l e h = rw (e, lt-ltb d 4294967296 h) (sym (and-true (ltb 0 (left now d) && leb (left now d) 2147483647)))
 
 -- ── the table ──
 

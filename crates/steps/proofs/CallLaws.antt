@@ -3,7 +3,7 @@
 use Rattle.std.proofs.Common.{◌≡◌, ℕ, zero, suc, ◌<◌, ◌≤◌, Bool, true, false, ◌&&◌, ltb, leb, [], ◌∷◌, length, ℤ, refl, ◌∙◌, arith}
 use Rattle.lists.proofs.Tests.{between}
 use Rattle.rules.specs.State.{State, created, task_of, wake, running, after, is_task, has_entry, place_of, is_completed, accepts, meet}
-use Rattle.rules.specs.Step.{refused, took, NO_TASK, NO_TARGET, NO_ENTRY, item, WAITS, CALL_EXPIRED, TASKING_ERROR, ACCEPTED, ticks, enqueue, timed_call, call_busy, call, take_call}
+use Rattle.rules.specs.Step.{refused, took, NO_TASK, NO_TARGET, NO_ENTRY, item, WAITS, TASKING_ERROR, ACCEPTED, ticks, enqueue, timed_call, call_busy, call, take_call}
 use Rattle.lists.specs.Lists.{remove}
 use Rattle.rules.specs.Callers.{with_callers}
 use Rattle.rules.specs.Whole.{view_core, pack_core}
@@ -52,15 +52,6 @@ module _ (v : State) (t g e : ℕ) (m : CallMode) where
   call_goes q1 q2 q3 q4 = rw (q1, q2, q3, q4)
 
 module _ (v : State) (t g e : ℕ) (d : ℤ) (n : ℕ) (is : n ≡ ticks d) where
-  pub timed_now : n ≡ 0 → call_busy v t g e (Timed d) ≡ took v (item t CALL_EXPIRED e g) []
-  timed_now z = rw (← is, z)
-
-  pub timed_later : (due : ℕ) → (n ≡ 0 → ⊥) → due ≡ after v.clock n → call_busy v t g e (Timed d) ≡ enqueue v t g e (Due due)
-  timed_later due z q = rw (← is, q) (go n z)
-    where
-      go : (n : ℕ) → (n ≡ 0 → ⊥) → timed_call v t g e n ≡ enqueue v t g e (Due (after v.clock n))
-      go zero z = absurd (z refl)
-      go (suc n) z = refl
 
 pub quiet_enqueue : (v : State) (t g e : ℕ) (w : Timer) → ended_by (enqueue v t g e w) ≡ []
 quiet_enqueue v t g e w = refl

@@ -1,6 +1,6 @@
 -- CREATE.
 -- Assumes nothing.
-use Rattle.std.proofs.Common.{◌≡◌, ℕ, suc, ◌+◌, ◌-◌, ◌<◌, ◌≤◌, Bool, true, false, not, leb, List, [], ◌∷◌, ◌++◌, length, set, replicate, sym, refl, ap, ◌∙◌, arith, length-append, le-leb}
+use Rattle.std.proofs.Common.{◌≡◌, ℕ, suc, ◌+◌, ◌-◌, ◌<◌, ◌≤◌, Bool, true, false, List, [], ◌∷◌, ◌++◌, length, set, replicate, sym, ap, ◌∙◌, arith, length-append, le-leb}
 use lib.Seq.{set-append_seam, append_snoc}
 use borrow.Author.Tests.{lt-leb}
 use Rattle.lists.specs.Line.{line, pad}
@@ -11,11 +11,9 @@ use Rattle.rules.specs.Whole.{view_core, pack_core}
 use Rattle.rules.specs.declared.Task.{Task}
 use Rattle.rules.specs.declared.Core.{Core}
 use Rattle.calls.specs.declared.Call.TheVariants.{Create}
-use Rattle.lists.proofs.ListLaws.{by_test}
 use Rattle.table.specs.Moved.{with_task}
 use Rattle.steps.specs.Taken.{Stands}
 use Rattle.steps.proofs.MoveLaws.{created_is}
-use Rattle.steps.proofs.AnswerLaws.{Quiet}
 
 module _ (v : State) (p n : ℕ) where
   pub create_bad : (b : Bool) → b ≡ in_range p n → b ≡ false → take_call v (Create p n) ≡ refused BAD_FIELD
@@ -51,6 +49,3 @@ add_packed s k p n t r h few et ex er ek =
       held = (h.packs i).held;
       delays = (h.packs i).delays;
     }
-
-pub quiet_create : (v : State) (p n : ℕ) → Quiet (take_call v (Create p n))
-quiet_create v p n = by_test Quiet (not (in_range p n)) (λ _. refl) λ _. by_test Quiet (leb 31 (created v)) (λ _. refl) (λ _. refl)

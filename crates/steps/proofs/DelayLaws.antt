@@ -6,7 +6,7 @@ use Rattle.rules.specs.Step.{took, item, WAITS, ELAPSED, ticks, delay_for, take_
 use Rattle.rules.specs.declared.Place.TheVariants.{Ready, Delayed}
 use Rattle.rules.specs.declared.Timer.TheVariants.{Off, Due}
 use Rattle.calls.specs.declared.Call.TheVariants.{Delay}
-use Rattle.steps.proofs.AnswerLaws.{of_runner, Quiet, quiet_runner}
+use Rattle.steps.proofs.AnswerLaws.{of_runner}
 
 module _ (v : State) (t : ℕ) (run : t ≡ running v) (some : t ≡ 0 → ⊥) where
   pub delay_now : (d : ℤ) (n : ℕ) → n ≡ ticks d → n ≡ 0 → take_call v (Delay d) ≡ took (move v t Ready Off) (item t ELAPSED 0 0) []
@@ -18,10 +18,3 @@ module _ (v : State) (t : ℕ) (run : t ≡ running v) (some : t ≡ 0 → ⊥) 
       go : (n : ℕ) → (n ≡ 0 → ⊥) → delay_for v t n ≡ took (move v t Delayed (Due (after v.clock n))) (item t WAITS 0 0) []
       go zero z = absurd (z refl)
       go (suc n) z = refl
-
-pub quiet_delay : (v : State) (d : ℤ) → Quiet (take_call v (Delay d))
-quiet_delay v d = quiet_runner (running v) (λ t. delay_for v t (ticks d)) (λ t. go t (ticks d))
-  where
-    go : (t n : ℕ) → Quiet (delay_for v t n)
-    go t zero = refl
-    go t (suc n) = refl

@@ -2,10 +2,8 @@
 -- Assumes nothing.
 use Rattle.std.proofs.Common.{◌≡◌, ℕ, zero, suc, ◌^◌, ◌<◌, ◌≤◌, true, false, eqb, leb, [], length, ℤ, sym, refl}
 use Rattle.lists.specs.Lists.{first}
-use Rattle.rules.specs.State.{State, task_of, move, running, after, queue, offer, meet}
-use Rattle.rules.specs.Step.{refused, took, NO_TASK, NO_ENTRY, item, WAITS, ACCEPTED, DELAY_TAKEN, ticks, open_entry, select_delay, select_none, select_at, select, take_call}
-use Rattle.rules.specs.declared.Place.TheVariants.{Accepting}
-use Rattle.rules.specs.declared.Timer.TheVariants.{Due}
+use Rattle.rules.specs.State.{State, task_of, running, queue, meet}
+use Rattle.rules.specs.Step.{refused, took, NO_TASK, NO_ENTRY, item, ACCEPTED, ticks, open_entry, select_delay, select_none, select_at, select, take_call}
 use Rattle.calls.specs.declared.Call.TheVariants.{Select}
 use Rattle.calls.specs.declared.SelectMode.{SelectMode}
 use Rattle.calls.specs.declared.SelectMode.TheVariants.{Plain, Else}
@@ -43,15 +41,6 @@ first_fits v t o (suc e) k i z f =
     rw f (queued_there v (first (queue v t (suc e))) q.0 q.1)
 
 module _ (v : State) (t o : ℕ) (d : ℤ) (n : ℕ) (is : n ≡ ticks d) where
-  pub select_now : n ≡ 0 → select_none v t o (S.Delay d) ≡ took v (item t DELAY_TAKEN 0 0) []
-  select_now z = rw (← is, z)
-
-  pub select_later : (due : ℕ) → (n ≡ 0 → ⊥) → due ≡ after v.clock n → select_none v t o (S.Delay d) ≡ took (move v t (Accepting (offer o)) (Due due)) (item t WAITS 0 0) []
-  select_later due z q = rw (← is, q) (go n z)
-    where
-      go : (n : ℕ) → (n ≡ 0 → ⊥) → select_delay v t o n ≡ took (move v t (Accepting (offer o)) (Due (after v.clock n))) (item t WAITS 0 0) []
-      go zero z = absurd (z refl)
-      go (suc n) z = refl
 
 pub quiet_select : (v : State) (o : ℕ) (m : SelectMode) → Quiet (take_call v (Select o m))
 quiet_select v o m = quiet_runner (running v) (λ t. select v t o m) (λ t. by_test Quiet (leb (2 ^ (task_of v t).entries) o) (λ _. refl) (λ _. at t m (open_entry v t o)))

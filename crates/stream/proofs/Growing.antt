@@ -1,19 +1,10 @@
 -- What stands unread stays, and grows at its end; and what is taken of it is taken off its front. Assumes nothing.
-use Rattle.std.proofs.Common.{◌≡◌, ℕ, ◌+◌, ◌-◌, ◌≤◌, min, Bool, List, [], ◌++◌, length, take, drop, sym, ap, ◌∙◌, append_assoc, append-nil, arith, length-append, length-drop, length-take, length-take-le, drop-drop, take_at, take-add, drop_at}
+use Rattle.std.proofs.Common.{◌≡◌, ℕ, ◌+◌, ◌-◌, ◌≤◌, min, Bool, List, ◌++◌, length, take, drop, sym, ap, ◌∙◌, arith, length-append, length-drop, length-take, length-take-le, drop-drop, take_at, take-add, drop_at}
 use lib.Seq.{take-append-add}
 use borrow.Rule.Slice.PartMut.{put_mid}
 use Rattle.stream.specs.declared.window.Window.{Window}
 use Rattle.stream.specs.Windows.{moved_to, shifted, end_in, start_in, unread_in, Grown}
 
--- nothing came
-pub grown_none : (w : Window) (b : List ℕ) → Grown w b w b
-grown_none w b = record { came = []; behind = sym (append-nil (unread_in w b)) }
-
--- something came, and then more
-pub grown_on : {w w' w'' : Window} {b b' b'' : List ℕ} → Grown w b w' b' → Grown w' b' w'' b'' → Grown w b w'' b''
-grown_on {w} {b = b} p q = record {
-  came = p.came ++ q.came;
-  behind = q.behind ∙ ap (λ (l : List ℕ). l ++ q.came) p.behind ∙ append_assoc (unread_in w b) p.came q.came;
 }
 
 -- the window on u and what stands behind it, up to m places behind u

@@ -1,6 +1,6 @@
 -- Laws of tables' places: loaded, taken out and put in, place by place.
 -- Assumes nothing.
-use Rattle.std.proofs.Common.{◌≡◌, ℕ, zero, suc, ◌+◌, ◌<◌, ◌≤◌, Bool, true, false, ◌&&◌, ◌||◌, ltb, List, [], ◌∷◌, ◌++◌, length, get_or, take, drop, set, replicate, sym, refl, ap, ◌∙◌, zero-le, le_of_suc-le-suc, not-suc-le-zero, add-one, arith, length-append, drop_of_length-le, take_all, ltb-false, ltb-true, le-ltb, lt-ltb}
+use Rattle.std.proofs.Common.{◌≡◌, ℕ, zero, suc, ◌+◌, ◌<◌, ◌≤◌, Bool, true, false, ◌&&◌, ◌||◌, ltb, List, [], ◌∷◌, ◌++◌, length, get_or, take, drop, set, replicate, sym, refl, ap, ◌∙◌, zero-le, le_of_suc-le-suc, not-suc-le-zero, add-one, arith, length-append, drop_of_length-le, ltb-false, ltb-true, le-ltb, lt-ltb}
 use mathlib.Core.Bool.{and-true}
 use lib.Seq.{drop-nil}
 use Rattle.workspace.specs.declared.Stretch.{Stretch}
@@ -35,16 +35,9 @@ clear_suc p (suc k) (x ∷ xs) (suc i) d h = rw (ltb_suc i k) (clear_suc p k xs 
 clear_next : {A : Type 0} (p : A → Bool) (k : ℕ) (l : List A) (i : ℕ) (d : A) → i < length l → every p (drop k (take i l)) && (ltb i k || p (get_or l i d)) ≡ every p (drop k (take (i + 1) l))
 clear_next p k l i d h = rw add-one (clear_suc p k l i d h)
 
--- ---- a table that is loaded place by place
-pub load_none : (l : List Stretch) → table_of [] ≡ table_of (take 0 l)
-load_none l = refl
-
 pub load_next : (l : List Stretch) (i : ℕ) → i < length l → note_of (table_of (take i l)) i (get_or l i none) ≡ table_of (take (i + 1) l)
 unfolding table_of
 load_next l i h = λ j. record { places = over_next (replicate 32 none) l i none h j; clear = clear_next is_none 32 l i none h j }
-
-pub load_all : (l : List Stretch) (i : ℕ) → length l ≤ i → table_of (take i l) ≡ table_of l
-load_all l i h = ap table_of (take_all i l h)
 
 -- ---- a place is taken out
 get_d_snoc : (l : List Stretch) (i : ℕ) → get_or (l ++ none ∷ []) i none ≡ get_or l i none

@@ -1,6 +1,6 @@
 -- The steps whose parts are put together by hand: each law has an equation for each call's result.
 -- Assumes nothing.
-use Rattle.std.proofs.Common.{◌≡◌, ℕ, zero, suc, ◌+◌, ◌-◌, ◌%◌, ◌<◌, ◌≤◌, Bool, true, false, ◌&&◌, eqb, ltb, leb, List, [], ◌∷◌, get_or, take, drop, set, sym, refl, ap, ◌∙◌, zero-le, arith, ltb-true, le-ltb, lt-ltb, ne_eqb, leb-true}
+use Rattle.std.proofs.Common.{◌≡◌, ℕ, zero, suc, ◌+◌, ◌-◌, ◌<◌, ◌≤◌, Bool, true, false, ◌&&◌, eqb, ltb, leb, List, [], ◌∷◌, get_or, take, drop, set, sym, refl, ap, ◌∙◌, zero-le, arith, ltb-true, le-ltb, lt-ltb, ne_eqb, leb-true}
 use mir.Val.{bool_byte}
 use Rattle.lists.specs.Lists.{when◌then◌else◌, bit, every}
 use Rattle.lists.proofs.Tests.{no, each, and_first, byte_bit}
@@ -13,7 +13,7 @@ use Rattle.workspace.specs.Rules.{stretch, none, is_none, end}
 use Rattle.workspace.specs.declared.Test.TheVariants.{StartsBehind}
 use Rattle.workspace.specs.Places.{place_of, passes_of, remove_at, insert_at}
 use Rattle.workspace.specs.Check.{tiled}
-use Rattle.workspace.specs.Steps.{is_counted, keeps_seen, refused_as, done_as, request_refusal, cut_at, grant_seen, request_seen, block_at, touches_low, touches_high, whole_as, whole_at, give_at, give_back, count_back, free_seen, release_seen}
+use Rattle.workspace.specs.Steps.{is_counted, keeps_seen, refused_as, done_as, request_refusal, cut_at, grant_seen, request_seen, block_at, touches_low, touches_high, whole_at, give_at, give_back, count_back, free_seen, release_seen}
 
 -- ── the check ──
 
@@ -58,16 +58,6 @@ granted_may s u n {kept = true} ek er o =
     (λ b. no (let q : 14 ≡ 0 = rw (z, b) at e in omega (arith, q))))
     (λ z. no (let q : 13 ≡ 0 = rw z at e in omega (arith, q)))
 
-pub cut_part : (l : List Stretch) (p n : ℕ) {f : Stretch} {start : ℕ} {r : List Stretch} → f ≡ get_or l p none → start ≡ (f.start + n) % 4294967296 → r ≡ set l p (stretch start (f.length - n)) → n < f.length → r ≡ cut_at p n l
-cut_part l p n {f = f} ef es er h =
-    er ∙ (λ i. set l p (stretch (es i) (f.length - n))) ∙ (λ i. when sym (lt-ltb n f.length h) i then set l p (stretch ((f.start + n) % 4294967296) (f.length - n)) else remove_at p l)
-    ∙ (λ i. when ltb n (ef i).length then set l p (stretch (((ef i).start + n) % 4294967296) ((ef i).length - n)) else remove_at p l)
-
-pub cut_whole : (l : List Stretch) (p n : ℕ) {f : Stretch} {r : List Stretch} → f ≡ get_or l p none → r ≡ remove_at p l → f.length ≤ n → r ≡ cut_at p n l
-cut_whole l p n {f = f} ef er h =
-    er ∙ (λ i. when sym (le-ltb n f.length h) i then set l p (stretch ((f.start + n) % 4294967296) (f.length - n)) else remove_at p l)
-    ∙ (λ i. when ltb n (ef i).length then set l p (stretch (((ef i).start + n) % 4294967296) ((ef i).length - n)) else remove_at p l)
-
 pub grant_law : (s : Look) (u : Used) (n : ℕ) {f : Stretch} {k : ℕ} {bs fs : List Stretch} {r : Done}
     → f ≡ get_or s.free s.place none → k ≡ place_of (passes_of StartsBehind f.start) (take u.blocks s.blocks) → bs ≡ insert_at k (stretch f.start n) s.blocks
     → fs ≡ cut_at s.place n s.free → r ≡ done_as bs fs f.start (u.blocks + 1) (u.free - bool_byte (leb f.length n)) → r ≡ grant_seen s u n
@@ -93,15 +83,6 @@ request_refused s u n ek e z er =
 pub low_law : (b : Stretch) (k : ℕ) (l : List Stretch) {j : ℕ} {x : Stretch} → j ≡ k - 1 → x ≡ get_or l j none → ltb 0 k && eqb (end x) b.start ≡ touches_low b k l
 low_law b k l ej ex = (λ i. ltb 0 k && eqb (end (ex i)) b.start) ∙ (λ i. ltb 0 k && eqb (end (get_or l (ej i) none)) b.start)
 
-pub whole_law : (low high : Bool) (b : Stretch) (k : ℕ) (l : List Stretch) {j : ℕ} {x y : Stretch} {start ahead behind front length : ℕ}
-    → j ≡ k - 1 → x ≡ get_or l j none → y ≡ get_or l k none → start ≡ (when low then x.start else b.start) → ahead ≡ (when low then x.length else 0) → behind ≡ (when high then y.length else 0)
-    → front ≡ (ahead + b.length) % 4294967296 → length ≡ (front + behind) % 4294967296 → stretch start length ≡ whole_at low high b k l
-whole_law low high b k l ej ex ey es ea eb ef e =
-    let xx = ex ∙ (λ i. get_or l (ej i) none) in
-    let ff = ef ∙ (λ i. (ea i + b.length) % 4294967296) in
-    let ee = e ∙ (λ i. (ff i + eb i) % 4294967296) in
-    (λ i. stretch (es i) (ee i)) ∙ (λ i. whole_as low high (xx i) (ey i) b)
-
 pub give_low : (high : Bool) (b : Stretch) (k : ℕ) (l : List Stretch) {w : Stretch} {j : ℕ} {rest r : List Stretch} {low : Bool}
     → w ≡ whole_at low high b k l → rest ≡ (when high then remove_at k l else l) → j ≡ k - 1 → r ≡ set rest j w → low ≡ true → r ≡ give_at low high b k l
 give_low high b k l ew er ej e el = e ∙ (λ i. set (er i) (ej i) (ew i)) ∙ rw el refl
@@ -115,16 +96,6 @@ place_most : (p : Stretch → Bool) (n : ℕ) (l : List Stretch) → place_of p 
 place_most p zero l = zero-le
 place_most p (suc n) [] = zero-le
 place_most p (suc n) (x ∷ xs) = by_bool (p x) (λ e. rw e zero-le) (λ e. let ih : place_of p (take n xs) ≤ n = place_most p n xs in rw e (omega (arith, ih)))
-
--- at most as many free stretches are joined with a block as there are, and one more is put in
-pub joins_few : (b : Stretch) (p : Stretch → Bool) (n : ℕ) (l : List Stretch) {k : ℕ} (low high : Bool) → k ≡ place_of p (take n l) → low ≡ touches_low b k l → bool_byte low + bool_byte high ≤ n + 1
-joins_few b p n l {k = k} true high ek el =
-    let h : place_of p (take n l) ≤ n = place_most p n l in
-    let z : 0 < k = ltb-true 0 k (and_first (ltb 0 k) (eqb (end (get_or l (k - 1) none)) b.start) (sym el)) in
-    let m : bool_byte high ≤ n = byte_most high n (omega (arith, z, ek, h)) in
-    omega (arith, m)
-joins_few b p n l false true ek el = omega arith
-joins_few b p n l false false ek el = omega arith
 
 pub free_law : (s : Look) (u : Used) (p : ℕ) {b : Stretch} {k : ℕ} {low high : Bool} {bs fs : List Stretch} {r : Done}
     → b ≡ get_or s.blocks p none → k ≡ place_of (passes_of StartsBehind b.start) (take u.free s.free) → low ≡ touches_low b k s.free → high ≡ touches_high b k s.free

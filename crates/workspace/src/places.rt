@@ -1,5 +1,5 @@
 // Tables of 32 places by value: searched, set, taken out and put in.
-ghost use Rattle.std.specs.Prelude.{◌≡◌, ◌≤◌, take, drop, set, slice_index_or, slice_set};
+ghost use Rattle.std.specs.Prelude.{◌≡◌, ◌≤◌, take, drop, slice_index_or, slice_set};
 ghost use Rattle.lists.specs.Lists.{every};
 ghost use Rattle.workspace.specs.Rules.{none, is_none};
 ghost use Rattle.workspace.specs.Places.{place_of, passes_of, remove_at, insert_at};

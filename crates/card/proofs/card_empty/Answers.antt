@@ -2,12 +2,12 @@ use native.Mathlib.Omega.{arith}
 use Prim.Native.Nat.{◌≤◌}
 use mathlib.Core.Path.{sym, ap, ◌∙◌}
 use lib.ListN.{length}
-use borrow.Author.Tests.{lt-ltb, le-ltb}
+use borrow.Author.Tests.{le-ltb}
 use Rattle.rules.specs.State.{empty}
 use Rattle.rules.specs.Whole.{pack}
 use Rattle.rules.specs.declared.Supervisor.{Supervisor}
 use Rattle.codec.specs.Layout.{state_size, stored}
-use Rattle.lists.proofs.Tests.{if-true, if-false}
+use Rattle.lists.proofs.Tests.{if-false}
 use Rattle.codec.proofs.CodecLaws.{stored_short}
 use Rattle.card.proofs.card_empty.Goals as goal
 

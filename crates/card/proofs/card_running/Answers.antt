@@ -1,7 +1,6 @@
-use mathlib.Core.Path.{◌≡◌, ap, ◌∙◌}
+use mathlib.Core.Path.{ap, ◌∙◌}
 use Rattle.rules.specs.Questions.{running_whole}
 use Rattle.rules.specs.declared.Running.{Running}
-use Rattle.codec.specs.Layout.{state_in}
 use Rattle.card.specs.Answers.{if_room, one_after}
 use Rattle.card.proofs.card_running.Goals as goal
 

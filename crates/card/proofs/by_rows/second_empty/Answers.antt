@@ -2,11 +2,11 @@ use native.Mathlib.Omega.{arith}
 use Prim.Native.Nat.{◌≤◌}
 use mathlib.Core.Path.{sym, ap, ◌∙◌}
 use lib.ListN.{length}
-use borrow.Author.Tests.{lt-ltb, le-ltb}
+use borrow.Author.Tests.{le-ltb}
 use Rattle.rules.specs.Second.{start_second}
 use Rattle.rules.specs.declared.Second.{Second}
 use Rattle.codec.specs.Rows.{second_size, stored_second}
-use Rattle.lists.proofs.Tests.{if-true, if-false}
+use Rattle.lists.proofs.Tests.{if-false}
 use Rattle.codec.proofs.RowsLaws.{stored_second_short}
 use Rattle.card.proofs.by_rows.second_empty.Goals as goal
 

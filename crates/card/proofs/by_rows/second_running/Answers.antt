@@ -1,7 +1,6 @@
-use mathlib.Core.Path.{◌≡◌, ap, ◌∙◌}
+use mathlib.Core.Path.{ap, ◌∙◌}
 use Rattle.rules.specs.Second.{running_second}
 use Rattle.rules.specs.declared.Running.{Running}
-use Rattle.codec.specs.Rows.{second_in}
 use Rattle.card.specs.Answers.{if_room, one_after}
 use Rattle.card.proofs.by_rows.second_running.Goals as goal
 

@@ -2,8 +2,8 @@ use native.Mathlib.Omega.{arith}
 use Prim.Native.Nat.{◌≤◌}
 use mathlib.Core.Path.{sym, ap, ◌∙◌}
 use lib.ListN.{length}
-use borrow.Author.Tests.{lt-ltb, le-ltb}
-use Rattle.lists.proofs.Tests.{if-true, if-false}
+use borrow.Author.Tests.{le-ltb}
+use Rattle.lists.proofs.Tests.{if-false}
 use Rattle.debounce.specs.declared.Made.{Made}
 use Rattle.debounce.specs.Settings.{fresh_of}
 use Rattle.card.specs.Contacts.{card_size, card_after}

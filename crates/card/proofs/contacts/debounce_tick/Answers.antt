@@ -1,14 +1,14 @@
 use native.Mathlib.Omega.{arith}
 use Prim.Native.Nat.{◌≤◌}
-use mathlib.Core.Path.{◌≡◌, sym, ap, ◌∙◌}
+use mathlib.Core.Path.{sym, ap, ◌∙◌}
 use lib.ListN.{length}
-use borrow.Author.Tests.{lt-ltb, le-ltb}
-use Rattle.lists.proofs.Tests.{if-true, if-false}
+use borrow.Author.Tests.{le-ltb}
+use Rattle.lists.proofs.Tests.{if-false}
 use Rattle.debounce.specs.declared.Card.{Card}
 use Rattle.debounce.specs.declared.Ticked.{Ticked}
 use Rattle.debounce.specs.Card.{tick_of}
 use Rattle.card.specs.Answers.{if_room, one_after}
-use Rattle.card.specs.Contacts.{card_in, card_after}
+use Rattle.card.specs.Contacts.{card_after}
 use Rattle.card.proofs.contacts.debounce_tick.Goals as goal
 
 pub returns-clause-value : goal.returns-clause-value

@@ -1,7 +1,7 @@
 use Rattle.std.proofs.Common.{◌≡◌, ◌^◌, leb, [], sym, refl, ap, ◌∙◌}
 use Rattle.calls.specs.declared.Call.TheVariants.{Select}
 use Rattle.rules.specs.State.{meet}
-use Rattle.rules.specs.Step.{take_call, took, item, open_entry, ACCEPTED}
+use Rattle.rules.specs.Step.{take_call, took, item, ACCEPTED}
 use Rattle.rules.specs.Step as rules
 use Rattle.lists.specs.Line.{line}
 use Rattle.rules.specs.Callers.{core_of}
