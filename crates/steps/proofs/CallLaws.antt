@@ -1,6 +1,6 @@
 -- CALL.
 -- Assumes nothing.
-use Rattle.std.proofs.Common.{◌≡◌, ℕ, zero, suc, ◌<◌, ◌≤◌, Bool, true, false, ◌&&◌, ltb, leb, [], ◌∷◌, length, ℤ, refl, ◌∙◌, arith}
+use Rattle.std.proofs.Common.{◌≡◌, ℕ, zero, suc, ◌<◌, ◌≤◌, Bool, true, false, ◌&&◌, ltb, leb, [], ◌∷◌, length, refl, ◌∙◌, arith}
 use Rattle.lists.proofs.Tests.{between}
 use Rattle.rules.specs.State.{State, created, task_of, wake, running, after, is_task, has_entry, place_of, is_completed, accepts, meet}
 use Rattle.rules.specs.Step.{refused, took, NO_TASK, NO_TARGET, NO_ENTRY, item, WAITS, TASKING_ERROR, ACCEPTED, ticks, enqueue, timed_call, call_busy, call, take_call}
@@ -50,8 +50,6 @@ module _ (v : State) (t g e : ℕ) (m : CallMode) where
 
   pub call_goes : is_task v g ≡ true → has_entry (task_of v g) e ≡ true → is_completed (place_of v g) ≡ false → accepts (place_of v g) e ≡ false → call v t g e m ≡ call_busy v t g e m
   call_goes q1 q2 q3 q4 = rw (q1, q2, q3, q4)
-
-module _ (v : State) (t g e : ℕ) (d : ℤ) (n : ℕ) (is : n ≡ ticks d) where
 
 pub quiet_enqueue : (v : State) (t g e : ℕ) (w : Timer) → ended_by (enqueue v t g e w) ≡ []
 quiet_enqueue v t g e w = refl

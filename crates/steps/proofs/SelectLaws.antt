@@ -1,6 +1,6 @@
 -- SELECT.
 -- Assumes nothing.
-use Rattle.std.proofs.Common.{◌≡◌, ℕ, zero, suc, ◌^◌, ◌<◌, ◌≤◌, true, false, eqb, leb, [], length, ℤ, sym, refl}
+use Rattle.std.proofs.Common.{◌≡◌, ℕ, zero, suc, ◌^◌, ◌<◌, ◌≤◌, true, false, eqb, leb, [], length, sym, refl}
 use Rattle.lists.specs.Lists.{first}
 use Rattle.rules.specs.State.{State, task_of, running, queue, meet}
 use Rattle.rules.specs.Step.{refused, took, NO_TASK, NO_ENTRY, item, ACCEPTED, ticks, open_entry, select_delay, select_none, select_at, select, take_call}
@@ -39,8 +39,6 @@ first_fits v t o zero k i z f = absurd (z refl)
 first_fits v t o (suc e) k i z f =
     let q = caller_taken v t o e (sym i) in
     rw f (queued_there v (first (queue v t (suc e))) q.0 q.1)
-
-module _ (v : State) (t o : ℕ) (d : ℤ) (n : ℕ) (is : n ≡ ticks d) where
 
 pub quiet_select : (v : State) (o : ℕ) (m : SelectMode) → Quiet (take_call v (Select o m))
 quiet_select v o m = quiet_runner (running v) (λ t. select v t o m) (λ t. by_test Quiet (leb (2 ^ (task_of v t).entries) o) (λ _. refl) (λ _. at t m (open_entry v t o)))
