@@ -31,7 +31,7 @@ PARTS = {
     "workspace::release": ["steps::touches_low", "steps::freed"],
 }
 # what the prover says of two sides that are not equal, or of a goal that does not follow
-FACT = re.compile(r"^expected type `|first differ|differ only|the two types|the two values|does not follow|does not hold|no proof of|found no proof|what it leaves must be")
+FACT = re.compile(r"^expected type `|first differ|differ only|the two types|the two values|on the face `|does not follow|does not hold|no proof of|found no proof|what it leaves must be")
 
 
 def crates():

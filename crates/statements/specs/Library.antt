@@ -17,7 +17,7 @@ use Rattle.codec.specs.Layout.{state_size, encode, state_in, stored}
 use Rattle.card.specs.Answers.{card_step, state_after, answer_bytes, if_room, one_after}
 use Rattle.card.proofs.card_empty.Reads as card_empty
 use Rattle.card.proofs.card_sound.Reads as card_sound
-use Rattle.card.proofs.card_step.Reads as card_step
+use Rattle.card.proofs.card_step.Reads as of_card_step
 use Rattle.card.proofs.card_count.Reads as card_count
 use Rattle.card.proofs.card_callable.Reads as card_callable
 use Rattle.card.proofs.card_running.Reads as card_running
@@ -88,7 +88,7 @@ pub record RunsCard (n : ℕ) (b : List ℕ) (us : List CardUse) : Type 0 where
 pub record Library : Type 1 where
   -- whatever the contract of `card_step` allows is a use that keeps it (x has what the function is given, r is what it returns, y has
   -- what is lent as it is afterwards)
-  pub as_card : (κs : _) (x : _) (r : _) (y : _) → card_step.Learnt κs x r y
+  pub as_card : (κs : _) (x : _) (r : _) (y : _) → of_card_step.Learnt κs x r y
       → KeepsCard x.0.now (record {
         sent = x.1.0.now;
         room = x.1.1.0.now;
