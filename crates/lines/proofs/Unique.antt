@@ -1,6 +1,6 @@
 -- Any two answers that the contract of a public function allows are equal.
 -- Assumes nothing.
-use mathlib.Core.Path.{sym, ◌∙◌}
+use mathlib.Core.Path.{◌≡◌, sym, ◌∙◌}
 use Rattle.lists.specs.Once.{Once}
 use Rattle.lines.proofs.len.Reads as len
 use Rattle.lines.proofs.joined.Reads as joined
@@ -11,6 +11,7 @@ use Rattle.lines.proofs.joined_all.Reads as joined-all
 use Rattle.lines.proofs.first_of.Reads as first_of
 use Rattle.lines.proofs.last_of.Reads as last_of
 use Rattle.lines.proofs.mark_of.Reads as mark_of
+use Rattle.lines.proofs.mark.Reads as mark
 use Rattle.lines.proofs.marks_of.Reads as marks-of
 use Rattle.lines.proofs.picked.Reads as picked
 use Rattle.lines.proofs.put_by.Reads as put-by
@@ -41,6 +42,9 @@ last_of_once κs x r r' y y' p q = p ∙ sym q
 
 pub mark_of_once : Once mark_of.Learnt
 mark_of_once κs x r r' y y' p q = p ∙ sym q
+
+pub mark_once : (g : _) (κs : _) (x : _) (r r' : _) (y y' : _) → mark.Learnt g κs x r y → mark.Learnt g κs x r' y' → y.0.now ≡ y'.0.now
+mark_once g κs x r r' y y' p q = p ∙ sym q
 
 pub marks_of_once : Once marks-of.Learnt
 marks_of_once κs x r r' y y' p q = p ∙ sym q
