@@ -43,8 +43,9 @@ last_of_once κs x r r' y y' p q = p ∙ sym q
 pub mark_of_once : Once mark_of.Learnt
 mark_of_once κs x r r' y y' p q = p ∙ sym q
 
-pub mark_once : (g : _) (κs : _) (x : _) (r r' : _) (y y' : _) → mark.Learnt g κs x r y → mark.Learnt g κs x r' y' → y.0.now ≡ y'.0.now
-mark_once g κs x r r' y y' p q = p ∙ sym q
+-- the marks may be of any type
+pub mark_once : (g : _) (l : _) (m : _) (n : _) (o : _) (κs : _) (x : _) (r r' : _) (y y' : _) → mark.Learnt g l m n o κs x r y → mark.Learnt g l m n o κs x r' y' → y.0.now ≡ y'.0.now
+mark_once g l m n o κs x r r' y y' p q = p ∙ sym q
 
 pub marks_of_once : Once marks-of.Learnt
 marks_of_once κs x r r' y y' p q = p ∙ sym q

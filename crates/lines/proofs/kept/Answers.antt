@@ -1,4 +1,4 @@
-use Rattle.std.proofs.Common.{◌≡◌, get_or, refl, sym, ◌∙◌, arith, rules}
+use Rattle.std.proofs.Common.{refl, sym, ◌∙◌, arith, rules}
 use Rattle.lists.proofs.Turns.{fill_start, fill_keep, fill_skip, fill_stop, fill_over}
 use Rattle.lines.proofs.kept.Goals as goal
 use Rattle.lines.proofs.kept.Goals.{then-stays, else-stays}

@@ -1,4 +1,4 @@
-use Rattle.std.proofs.Common.{◌≡◌, ℕ, zero, suc, ◌+◌, ◌∷◌, true, false, cond, eqb, ltb, List, length, Some, None, refl, sym, ap, ◌∙◌, arith, rules, tests, ltb-false, ne_eqb}
+use Rattle.std.proofs.Common.{◌≡◌, ℕ, zero, suc, ◌+◌, ◌∷◌, cond, eqb, ltb, List, length, Some, None, refl, sym, ◌∙◌, arith, rules, tests, ltb-false, ne_eqb}
 use Rattle.std.specs.List.{position_or_len}
 use Rattle.std.specs.Option.{unwrap_or}
 use Rattle.std.proofs.lemmas.Iterator.{YieldsList-from_slice}
