@@ -1,9 +1,14 @@
 -- Any two answers that the contract of a public function allows are equal.
 -- Assumes nothing.
+use Prim.Native.Nat.{ℕ, ◌<◌}
+use mathlib.Core.Bool.{Bool}
 use mathlib.Core.Path.{◌≡◌, sym, ◌∙◌}
+use denote.RattleType.{RattleType}
 use Rattle.lists.specs.Once.{Once}
+use Rattle.lines.specs.contracts.kept.F-Fn.{Ghosts}
 use Rattle.lines.proofs.len.Reads as len
 use Rattle.lines.proofs.joined.Reads as joined
+use Rattle.lines.proofs.kept.Reads as kept
 use Rattle.lines.proofs.without.Reads as without
 use Rattle.lines.proofs.rejoined.Reads as rejoined
 use Rattle.lines.proofs.to_head.Reads as to-head
@@ -21,6 +26,11 @@ len_once κs x r r' y y' p q = p ∙ sym q
 
 pub joined_once : Once joined.Learnt
 joined_once κs x r r' y y' p q = p ∙ sym q
+
+-- where the closure is a test
+pub kept_once : (F : RattleType) (l : _) (f : Ghosts F) (a b c d : _) (κs : _) (x : _) (r r' : _) (y y' : _) → kept.Learnt F l f a b c d κs x r y → kept.Learnt F l f a b c d κs x r' y'
+    → (test : ℕ → Bool) → ((n : ℕ) (b : Bool) → n < 256 → f.post x.1.0 (n, tt) b → b ≡ test n) → r ≡ r'
+kept_once F l f a b c d κs x r r' y y' p q test h = p test h ∙ sym (q test h)
 
 pub without_once : Once without.Learnt
 without_once κs x r r' y y' p q = p ∙ sym q

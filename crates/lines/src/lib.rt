@@ -29,7 +29,7 @@ pub fn joined(a: [u8; 31], t: u8) -> [u8; 31]
 }
 
 // Those of the line that stay; the others leave, and those behind them move up.
-fn kept<F: Fn(u8) -> bool>(a: [u8; 31], stays: F) -> [u8; 31]
+pub fn kept<F: Fn(u8) -> bool>(a: [u8; 31], stays: F) -> [u8; 31]
     requires { F.IsAlwaysCallable stays }
     ensures { (test : ℕ → Bool) → ((x : ℕ) (b : Bool) → x < 256 → F.post stays x b → b ≡ test x) → result ≡ pad (filter test (line a)) }
 {

@@ -18,16 +18,13 @@ fn keys_of(s: Core, a: [u8; 31]) -> [u32; 32]
     ensures { result ≡ marked (left_of s) (line a) no_marks }
 {
     let mut keys = [0u32; 32];
-    for i in 0..31 {
-        let x = a[i];
+    for &x in &a {
         if x == 0 {
             return keys;
         }
         let at = index_of(x);
         let left = left_of(s.clock, s.created, x, s.tasks[at]);
-        if x < 32 {
-            keys[x as usize] = left;
-        }
+        lines::mark(&mut keys, x, left);
     }
     keys
 }
@@ -82,8 +79,7 @@ fn readied(s: Core, l: [u8; 31]) -> Core
     ensures { result ≡ readied_of s (line l) }
 {
     let mut n = s;
-    for i in 0..31 {
-        let t = l[i];
+    for &t in &l {
         if t == 0 {
             return n;
         }
