@@ -11,7 +11,7 @@ use Rattle.rules.specs.State.{State, place_of, priority_of, current_of, is_held,
 use Rattle.rules.specs.Callers.{with_callers}
 use Rattle.rules.specs.Tree.{highest_from, keeps}
 use Rattle.rules.proofs.LevelLaws.{higher_least}
-use Rattle.soundness.specs.Marks.{Marks, Whole, has_mark, put_mark, is_none}
+use Rattle.soundness.specs.Marks.{Marks, Whole, has_mark, put_mark}
 use Rattle.soundness.specs.TreeCheck.{top_of, passed}
 use Rattle.soundness.proofs.MarkLaws.{put_whole, has_put, none_has, has_all}
 

@@ -1,6 +1,6 @@
 -- Turns of the loops over the tree of held callers.
 -- Assumes nothing.
-use Rattle.std.proofs.Common.{◌≡◌, ℕ, suc, ◌+◌, ◌-◌, ◌<◌, ◌≤◌, Bool, true, false, not, ◌&&◌, eqb, List, ◌∷◌, Option, None, Some, set, sym, ap, ◌∙◌, arith, eq-eqb, ne_eqb}
+use Rattle.std.proofs.Common.{◌≡◌, ℕ, suc, ◌+◌, ◌-◌, ◌<◌, ◌≤◌, Bool, true, false, not, eqb, List, ◌∷◌, Option, None, Some, set, sym, ap, ◌∙◌, arith, eq-eqb, ne_eqb}
 use Rattle.std.specs.Bool.{then_some}
 use Rattle.lists.specs.Marks.{mark_of}
 use Rattle.rules.specs.State.{State, task_of, place_of, current_of, partner_of, kept_of, higher}

@@ -1,6 +1,6 @@
 -- The whole check: its parts, line by line, against the rules, which go task by task.
 -- Assumes nothing.
-use Rattle.std.proofs.Common.{◌≡◌, ℕ, ◌<◌, ◌≤◌, Bool, true, false, ◌&&◌, eqb, leb, List, [], ◌∷◌, ◌++◌, Option, None, Some, length, drop, sym, refl, ap, ◌∙◌, arith, length-take-le, le-leb, leb-true}
+use Rattle.std.proofs.Common.{◌≡◌, ℕ, ◌<◌, ◌≤◌, Bool, true, ◌&&◌, eqb, leb, List, [], ◌∷◌, ◌++◌, None, Some, length, drop, sym, refl, ap, ◌∙◌, arith, length-take-le, le-leb, leb-true}
 use Rattle.std.specs.Bool.{then_some}
 use mathlib.Core.Bool.{and-false, and_assoc, and_comm}
 use Rattle.lists.specs.Line.{line, tidy}

@@ -64,10 +64,10 @@ pub fn rows_hold(rows: [Row; 31], targets: [u8; 32], word: u32) -> bool
 {
     let mut rest = marks::next(word, false);
     for (i, row) in rows.iter().enumerate() {
-        match met_row(row.line, rest, targets, (i + 1) as u8) {
-            Some(left) => rest = left,
-            None => return false,
-        }
+        let Some(left) = met_row(row.line, rest, targets, (i + 1) as u8) else {
+            return false;
+        };
+        rest = left;
     }
     marks::is_none(rest)
 }

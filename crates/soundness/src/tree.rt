@@ -38,10 +38,10 @@ fn all_climb(held: [u8; 31], holders: [u8; 32], word: u32) -> bool
         if t == 0 {
             return true;
         }
-        match climb(holders, rest, t) {
-            Some(left) => rest = left,
-            None => return false,
-        }
+        let Some(left) = climb(holders, rest, t) else {
+            return false;
+        };
+        rest = left;
     }
     true
 }
@@ -97,8 +97,8 @@ pub fn is_tree(s: Core, held: u32, changed: u32) -> bool
         return marks::is_none(apart);
     }
     let line = s.held;
-    match seen_of(s, apart) {
-        Some(holders) => all_climb(line, holders, marks::next(held, false)),
-        None => false,
-    }
+    let Some(holders) = seen_of(s, apart) else {
+        return false;
+    };
+    all_climb(line, holders, marks::next(held, false))
 }

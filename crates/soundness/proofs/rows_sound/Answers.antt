@@ -1,4 +1,4 @@
-use Rattle.std.proofs.Common.{false, Option, [], sym, refl, ap, ◌∙◌, rules}
+use Rattle.std.proofs.Common.{false, Option, sym, ap, ◌∙◌, rules}
 use Rattle.lists.proofs.ListLaws.{mapped_long}
 use Rattle.soundness.specs.Marks.{Marks, next_mark, if_any}
 use Rattle.soundness.specs.Rows.{met_all}

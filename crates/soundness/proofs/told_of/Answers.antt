@@ -1,5 +1,4 @@
-use Rattle.std.proofs.Common.{◌≡◌, ℕ, zero, suc, ◌+◌, ◌-◌, ◌<◌, ◌≤◌, Bool, true, false, ◌&&◌, List, [], ◌∷◌, ◌++◌, Option, None, Some, length, take, get_or, sym, refl, ap, ◌∙◌, arith, length-append, length-take-le, rules}
-use Rattle.std.specs.Bool.{then_some}
+use Rattle.std.proofs.Common.{◌≡◌, ℕ, suc, ◌-◌, ◌≤◌, Bool, true, false, ◌&&◌, List, [], ◌∷◌, ◌++◌, Some, length, take, get_or, sym, refl, ap, ◌∙◌, arith, length-append, length-take-le, rules}
 use Rattle.std.specs.Iterator.Adapters.{rev_source}
 use Rattle.std.specs.Slice.Iter.{iter_rest}
 use Rattle.lists.proofs.ListLaws.{mapped_long}
@@ -23,9 +22,17 @@ loop-x-init c =
     let long : length s.tasks ≡ 31 = search (rules, mapped_long) in
     let left : iter_rest (rev_source c.into_iter-x-iterator.result) ≡ take s.created s.tasks =
     ap (λ z. iter_rest (rev_source z)) c.into_iter-x-iterator.ensures.into_iter_gives ∙ ap iter_rest c.rev-x-items.ensures.source ∙ c.iter.ensures.rest ∙ ap (λ (n : ℕ). take n s.tasks) c.from.ensures in
-    let n : length (iter_rest (rev_source c.into_iter-x-iterator.result)) ≡ s.created = ap (λ (l : List Task). length l) left ∙ length-take-le s.created s.tasks (omega arith) in
-    (omega arith, long, left ∙ ap (λ (k : ℕ). take k s.tasks) (sym n), ap (goods s) (sym n), ap (due s (belongs Ready) no_marks) (sym n), ap (due s (belongs Callers) no_marks) (sym n),
-     ap (due s (belongs Held) no_marks) (sym n), ap (due s (belongs Delays) no_marks) (sym n), ap (due s is_changed no_marks) (sym n))
+    let n : length (iter_rest (rev_source c.into_iter-x-iterator.result)) ≡ s.created = ap (λ (l : List Task). length l) left ∙ length-take-le s.created s.tasks (omega arith) in (
+      omega arith,
+      long,
+      left ∙ ap (λ (k : ℕ). take k s.tasks) (sym n),
+      ap (goods s) (sym n),
+      ap (due s (belongs Ready) no_marks) (sym n),
+      ap (due s (belongs Callers) no_marks) (sym n),
+      ap (due s (belongs Held) no_marks) (sym n),
+      ap (due s (belongs Delays) no_marks) (sym n),
+      ap (due s is_changed no_marks) (sym n),
+    )
 
 -- the next task from the end is t + 1, where t are left
 next_left : (s : Core) (left rest : List Task) (x : Task) → length left ≤ s.created → s.created ≤ 31 → length s.tasks ≡ 31 → left ≡ take (length left) s.tasks → left ≡ rest ++ (x ∷ [])

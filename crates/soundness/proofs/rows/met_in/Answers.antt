@@ -1,4 +1,4 @@
-use Rattle.std.proofs.Common.{◌≡◌, ◌+◌, ◌&&◌, eqb, Option, None, get_or, drop, sym, refl, ap, ◌∙◌, arith, rules}
+use Rattle.std.proofs.Common.{◌≡◌, ◌+◌, ◌&&◌, eqb, None, get_or, drop, sym, refl, ap, ◌∙◌, arith, rules}
 use Rattle.std.specs.Bool.{then_some}
 use Rattle.lists.specs.Lists.{when◌then◌else◌}
 use Rattle.soundness.specs.Marks.{Marks, without_mark}

@@ -8,11 +8,11 @@ use Rattle.soundness.proofs.rows.rows_hold.Goals as goal
 pub loop-i-init : goal.loop-i-init
 loop-i-init c = (search (rules, mapped_long), ap (λ (m : Marks). met_all c.args.targets 1 m c.args.rows) (sym c.next-rest.ensures))
 
-pub returns-in-None : goal.returns-in-None
-returns-in-None c =
+pub returns-in_default : goal.returns-in_default
+returns-in_default c =
     let l = c.loop-i in
     let a = c.args in
-    sym (l.invariant.1 ∙ all_fail a.targets l.rest a.rows l.i c.met_row.result (omega (arith, l.invariant.0)) c.met_row.ensures c.in-None.is)
+    sym (l.invariant.1 ∙ all_fail a.targets l.rest a.rows l.i c.met_row.result (omega (arith, l.invariant.0)) c.met_row.ensures c.in_default.is)
 
 pub loop-i-preserved : goal.loop-i-preserved
 loop-i-preserved c =

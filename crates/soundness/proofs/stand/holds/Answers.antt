@@ -1,4 +1,4 @@
-use Rattle.std.proofs.Common.{◌≡◌, ◌+◌, ◌&&◌, drop, sym, ap, ◌∙◌, arith}
+use Rattle.std.proofs.Common.{◌+◌, ◌&&◌, drop, sym, ap, ◌∙◌, arith}
 use Rattle.soundness.specs.Check.{walked}
 use Rattle.soundness.specs.Marks.{Marks}
 use Rattle.soundness.proofs.Turns.{walk_blank, walk_on, walk_end}
@@ -20,10 +20,11 @@ returns-then-not-has c =
 
 pub loop-i-preserved : goal.loop-i-preserved
 loop-i-preserved c =
-    let a = c.args.a.now in
-    (c.loop-i.invariant.0,
-     c.loop-i.invariant.1 ∙ walk_on c.loop-i.rest a c.loop-i.i (omega arith) c.if-t-eq0.false
-       ∙ (λ z. (sym c.has.ensures ∙ c.if-not-has.false) z && walked (sym c.without-rest.ensures z) (drop (c.loop-i.i + 1) a)))
+    let a = c.args.a.now in (
+      c.loop-i.invariant.0,
+      c.loop-i.invariant.1 ∙ walk_on c.loop-i.rest a c.loop-i.i (omega arith) c.if-t-eq0.false
+          ∙ (λ z. (sym c.has.ensures ∙ c.if-not-has.false) z && walked (sym c.without-rest.ensures z) (drop (c.loop-i.i + 1) a)),
+    )
 
 pub returns : goal.returns
 returns c = c.is_none-2.ensures ∙ sym (c.loop-i.invariant.1 ∙ walk_end c.loop-i.rest c.args.a.now c.loop-i.i (omega arith))

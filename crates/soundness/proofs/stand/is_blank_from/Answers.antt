@@ -4,7 +4,7 @@ use lib.Bits.{bit_or}
 use Rattle.std.proofs.lemmas.Iterator.{YieldsList-from_slice}
 use Rattle.std.proofs.lemmas.Iterator.Adapters.{YieldsList-from_skip}
 use Rattle.std.proofs.lemmas.Iterator.Consumers.{YieldsList-at, fold_from_yields_List}
-use Rattle.soundness.proofs.Turns.{none_in}
+use Rattle.lists.proofs.Zeros.{none_in}
 use Rattle.soundness.proofs.stand.is_blank_from.Goals as goal
 
 pub returns : goal.returns

@@ -13,11 +13,11 @@ returns-then-t-eq0 c =
     let l = c.loop-t in
     sym (l.invariant.1 ∙ ap (all_climbed a.holders l.rest) (rest_blank a.held l.t-index (omega (arith, l.invariant.0)) c.if-t-eq0.true))
 
-pub returns-in-None : goal.returns-in-None
-returns-in-None c =
+pub returns-in_default : goal.returns-in_default
+returns-in_default c =
     let a = c.args in
     let l = c.loop-t in
-    sym (l.invariant.1 ∙ climbs_none a.holders l.rest _ _ _ c.climb.result (rest_entry a.held l.t-index (omega (arith, l.invariant.0)) c.if-t-eq0.false) c.climb.ensures c.in-None.is)
+    sym (l.invariant.1 ∙ climbs_none a.holders l.rest _ _ _ c.climb.result (rest_entry a.held l.t-index (omega (arith, l.invariant.0)) c.if-t-eq0.false) c.climb.ensures c.in_default.is)
 
 pub loop-t-preserved : goal.loop-t-preserved
 loop-t-preserved c =

@@ -1,4 +1,4 @@
-use Rattle.std.proofs.Common.{◌≡◌, ℕ, ◌+◌, Bool, ◌&&◌, List, [], Option, eqb, length, get_or, drop, set, sym, refl, ap, ◌∙◌, arith, length-set, rules}
+use Rattle.std.proofs.Common.{◌≡◌, ℕ, ◌+◌, Bool, List, [], length, get_or, drop, set, sym, refl, ap, ◌∙◌, arith, length-set, rules}
 use lib.Seq.{set_out}
 use Rattle.std.specs.Bool.{then_some}
 use Rattle.lists.specs.Line.{line}
