@@ -1,5 +1,4 @@
-use Rattle.std.proofs.Common.{◌≡◌, ◌+◌, ◌-◌, ◌<◌, ◌^◌, ◌++◌, [], drop, length, refl, arith}
-use Rattle.text.specs.Text.{decimal}
+use Rattle.std.proofs.Common.{◌≡◌, ◌+◌, ◌-◌, refl, arith}
 use Rattle.text.proofs.Decimals.{digit_on, digit_first, digit_room}
 use Rattle.text.proofs.digits.Goals as goal
 
