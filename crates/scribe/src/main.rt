@@ -14,7 +14,7 @@ fn main(rt: HostRuntime) {
     let mut word = [0u8; 5];
     let count = arg_count(&rt, 3);
     let n = arg(&rt, 1, &mut word);
-    if (count == 2) & (&word[..n] == b"back") {
+    if (count == 2) & matches!(&word[..n], b"back") {
         back::run(&rt, &mut buf, &mut out);
         return;
     }
