@@ -18,7 +18,6 @@ use stream::flow::{Flow, begun, fed, passed};
 use stream::output::flushed;
 use stream::window::{Window, headed, refilled};
 use stream::words;
-use text::least;
 
 // The bytes of a log that goes on to the end of the input.
 const ENDLESS: u64 = u64::MAX;
@@ -50,13 +49,12 @@ fn less(left: u64, n: usize) -> u64
 fn part(w: Window, left: u64, n: usize) -> Window
     ensures { (result ≡ part_of w left n) × (result.at ≤ result.end) × (result.end ≤ n) }
 {
-    let end = least(w.end, n);
-    let at = least(w.at, end);
-    let many = shorter(end - at, left);
+    let shown = w.within(n);
+    let many = shorter(shown.end - shown.at, left);
     Window {
-        at,
-        end: at + many,
+        end: shown.at + many,
         last: w.last | (left <= many as u64),
+        ..shown
     }
 }
 
@@ -85,8 +83,8 @@ fn started(l: Log, out: &mut [u8]) -> Log
 fn place_behind(w: Window, count: usize) -> usize
     ensures { result ≡ place_behind w count }
 {
-    let at = least(w.at, w.end);
-    at + least(count, w.end - at)
+    let at = w.at.min(w.end);
+    at + count.min(w.end - at)
 }
 
 // The log behind a turn that took `count` bytes and put output up to `place`.

@@ -74,7 +74,7 @@ fn refused(
         return SecondTurned {
             session: s,
             count: 0,
-            place: text::least(at, out.len()),
+            place: at.min(out.len()),
             next: Next::More,
         };
     }
@@ -82,7 +82,7 @@ fn refused(
         return SecondTurned {
             session: s,
             count: 0,
-            place: text::least(at, out.len()),
+            place: at.min(out.len()),
             next: Next::Stop,
         };
     }

@@ -86,7 +86,7 @@ fn refused(
         return Turned {
             session: s,
             count: 0,
-            place: text::least(at, out.len()),
+            place: at.min(out.len()),
             next: Next::More,
         };
     }
@@ -94,7 +94,7 @@ fn refused(
         return Turned {
             session: s,
             count: 0,
-            place: text::least(at, out.len()),
+            place: at.min(out.len()),
             next: Next::Stop,
         };
     }

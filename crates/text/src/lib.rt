@@ -2,7 +2,7 @@
 // Room that is too short cuts the text off: no byte behind the room, and no refusal.
 #![tactic(auto)]
 
-ghost use Rattle.std.specs.Prelude.{min, ◌≡◌, ◌≤◌, [], ◌∷◌, drop};
+ghost use Rattle.std.specs.Prelude.{◌≡◌, ◌≤◌, [], ◌∷◌, drop};
 ghost use Rattle.text.specs.Text.{Put, decimal};
 
 // One byte.
@@ -16,22 +16,13 @@ pub fn put_byte(b: u8, out: &mut [u8], at: usize) -> usize
     out.len()
 }
 
-// The smaller of two numbers.
-pub fn least(a: usize, b: usize) -> usize
-    ensures { result ≡ min a b }
-{
-    if a < b { a } else { b }
-}
-
 // All bytes of a text.
 pub fn put_bytes(text: &[u8], out: &mut [u8], at: usize) -> usize
     ensures { Put out.old at text.now out.new result }
 {
-    let mut place = least(at, out.len());
-    let mut i = 0;
-    while i < text.len() {
-        place = put_byte(text[i], out, place);
-        i += 1;
+    let mut place = at.min(out.len());
+    for &b in text {
+        place = put_byte(b, out, place);
     }
     place
 }
@@ -41,15 +32,15 @@ fn digits(n: u64, row: &mut [u8; 20]) -> usize
     ensures within { result ≤ 20 }
     ensures value { drop result row.new ≡ decimal n }
 {
-    let mut i = 19;
     let mut rest = n;
-    while 10 <= rest {
+    for i in (0..row.len()).rev() {
         row[i] = b'0' + (rest % 10) as u8;
         rest /= 10;
-        i -= 1;
+        if rest == 0 {
+            return i;
+        }
     }
-    row[i] = b'0' + rest as u8;
-    i
+    unreachable!() // 20 digits hold every number of 64 bits
 }
 
 // A number in decimal.

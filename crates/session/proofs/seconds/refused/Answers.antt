@@ -12,17 +12,17 @@ use Rattle.session.proofs.seconds.refused.Goals as goal
 pub returns-then-last-many : goal.returns-then-last-many
 returns-then-last-many c =
     let a = c.args in
-    let said = says second_made _ _ (asks_more second a.s a.n a.many a.last a.room.now c.if-last-many.true) (put_none c.least.ensures) (omega arith) in
+    let said = says second_made _ _ (asks_more second a.s a.n a.many a.last a.room.now c.if-last-many.true) (put_none c.min.ensures) (omega arith) in
     record { value = said.0; out_after = said.1.0; room_len_bound = said.1.1 }
 
 -- there are no bytes
-over : (c : goal.After-least-then-n-eq-END_OF_LOG) → eqb c.args.n 12 ≡ true
+over : (c : goal.After-min-then-n-eq-END_OF_LOG) → eqb c.args.n 12 ≡ true
 over c = eq-eqb _ 12 c.if-n-eq-END_OF_LOG.true
 
 pub returns-then-n-eq-END_OF_LOG : goal.returns-then-n-eq-END_OF_LOG
 returns-then-n-eq-END_OF_LOG c =
     let a = c.args in
-    let said = says second_made _ _ (ends second a.s a.n a.many a.last a.room.now c.if-last-many.false (over c)) (put_none c.least-then-n-eq-END_OF_LOG.ensures) (omega arith) in
+    let said = says second_made _ _ (ends second a.s a.n a.many a.last a.room.now c.if-last-many.false (over c)) (put_none c.min-then-n-eq-END_OF_LOG.ensures) (omega arith) in
     record { value = said.0; out_after = said.1.0; room_len_bound = said.1.1 }
 
 pub returns : goal.returns
