@@ -12,14 +12,9 @@ abbrev pub written_of : List ℕ → List ℕ → Result ℕ ShortRoom
 written_of bytes room = when ltb (length room) (length bytes) then Err short_room else Ok (length bytes)
 
 -- the refusal number of each answer, 0 for none
-abbrev pub refusal_of : Result ℕ ShortRoom → ℕ
-refusal_of (Ok n) = 0
-refusal_of (Err e) = 1
-
--- the bytes that each answer has written: a refused write wrote 0
-abbrev pub count_of : Result ℕ ShortRoom → ℕ
-count_of (Ok n) = n
-count_of (Err e) = 0
+abbrev pub write_refusal_of : Result ℕ ShortRoom → ℕ
+write_refusal_of (Ok n) = 0
+write_refusal_of (Err e) = 1
 
 -- a refused write leaves its room untouched; an accepted one changes only the record's bytes
 abbrev pub room_written : List ℕ → List ℕ → List ℕ

@@ -10,7 +10,9 @@ use lib.Dec.{eqb}
 use Rattle.lists.specs.Line.{tidy}
 use Rattle.lists.proofs.LineLaws.{length_filter}
 use Rattle.calls.specs.Reading.{read_of}
-use Rattle.calls.specs.declared.Read.{Read}
+use Rattle.calls.specs.declared.Record.{Record}
+use Rattle.calls.specs.declared.ReadError.{ReadError}
+use Rattle.std.specs.Prelude.{Result}
 use Rattle.rules.specs.Questions.{count_by, count_whole}
 use Rattle.rules.specs.Second.{view_second, rows_right, sound_second, step_second, count_second}
 use Rattle.rules.specs.Sound.{sound}
@@ -70,11 +72,11 @@ did_as {S} put b room w w' a b' room' p d =
     (d.0 ∙ ap answer_of (sym p), (d.1.0 ∙ ap (after_by put b) (sym p), d.1.1 ∙ ap (λ (w : StepOf S). room_after room w.ended) (sym p)))
 
 -- the step of what was read
-pub step_by_lem : (b rec : List ℕ) (n : ℕ) (r : Read) → r ≡ read_of rec → card_step b rec n ≡ step_by step_whole (state_in b) n r
+pub step_by_lem : (b rec : List ℕ) (n : ℕ) (r : Result Record ReadError) → r ≡ read_of rec → card_step b rec n ≡ step_by step_whole (state_in b) n r
 unfolding card_step
 step_by_lem b rec n r e = ap (step_by step_whole (state_in b) n) (sym e)
 
-pub second_step_by : (b rec : List ℕ) (n : ℕ) (r : Read) → r ≡ read_of rec → second_step b rec n ≡ step_by step_second (second_in b) n r
+pub second_step_by : (b rec : List ℕ) (n : ℕ) (r : Result Record ReadError) → r ≡ read_of rec → second_step b rec n ≡ step_by step_second (second_in b) n r
 unfolding second_step
 second_step_by b rec n r e = ap (step_by step_second (second_in b) n) (sym e)
 

@@ -1,21 +1,16 @@
 -- From what the parts of the reader promise to what a line says.
 -- Assumes nothing.
-use Prim.Native.Nat.{ℕ, ◌-◌, ◌≤◌, ◌<◌, min}
+use Prim.Native.Nat.{ℕ, ◌-◌, ◌≤◌, ◌<◌}
 use mathlib.Core.Path.{◌≡◌, refl, sym, ap, ◌∙◌}
 use mathlib.Core.Bool.{true, false, false≢true}
 use mathlib.Core.List.{List, [], ◌∷◌}
 use native.Mathlib.Omega.{arith}
-use lib.Dec.{eqb, ltb}
-use lib.ListN.{length, take, drop, length-take}
-use lib.Seq.{take_all, take_at}
-use borrow.Author.Tests.{eqb-true, eq-eqb, le-ltb}
+use lib.Dec.{eqb}
+use lib.ListN.{length, length-take}
+use lib.Seq.{take_all}
+use borrow.Author.Tests.{eqb-true, eq-eqb}
 use Rattle.lists.proofs.Tests.{and_first, and_second}
-use Rattle.calls.specs.Record.{encode}
-use Rattle.calls.specs.Writing.{written_of, room_written}
-use Rattle.calls.specs.declared.ShortRoom.{ShortRoom}
-use Rattle.std.specs.Prelude.{Result, Ok, IsOk}
 use Rattle.calls.specs.declared.Call as C
-use Rattle.calls.proofs.Packets.{at_most_ten}
 use Rattle.script.specs.CallText.{text_of}
 use Rattle.script.specs.Rows.{text_in, cut, Grown}
 use Rattle.script.specs.Says.{Fits, Says}
@@ -26,22 +21,6 @@ use Rattle.script.specs.declared.Line.TheVariants as L
 use Rattle.script.proofs.Growing.{then_grown, alone}
 use Rattle.script.proofs.Back.{guess_back}
 use Rattle.script.proofs.Shape.{text_short}
-
--- ── the record of a call ──
-
-module _ (c : C.Call) (room : List ℕ) (h : length room ≡ 10) where
-  enough : ltb (length room) (length (encode c)) ≡ false
-  enough = let s = at_most_ten c in le-ltb (length room) (length (encode c)) (omega arith)
-
-  -- ten bytes are room for each record
-  pub written : written_of (encode c) room ≡ Ok (length (encode c))
-  written = rw enough refl
-
-  -- what is taken of them is the record
-  pub record_taken : (after : List ℕ) (n : ℕ) → n ≡ length (encode c) → after ≡ room_written (encode c) room → take (n - 0) after ≡ encode c
-  record_taken after n e q =
-      let k : length (encode c) ≡ n - 0 = omega arith in
-      ap (take (n - 0)) (q ∙ rw enough refl) ∙ take_at (encode c) (drop (length (encode c)) room) (n - 0) k
 
 -- ── the guess ──
 
