@@ -1,4 +1,4 @@
-// Durations: signed numbers of ticks, and the 32 bits that stand for them.
+// Durations: signed numbers of ticks, and the 32 bits that stand for them. Each function is one call of std, under its name in Linked of `statements`.
 ghost use Rattle.std.specs.Prelude.{◌≡◌};
 ghost use Rattle.calls.specs.Duration as D;
 

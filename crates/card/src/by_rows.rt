@@ -8,8 +8,8 @@ ghost use Rattle.codec.specs.Rows.{second_size, second_in, stored_second};
 ghost use Rattle.card.specs.Answers.{second_step, second_after, answer_bytes, if_room, one_after};
 
 use super::{flag, put_answer, put_one};
-use calls::numbers::SHORT_ROOM;
 use calls::Call;
+use calls::numbers::SHORT_ROOM;
 use codec::rows::{SECOND_SIZE, second_in, second_store};
 use rules::Answer;
 use steps::answers::refused_answer;

@@ -14,8 +14,8 @@ ghost use Rattle.rules.specs.Whole.{pack, sound_whole, step_whole, answer_of};
 ghost use Rattle.card.specs.Answers.{card_step, state_after, answer_bytes, if_room, one_after};
 ghost use Rattle.codec.specs.Layout.{state_size, state_in, stored};
 
-use calls::numbers::SHORT_ROOM;
 use calls::Call;
+use calls::numbers::SHORT_ROOM;
 use codec::{STATE_SIZE, put_at, state_in, store};
 use rules::Answer;
 use steps::answers::refused_answer;
