@@ -22,6 +22,7 @@ from unique_names import EXPORTING, public_functions, without_answer
 Wrong = namedtuple("Wrong", "edit crate file says old new where law at")
 BEGIN, END = "<!-- wrong answers: made by tests/wrong_answers.py -->", "<!-- end of the wrong answers -->"
 FUNCTION = re.compile(r'^\s*(?:pub(?:\(crate\))? )?(?:extern "C" )?fn (\w+)')
+IMPL = re.compile(r"^impl(?:<.*?>)? (?:(?:\w+::)*(\w+)(?:<(\w+)>)? for )?(\w+)")
 CLAUSE = re.compile(r"^\s*(?:requires|ensures)\b")
 # what stands behind the name of a function where not its body but its contract is changed
 CONTRACT = " (contract)"
@@ -40,11 +41,21 @@ def crates():
     return re.findall(r"(?m)^(\w+)\b[^:#\n]*:", Path("crates.txt").read_text())
 
 
+def impl_of(lines):
+    """The name that the toolchain gives the impl that is open behind these lines, as ModeFromCallMode or Row; none where none is."""
+    opened = [line for line in lines if IMPL.match(line) or line == "}"]
+    found = IMPL.match(opened[-1]) if opened else None
+    if found is None:
+        return []
+    trait, other, own = found.groups("")
+    return [(own[0].upper() + own[1:] if trait else own) + trait + other]
+
+
 def function_of(file, text, at):
     """The path of the function in which the text stands at that place, in its body or in its contract, or None."""
     lines = text[: text.index("\n", at)].splitlines()
     heads = [number for number, line in enumerate(lines) if FUNCTION.match(line)]
-    names = [FUNCTION.match(lines[heads[-1]]).group(1)] if heads else []
+    names = [*impl_of(lines[: heads[-1]]), FUNCTION.match(lines[heads[-1]]).group(1)] if heads else []
     since = lines[heads[-1] :] if heads else []
     in_contract = any(map(CLAUSE.match, since)) and not any(line.strip() == "{" for line in since)
     modules = file.removesuffix(".rt").split("/")[1:]

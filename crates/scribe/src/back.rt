@@ -1,5 +1,5 @@
 // Records to text, a line for each.
-use calls::{Call, Read};
+use calls::{Call, Record};
 use script::put_call;
 use stream::errors::tell_record;
 use stream::flow::{Flow, begun, done, fed, passed};
@@ -57,7 +57,7 @@ fn turn<R: Input + Print + Eprint>(rt: &R, r: Records, buf: &mut [u8], out: &mut
     let shown = r.flow.window.within(buf.len());
     let unread = &buf[shown.at..shown.end];
     let got = calls::read_record(unread);
-    let Read::Record { call, count } = got else {
+    let Ok(Record { call, count }) = got else {
         return without(rt, r, shown.end - shown.at, buf, out);
     };
     taken(rt, r, call, shown.at.wrapping_add(count), out)

@@ -134,9 +134,8 @@ pub fn put_record(line: Line, out: &mut [u8], at: usize) -> usize
         Line::Nothing => at.min(out.len()),
         Line::Says(c) => {
             let mut room = [0u8; 10];
-            let w = calls::write_record(c, &mut room);
-            let n = w.count.min(10);
-            put_bytes(&room[0..n], out, at)
+            let n = calls::write_record(c, &mut room).unwrap();
+            put_bytes(&room[..n], out, at)
         }
         Line::Unread => at.min(out.len()),
     }

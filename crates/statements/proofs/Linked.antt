@@ -26,8 +26,8 @@ use Rattle.workspace.proofs.owned.release.Met as owned_release
 use Rattle.calls.proofs.durations.ticks.Met as ticks
 use Rattle.calls.proofs.durations.word.Met as word
 use Rattle.calls.proofs.durations.bytes_of.Met as bytes_of
-use Rattle.calls.proofs.modes.mode_of_call.Met as mode_of_call
-use Rattle.calls.proofs.modes.mode_of_select.Met as mode_of_select
+use Rattle.calls.proofs.modes.ModeFromCallMode.from.Met as mode_of_call
+use Rattle.calls.proofs.modes.ModeFromSelectMode.from.Met as mode_of_select
 use Rattle.statements.specs.Linked.{Linked}
 
 pub linked : Linked

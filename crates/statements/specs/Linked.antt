@@ -55,13 +55,13 @@ use Rattle.workspace.proofs.owned.release.Reads as of-owned-release
 use Rattle.calls.proofs.durations.ticks.Statement as ticks
 use Rattle.calls.proofs.durations.word.Statement as word
 use Rattle.calls.proofs.durations.bytes_of.Statement as bytes_of
-use Rattle.calls.proofs.modes.mode_of_call.Statement as mode_of_call
-use Rattle.calls.proofs.modes.mode_of_select.Statement as mode_of_select
+use Rattle.calls.proofs.modes.ModeFromCallMode.from.Statement as mode_of_call
+use Rattle.calls.proofs.modes.ModeFromSelectMode.from.Statement as mode_of_select
 use Rattle.calls.proofs.durations.ticks.Reads as of-ticks
 use Rattle.calls.proofs.durations.word.Reads as of_word
 use Rattle.calls.proofs.durations.bytes_of.Reads as of-bytes-of
-use Rattle.calls.proofs.modes.mode_of_call.Reads as of-mode-of-call
-use Rattle.calls.proofs.modes.mode_of_select.Reads as of-mode-of-select
+use Rattle.calls.proofs.modes.ModeFromCallMode.from.Reads as of-mode-of-call
+use Rattle.calls.proofs.modes.ModeFromSelectMode.from.Reads as of-mode-of-select
 
 -- the contracts over lent tables ask nothing: `requires` is the claim that always holds, in each model of the toolchain's logic (of such contracts
 -- the toolchain makes no plainer reading)

@@ -9,5 +9,4 @@ returns-then-s-lt3 c = simp (lt-ltb _ _ c.if-s-lt3.true)
 pub returns : goal.returns
 unfolding bad_frame
 returns c =
-    let k = c.before.before.before in
-    simp (le-ltb _ _ c.if-s-lt3.false, k.is_unknown.ensures, c.half.ensures, k.length_of-n.ensures)
+    simp (le-ltb _ _ c.if-s-lt3.false, c.is_unknown.ensures, c.from_be_bytes-said.ensures, c.length_of-n.ensures)
