@@ -15,7 +15,8 @@ use Rattle.lists.specs.Marks.{no_marks, marked}
 use Rattle.lists.proofs.Tests.{and_first, and_second, if-true}
 use Rattle.rules.specs.State.{State, created, task_of, is_completed, queue, waits_on, running}
 use Rattle.rules.specs.Sound.{sound}
-use Rattle.rules.specs.Step.{Outcome, refused, took, SHORT_ROOM, BAD_STATE, take_call, room_after}
+use Rattle.rules.specs.Step.{Outcome, refused, took, take_call, room_after}
+use Rattle.rules.specs.declared.Refusal.TheVariants.{ShortRoom, BadState}
 use Rattle.rules.specs.Callers.{asks, calling, callers_of, accepted_in, gone_by, left_by, Told}
 use Rattle.rules.specs.Whole.{view_core, packed_core, StepOf, decline, done_by}
 use Rattle.rules.specs.Second.{gathered, view_second, pack_second, rows_right, sound_second, step_second, second_of, callable_second}
@@ -134,11 +135,11 @@ callable_is x t b d k h ok eb ek ed = rw (ok, eb, ed, ek, created_here x h ok)
 -- ── the whole step ──
 
 module _ (x : Second) (c : C.Call) (n : ℕ) where
-  pub step_short : ltb n 124 ≡ true → step_second x c n ≡ decline x SHORT_ROOM 0
+  pub step_short : ltb n 124 ≡ true → step_second x c n ≡ decline x ShortRoom 0
   unfolding step_second
   step_short e = rw e
 
-  pub step_unsound : ltb n 124 ≡ false → sound_second x ≡ false → step_second x c n ≡ decline x BAD_STATE 0
+  pub step_unsound : ltb n 124 ≡ false → sound_second x ≡ false → step_second x c n ≡ decline x BadState 0
   unfolding step_second
   step_unsound e q = rw (e, q)
 

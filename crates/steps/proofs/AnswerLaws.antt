@@ -2,7 +2,8 @@
 -- Assumes nothing.
 use Rattle.std.proofs.Common.{◌≡◌, ℕ, zero, suc, ◌≤◌, Bool, List, [], length, sym, refl, ap, ◌∙◌}
 use Rattle.rules.specs.State.{State, task_of, move, running}
-use Rattle.rules.specs.Step.{Outcome, refused, took, NO_TASK, of_running, room_after}
+use Rattle.rules.specs.Step.{Outcome, refused, took, of_running, room_after}
+use Rattle.rules.specs.declared.Refusal.TheVariants.{NoTask}
 use Rattle.rules.specs.Whole.{view_core, pack_core}
 use Rattle.rules.specs.declared.Item.{Item}
 use Rattle.rules.specs.declared.Task.{Task}
@@ -24,7 +25,7 @@ runner s zero h e z = absurd (z refl)
 runner s (suc t) h e z =
     let r = runs (with_callers (view_core s) h.callers) t h.sound (running_core (view_core s) h.callers ∙ sym e) in record { low = r.low; high = r.high; place = r.place }
 
-pub no_runner : (st : State) (t : ℕ) (f : ℕ → Outcome) → t ≡ running st → t ≡ 0 → of_running (running st) f ≡ refused NO_TASK
+pub no_runner : (st : State) (t : ℕ) (f : ℕ → Outcome) → t ≡ running st → t ≡ 0 → of_running (running st) f ≡ refused NoTask
 no_runner st t f e z = rw (← e, z)
 
 pub of_runner : (st : State) (t : ℕ) (f : ℕ → Outcome) → t ≡ running st → (t ≡ 0 → ⊥) → of_running (running st) f ≡ f t

@@ -3,7 +3,8 @@
 use Rattle.std.proofs.Common.{◌≡◌, ℕ, zero, suc, ◌<◌, ◌≤◌, List, [], ◌∷◌, length, sym, refl, ap, ◌∙◌}
 use Rattle.lists.specs.Lists.{last}
 use Rattle.rules.specs.State.{State, running, place_of, entry_of, is_ready, held_by, part}
-use Rattle.rules.specs.Step.{refused, took, NO_TASK, NOT_SERVING, item, SERVED, DONE, end_last, end, take_call}
+use Rattle.rules.specs.Step.{refused, took, item, SERVED, DONE, end_last, end, take_call}
+use Rattle.rules.specs.declared.Refusal.TheVariants.{NoTask, NotServing}
 use Rattle.calls.specs.declared.Call.TheVariants.{End}
 use Rattle.rules.specs.Whole.{view_core}
 use Rattle.rules.specs.declared.Item.{Item}
@@ -18,14 +19,14 @@ use Rattle.steps.proofs.MoveLaws.{parted_packed}
 use Rattle.steps.proofs.AnswerLaws.{no_runner, of_runner, answers}
 
 module _ (v : State) (t : ℕ) (run : t ≡ running v) where
-  pub end_idle : t ≡ 0 → take_call v End ≡ refused NO_TASK
+  pub end_idle : t ≡ 0 → take_call v End ≡ refused NoTask
   end_idle z = no_runner v t (λ t. end v t) run z
 
   pub end_runs : (t ≡ 0 → ⊥) → take_call v End ≡ end v t
   end_runs z = of_runner v t (λ t. end v t) run z
 
 module _ (v : State) (t k : ℕ) (is : k ≡ last (held_by v t)) where
-  pub end_none : k ≡ 0 → end v t ≡ refused NOT_SERVING
+  pub end_none : k ≡ 0 → end v t ≡ refused NotServing
   end_none z = rw (← is, z)
 
   pub end_one : (k ≡ 0 → ⊥) → end v t ≡ took (part v t k) (item t DONE 0 0) (item k SERVED (entry_of (place_of v k)) t ∷ [])

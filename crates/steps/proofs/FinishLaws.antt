@@ -10,7 +10,8 @@ use Rattle.lists.specs.Lists.{when◌then◌else◌, filter, count}
 use Rattle.lists.specs.Marks.{no_marks, mark_of, marked, with_mark}
 use Rattle.lists.proofs.MarkLaws.{filter_same, mark_in, marked_length}
 use Rattle.rules.specs.State.{State, move, running, waits_on, queue, holds, held_by, wake_all}
-use Rattle.rules.specs.Step.{refused, took, NO_TASK, item, DONE, take_call, STILL_SERVING, queued_from, queued_on, finish, failed, room_after}
+use Rattle.rules.specs.Step.{refused, took, item, DONE, take_call, queued_from, queued_on, finish, failed, room_after}
+use Rattle.rules.specs.declared.Refusal.TheVariants.{NoTask, StillServing}
 use Rattle.rules.specs.Whole.{view_core}
 use Rattle.rules.specs.declared.Core.{Core}
 use Rattle.rules.specs.declared.Task.{Task}
@@ -157,7 +158,7 @@ module _ (v : State) (t : ℕ) where
       nobody : count 0 (queued_on v t) ≡ 0
       nobody = not_in 0 (queued_on v t) (λ k. omega (arith, (queued_all 0 k).0))
 
-  pub finish_holds : (n : ℕ) → n ≡ length (held_by v t) → 0 < n → finish v t ≡ refused STILL_SERVING
+  pub finish_holds : (n : ℕ) → n ≡ length (held_by v t) → 0 < n → finish v t ≡ refused StillServing
   finish_holds n e k = rw (lt-ltb 0 (length (held_by v t)) (omega arith))
 
   pub finish_goes : (n : ℕ) (l : List ℕ) → n ≡ length (held_by v t) → n ≤ 0 → l ≡ queued_on v t → finish v t ≡ completing v t l
@@ -173,7 +174,7 @@ module _ (v : State) (t : ℕ) where
   finish_alone h z =
       finish_goes 0 [] (sym (ap (λ (l : List ℕ). length (filter (holds v t) l)) h)) (omega arith) (sym (nobody_queued z 8 1))
 
-  pub finish_idle : t ≡ running v → t ≡ 0 → take_call v Finish ≡ refused NO_TASK
+  pub finish_idle : t ≡ running v → t ≡ 0 → take_call v Finish ≡ refused NoTask
   finish_idle run z = no_runner v t (λ t. finish v t) run z
 
   pub finish_runs : t ≡ running v → (t ≡ 0 → ⊥) → take_call v Finish ≡ finish v t

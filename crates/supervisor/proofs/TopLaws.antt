@@ -12,7 +12,8 @@ use Rattle.lists.specs.Line.{line}
 use Rattle.lists.specs.Marks.{no_marks, marked}
 use Rattle.lists.proofs.LineLaws.{tidy_pad}
 use Rattle.rules.specs.State.{created, task_of, is_completed}
-use Rattle.rules.specs.Step.{Outcome, refused, took, take_call, room_after, SHORT_ROOM, BAD_STATE}
+use Rattle.rules.specs.Step.{Outcome, refused, took, take_call, room_after}
+use Rattle.rules.specs.declared.Refusal.TheVariants.{ShortRoom, BadState}
 use Rattle.rules.specs.Callers.{accepted_in}
 use Rattle.rules.specs.Whole.{Typed, view, sound_whole, decline, done, step_whole}
 use Rattle.rules.specs.declared.Task.{Task}
@@ -36,11 +37,11 @@ unfolding stands_of
 sees_of s c t h = record { stands = stands_of s t h; calls = λ e. refl }
 
 module _ (s : Supervisor) (c : C.Call) (n : ℕ) where
-  pub step_short : ltb n 124 ≡ true → step_whole s c n ≡ decline s SHORT_ROOM 0
+  pub step_short : ltb n 124 ≡ true → step_whole s c n ≡ decline s ShortRoom 0
   unfolding step_whole
   step_short h = rw h
 
-  pub step_unsound : ltb n 124 ≡ false → sound_whole s ≡ false → step_whole s c n ≡ decline s BAD_STATE 0
+  pub step_unsound : ltb n 124 ≡ false → sound_whole s ≡ false → step_whole s c n ≡ decline s BadState 0
   unfolding step_whole
   step_unsound h q = rw (h, q)
 

@@ -4,7 +4,8 @@ use mathlib.Core.Path.{◌≡◌, refl, sym, ◌∙◌, ap}
 use lib.ListN.{length}
 use mathlib.Core.Bool.{true}
 use borrow.Author.Tests.{ltb-false}
-use Rattle.rules.specs.Step.{take_call, room_after, SHORT_ROOM, BAD_STATE}
+use Rattle.rules.specs.Step.{take_call, room_after}
+use Rattle.rules.specs.declared.Refusal.TheVariants.{ShortRoom, BadState}
 use Rattle.rules.specs.Whole.{Typed, Whole, view, pack, sound_whole, decline, done, step_whole, stepped_of, answer_of}
 use Rattle.lists.proofs.ListLaws.{mapped_long}
 use Rattle.rules.proofs.StepSound.{call_sound}
@@ -17,7 +18,7 @@ pub returns-then-is_short : goal.returns-then-is_short
 returns-then-is_short c =
     let a = c.args in
     let n = length a.room.now in
-    let e : step_whole a.s a.c n ≡ decline a.s SHORT_ROOM 0 = step_short a.s a.c n (sym c.is_short.ensures ∙ c.if-is_short.true) in
+    let e : step_whole a.s a.c n ≡ decline a.s ShortRoom 0 = step_short a.s a.c n (sym c.is_short.ensures ∙ c.if-is_short.true) in
     record {
       value = (λ i. record { state = a.s; answer = c.refused_answer-answer.ensures i }) ∙ sym (ap stepped_of e);
       room = sym (ap (λ (w : Whole). room_after a.room.now w.ended) e);
@@ -27,7 +28,7 @@ pub returns-then-not-parts_sound : goal.returns-then-not-parts_sound
 returns-then-not-parts_sound c =
     let a = c.args in
     let n = length a.room.now in
-    let e : step_whole a.s a.c n ≡ decline a.s BAD_STATE 0 = step_unsound a.s a.c n (sym c.is_short.ensures ∙ c.if-is_short.false) (sym c.parts_sound.ensures ∙ c.if-not-parts_sound.true) in
+    let e : step_whole a.s a.c n ≡ decline a.s BadState 0 = step_unsound a.s a.c n (sym c.is_short.ensures ∙ c.if-is_short.false) (sym c.parts_sound.ensures ∙ c.if-not-parts_sound.true) in
     record {
       value = (λ i. record { state = a.s; answer = c.refused_answer-answer-then-not-parts_sound.ensures i }) ∙ sym (ap stepped_of e);
       room = sym (ap (λ (w : Whole). room_after a.room.now w.ended) e);
