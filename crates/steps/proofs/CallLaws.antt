@@ -21,12 +21,11 @@ use Rattle.steps.specs.Taken.{Stands, ended_by}
 use Rattle.steps.proofs.MoveLaws.{moved_packed, met_state, created_is}
 use Rattle.steps.proofs.AnswerLaws.{no_runner, of_runner}
 
-module _ (v : State) (t g e : ℕ) (m : CallMode) (run : t ≡ running v) where
-  pub enter_none : t ≡ 0 → take_call v (Call g e m) ≡ refused NoTask
-  enter_none z = no_runner v t (λ t. call v t g e m) run z
+pub enter_none : (v : State) (g e : ℕ) (m : CallMode) → running v ≡ 0 → take_call v (Call g e m) ≡ refused NoTask
+enter_none v g e m = no_runner v (λ t. call v t g e m)
 
-  pub enter_one : (t ≡ 0 → ⊥) → take_call v (Call g e m) ≡ call v t g e m
-  enter_one z = of_runner v t (λ t. call v t g e m) run z
+pub enter_one : (v : State) (t g e : ℕ) (m : CallMode) → t ≡ running v → (t ≡ 0 → ⊥) → take_call v (Call g e m) ≡ call v t g e m
+enter_one v t g e m = of_runner v t (λ t. call v t g e m)
 
 module _ (s : Core) (b : Bool) (g : ℕ) (h : Stands s) (is : b ≡ (ltb 0 g && leb g s.created)) where
   pub no_task : b ≡ false → is_task (view_core s) g ≡ false

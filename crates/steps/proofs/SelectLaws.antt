@@ -14,12 +14,11 @@ use Rattle.rules.proofs.StepSound.{caller_taken}
 use Rattle.calls.specs.declared.SelectMode.TheVariants as S
 use Rattle.steps.proofs.AnswerLaws.{no_runner, of_runner, Quiet, quiet_runner}
 
-module _ (v : State) (t : ℕ) (run : t ≡ running v) where
-  pub select_alone : (o : ℕ) (m : SelectMode) → t ≡ 0 → take_call v (Select o m) ≡ refused NoTask
-  select_alone o m z = no_runner v t (λ t. select v t o m) run z
+pub select_alone : (v : State) (o : ℕ) (m : SelectMode) → running v ≡ 0 → take_call v (Select o m) ≡ refused NoTask
+select_alone v o m = no_runner v (λ t. select v t o m)
 
-  pub select_runs : (o : ℕ) (m : SelectMode) → (t ≡ 0 → ⊥) → take_call v (Select o m) ≡ select v t o m
-  select_runs o m z = of_runner v t (λ t. select v t o m) run z
+pub select_runs : (v : State) (t : ℕ) → t ≡ running v → (o : ℕ) (m : SelectMode) → (t ≡ 0 → ⊥) → take_call v (Select o m) ≡ select v t o m
+select_runs v t run o m = of_runner v t (λ t. select v t o m) run
 
 module _ (v : State) (t o : ℕ) (m : SelectMode) where
   pub select_wide : leb (2 ^ (task_of v t).entries) o ≡ true → select v t o m ≡ refused NoEntry
