@@ -92,7 +92,7 @@ pub fn running(x: Second) -> Running
         return Running { refusal: 0, task };
     }
     Running {
-        refusal: u8::from(Refusal::BadState),
+        refusal: Refusal::BadState as u8,
         task: 0,
     }
 }
@@ -109,7 +109,7 @@ pub fn priority(x: Second, t: u8) -> Priority
         };
     }
     Priority {
-        refusal: u8::from(Refusal::BadState),
+        refusal: Refusal::BadState as u8,
         priority: 0,
     }
 }
@@ -136,7 +136,7 @@ pub fn count(x: Second, t: u8, e: u8) -> Count
         };
     }
     Count {
-        refusal: u8::from(Refusal::BadState),
+        refusal: Refusal::BadState as u8,
         count: 0,
     }
 }
@@ -154,7 +154,7 @@ pub fn callable(x: Second, t: u8) -> Callable
         };
     }
     Callable {
-        refusal: u8::from(Refusal::BadState),
+        refusal: Refusal::BadState as u8,
         yes: false,
     }
 }

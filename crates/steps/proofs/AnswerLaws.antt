@@ -82,10 +82,17 @@ kept : Taken → Result Taken Refusal → Taken
 kept d (Ok k) = k
 kept d (Err r) = d
 
-pub by_taken {κ} : (P : Outcome → Type κ) (o : Outcome) (k : Taken) → Ok k ≡ taken_of o → ((st : State) (a : Item) (l : List Item) → k ≡ taken_as (pack_core st) a (length l) → P (took st a l)) → P o
+pub record WasTaken (o : Outcome) (k : Taken) : Type 0 where
+  pub state : State
+  pub answer : Item
+  pub list : List Item
+  pub outcome : o ≡ took state answer list
+  pub gave : k ≡ taken_as (pack_core state) answer (length list)
+
+pub was_taken : (o : Outcome) (k : Taken) → Ok k ≡ taken_of o → WasTaken o k
 unfolding kept
-by_taken P (refused r) k e f = differ (ap is_ok e)
-by_taken P (took st a l) k e f = f st a l (ap (kept k) e)
+was_taken (refused r) k e = differ (ap is_ok e)
+was_taken (took st a l) k e = record { state = st; answer = a; list = l; outcome = refl; gave = ap (kept k) e }
 
 -- and of one that was refused
 reason : Refusal → Result Taken Refusal → Refusal

@@ -1,6 +1,6 @@
 -- Who is gone, and who comes: what is read off what a call gave is what the rules say of the callers.
 -- Assumes nothing.
-use Rattle.std.proofs.Common.{◌≡◌, ℕ, suc, ◌+◌, ◌-◌, ◌*◌, ◌<◌, ◌≤◌, Bool, true, false, ◌&&◌, eqb, ltb, List, [], ◌∷◌, ◌++◌, map, length, drop, set, sym, refl, ap, ◌∙◌, append-nil, arith, get_or-drop, drop-drop, ltb-false, ltb-true}
+use Rattle.std.proofs.Common.{◌≡◌, ℕ, suc, ◌+◌, ◌-◌, ◌*◌, ◌<◌, ◌≤◌, Bool, true, false, eqb, ltb, List, [], ◌∷◌, ◌++◌, map, length, drop, set, sym, refl, ap, ◌∙◌, append-nil, arith, get_or-drop, drop-drop, ltb-false, ltb-true}
 use Rattle.calls.specs.Record.{byte}
 use Rattle.calls.specs.declared.Call as C
 use Rattle.lists.specs.Line.{line, pad}

@@ -91,7 +91,7 @@ pub fn running(s: Supervisor) -> Running
         return Running { refusal: 0, task };
     }
     Running {
-        refusal: u8::from(Refusal::BadState),
+        refusal: Refusal::BadState as u8,
         task: 0,
     }
 }
@@ -117,7 +117,7 @@ pub fn count(s: Supervisor, t: u8, e: u8) -> Count
         };
     }
     Count {
-        refusal: u8::from(Refusal::BadState),
+        refusal: Refusal::BadState as u8,
         count: 0,
     }
 }
@@ -135,7 +135,7 @@ pub fn callable(s: Supervisor, t: u8) -> Callable
         };
     }
     Callable {
-        refusal: u8::from(Refusal::BadState),
+        refusal: Refusal::BadState as u8,
         yes: false,
     }
 }
@@ -152,7 +152,7 @@ pub fn priority(s: Supervisor, t: u8) -> Priority
         };
     }
     Priority {
-        refusal: u8::from(Refusal::BadState),
+        refusal: Refusal::BadState as u8,
         priority: 0,
     }
 }
