@@ -12,10 +12,10 @@ use lib.Seq.{drop-cons, take-suc-set, take_all, append_snoc, set-get_or}
 use denote.Array.{each}
 use denote.Shadow.{shadow}
 use mir.Val.{Val}
-use borrow.Author.Tests.{lt-ltb, leb-false, ne_eqb}
+use borrow.Author.Tests.{lt-ltb, leb-false}
 use Rattle.lists.specs.Line.{line, pad, pad_to, tidy}
 use Rattle.lists.specs.Lists.{filter, every}
-use Rattle.lists.specs.Marks.{no_marks, mark_of}
+use Rattle.lists.specs.Marks.{mark_of}
 use Rattle.lists.proofs.ListLaws.{by_bool}
 use Rattle.lists.proofs.MarkLaws.{filter_same, filter_filter}
 use Rattle.lists.proofs.Tests.{and_first, and_second}

@@ -1,6 +1,6 @@
 -- What both engines say of a step: the answer, read off what the call gave.
 -- Assumes nothing.
-use Rattle.std.proofs.Common.{◌≡◌, ℕ, List, [], length, refl, ap, ◌∙◌}
+use Rattle.std.proofs.Common.{◌≡◌, ℕ, List, [], length, ap, ◌∙◌}
 use Rattle.rules.specs.State.{State, running}
 use Rattle.rules.specs.Step.{took}
 use Rattle.rules.specs.Whole.{view_core, pack_core, done_by, answer_of}
