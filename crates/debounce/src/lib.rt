@@ -12,8 +12,7 @@ ghost use Rattle.debounce.specs.Settings.{fresh_of, no_card};
 
 use check::is_whole;
 use contacts::{no_contact, report_of};
-use rules::Supervisor;
-use rules::numbers::BAD_STATE;
+use rules::{Refusal, Supervisor};
 use settings::{contacts_in, is_good};
 use turns::{no_tasks, started, ticked};
 
@@ -101,7 +100,7 @@ pub fn tick(card: Card, bits: u8) -> Ticked
     }
     Ticked {
         card,
-        refusal: BAD_STATE,
+        refusal: Refusal::BadState as u8,
         reported: 0,
     }
 }

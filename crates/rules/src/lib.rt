@@ -3,6 +3,8 @@
 
 pub mod numbers;
 
+ghost use Rattle.std.specs.Prelude.{◌≡◌};
+
 #[derive(Clone, Copy)]
 pub enum Timer {
     Off,
@@ -89,6 +91,31 @@ pub struct Item {
     pub result: u8,
     pub entry: u8,
     pub partner: u8,
+}
+
+// Why a step is refused, in order of checking, with the numbers that those who asked are told: 10 is retired. SHORT_ROOM is the
+// writer's too, so its number stands in `calls` as well.
+#[derive(Clone, Copy, Debug, PartialEq, Eq)]
+pub enum Refusal {
+    ShortRoom = 1,
+    BadState = 2,
+    BadField = 3,
+    NoTask = 4,
+    NoTarget = 5,
+    NoEntry = 6,
+    NotServing = 7,
+    StillServing = 8,
+    Full = 9,
+}
+
+impl From<Refusal> for u8 {
+    ghost use Rattle.rules.specs.Step.{number};
+
+    ghost from_gives = { λ r n. n ≡ number r };
+
+    fn from(refusal: Refusal) -> u8 {
+        refusal as u8
+    }
 }
 
 // What a step answers: a refusal (0 if none), the result with its task, entry and partner, the number of ended waits, and

@@ -1,20 +1,4 @@
-// The numbers of the refusals of a step and of its results. SHORT_ROOM, which is the writer's too, stands in `calls`; 10 is retired.
-pub const BAD_STATE: u8 = 2;
-
-pub const BAD_FIELD: u8 = 3;
-
-pub const NO_TASK: u8 = 4;
-
-pub const NO_TARGET: u8 = 5;
-
-pub const NO_ENTRY: u8 = 6;
-
-pub const NOT_SERVING: u8 = 7;
-
-pub const STILL_SERVING: u8 = 8;
-
-pub const FULL: u8 = 9;
-
+// The numbers of the results of a step. Those of its refusals are `Refusal`.
 pub const WAITS: u8 = 0;
 
 pub const ELAPSED: u8 = 1;

@@ -8,10 +8,8 @@ ghost use Rattle.rules.specs.Second.{start_second, sound_second, step_second, se
 ghost use Rattle.rules.specs.Step.{room_after};
 
 use calls::Call;
-use calls::numbers::SHORT_ROOM;
 use rows::{next_rows, row_looked_at, row_of};
-use rules::numbers::BAD_STATE;
-use rules::{Callable, Core, Count, Priority, Row, Running, Second, SecondStepped};
+use rules::{Callable, Core, Count, Priority, Refusal, Row, Running, Second, SecondStepped};
 use soundness::{is_sound_second, rows_sound};
 use steps::answers::{answer_by, is_short, refused_answer};
 use steps::change::{gone_marks, joined_queue, left_marks};
@@ -27,19 +25,26 @@ pub fn step(x: Second, c: Call, room: &mut [u8]) -> SecondStepped
     ensures room { room.new ≡ room_after room.old (step_second x c (length room.old)).ended }
 {
     if is_short(room.len()) {
-        let answer = refused_answer(SHORT_ROOM, 0);
+        let answer = refused_answer(u8::from(Refusal::ShortRoom), 0);
         return SecondStepped { state: x, answer };
     }
     let rows = x.rows;
     if !rows_sound(x.core, rows) {
-        let answer = refused_answer(BAD_STATE, 0);
+        let answer = refused_answer(u8::from(Refusal::BadState), 0);
         return SecondStepped { state: x, answer };
     }
     let mine = row_looked_at(x.core, rows, c);
-    let k = take_call(x.core, mine, c, room);
+    let k = match take_call(x.core, mine, c, room) {
+        Ok(k) => k,
+        Err(why) => {
+            let next = table::dispatch::running(x.core);
+            let answer = refused_answer(u8::from(why), next);
+            return SecondStepped { state: x, answer };
+        }
+    };
     let gone = gone_marks(room, k.ended, k.result, k.partner);
     let left = left_marks(room, k.ended, k.result, k.task);
-    let joined = joined_queue(c, k.refusal, k.result, k.ended);
+    let joined = joined_queue(c, k.result, k.ended);
     let rows_now = next_rows(rows, left, gone, joined, k.task);
     let after = k.state;
     let next = table::dispatch::running(after);
@@ -87,7 +92,7 @@ pub fn running(x: Second) -> Running
         return Running { refusal: 0, task };
     }
     Running {
-        refusal: BAD_STATE,
+        refusal: Refusal::BadState as u8,
         task: 0,
     }
 }
@@ -104,7 +109,7 @@ pub fn priority(x: Second, t: u8) -> Priority
         };
     }
     Priority {
-        refusal: BAD_STATE,
+        refusal: Refusal::BadState as u8,
         priority: 0,
     }
 }
@@ -131,7 +136,7 @@ pub fn count(x: Second, t: u8, e: u8) -> Count
         };
     }
     Count {
-        refusal: BAD_STATE,
+        refusal: Refusal::BadState as u8,
         count: 0,
     }
 }
@@ -149,7 +154,7 @@ pub fn callable(x: Second, t: u8) -> Callable
         };
     }
     Callable {
-        refusal: BAD_STATE,
+        refusal: Refusal::BadState as u8,
         yes: false,
     }
 }

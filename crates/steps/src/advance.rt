@@ -52,7 +52,7 @@ fn moments_of(s: Core, l: [u8; 31]) -> u8
 // The clock goes on by n ticks, and those of the line, whose time comes within them, become ready. The answer's entry is as given.
 fn passed(s: Core, l: [u8; 31], n: u32, entry: u8, room: &mut [u8]) -> Taken
     requires { Stands s × (124 ≤ length room.old) × (l ≡ pad (due_within (view_core s) n)) }
-    ensures value { result ≡ taken_of s (passing (view_core s) n entry) }
+    ensures value { Ok result ≡ taken_of (passing (view_core s) n entry) }
     ensures room { room.new ≡ room_after room.old (ended_by (passing (view_core s) n entry)) }
 {
     let reading = std::num::wrapping_add_u32(s.clock, n);
@@ -65,7 +65,7 @@ fn passed(s: Core, l: [u8; 31], n: u32, entry: u8, room: &mut [u8]) -> Taken
 // The clock goes on by one.
 pub fn tick(s: Core, room: &mut [u8]) -> Taken
     requires { Stands s × (124 ≤ length room.old) }
-    ensures value { result ≡ taken_of s (take_call (view_core s) Tick) }
+    ensures value { Ok result ≡ taken_of (take_call (view_core s) Tick) }
     ensures room { room.new ≡ room_after room.old (ended_by (take_call (view_core s) Tick)) }
 {
     let l = due_within(s, 1);
@@ -75,7 +75,7 @@ pub fn tick(s: Core, room: &mut [u8]) -> Taken
 // The clock goes on by n. The answer's entry is the number of readings at which a wait ended.
 pub fn advance(s: Core, n: u32, room: &mut [u8]) -> Taken
     requires { Stands s × (124 ≤ length room.old) }
-    ensures value { result ≡ taken_of s (take_call (view_core s) (Advance n)) }
+    ensures value { Ok result ≡ taken_of (take_call (view_core s) (Advance n)) }
     ensures room { room.new ≡ room_after room.old (ended_by (take_call (view_core s) (Advance n))) }
 {
     let l = due_within(s, n);

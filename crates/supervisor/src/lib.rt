@@ -8,9 +8,7 @@ ghost use Rattle.rules.specs.State as state;
 ghost use Rattle.rules.specs.Whole.{stepped_of, pack, sound_whole, step_whole};
 
 use calls::Call;
-use calls::numbers::SHORT_ROOM;
-use rules::numbers::BAD_STATE;
-use rules::{Callable, Core, Count, Priority, Running, Stepped, Supervisor};
+use rules::{Callable, Core, Count, Priority, Refusal, Running, Stepped, Supervisor};
 use soundness::{is_sound, parts_sound};
 use steps::answers::{answer_by, is_short, refused_answer};
 use steps::change::{comes, gone_marks, next_line};
@@ -26,17 +24,24 @@ pub fn step(s: Supervisor, c: Call, room: &mut [u8]) -> Stepped
     ensures room { room.new ≡ room_after room.old (step_whole s c (length room.old)).ended }
 {
     if is_short(room.len()) {
-        let answer = refused_answer(SHORT_ROOM, 0);
+        let answer = refused_answer(u8::from(Refusal::ShortRoom), 0);
         return Stepped { state: s, answer };
     }
     let callers = s.callers;
     if !parts_sound(s.core, callers) {
-        let answer = refused_answer(BAD_STATE, 0);
+        let answer = refused_answer(u8::from(Refusal::BadState), 0);
         return Stepped { state: s, answer };
     }
-    let k = take_call(s.core, callers, c, room);
+    let k = match take_call(s.core, callers, c, room) {
+        Ok(k) => k,
+        Err(why) => {
+            let next = table::dispatch::running(s.core);
+            let answer = refused_answer(u8::from(why), next);
+            return Stepped { state: s, answer };
+        }
+    };
     let gone = gone_marks(room, k.ended, k.result, k.partner);
-    let joins = comes(c, k.refusal, k.result, k.ended);
+    let joins = comes(c, k.result, k.ended);
     let callers_now = next_line(callers, gone, joins, k.task);
     let after = k.state;
     let next = table::dispatch::running(after);
@@ -86,7 +91,7 @@ pub fn running(s: Supervisor) -> Running
         return Running { refusal: 0, task };
     }
     Running {
-        refusal: BAD_STATE,
+        refusal: Refusal::BadState as u8,
         task: 0,
     }
 }
@@ -112,7 +117,7 @@ pub fn count(s: Supervisor, t: u8, e: u8) -> Count
         };
     }
     Count {
-        refusal: BAD_STATE,
+        refusal: Refusal::BadState as u8,
         count: 0,
     }
 }
@@ -130,7 +135,7 @@ pub fn callable(s: Supervisor, t: u8) -> Callable
         };
     }
     Callable {
-        refusal: BAD_STATE,
+        refusal: Refusal::BadState as u8,
         yes: false,
     }
 }
@@ -147,7 +152,7 @@ pub fn priority(s: Supervisor, t: u8) -> Priority
         };
     }
     Priority {
-        refusal: BAD_STATE,
+        refusal: Refusal::BadState as u8,
         priority: 0,
     }
 }

@@ -2,4 +2,4 @@ use Rattle.std.proofs.Common.{Bool, ◌&&◌, eqb, ap}
 use Rattle.steps.proofs.change.comes.Goals as goal
 
 pub returns : goal.returns
-returns c = ap (λ (b : Bool). eqb c.args.refusal 0 && b) c.is_queueing.ensures
+returns c = let a = c.args in ap (λ (b : Bool). b && (eqb a.res 0 && eqb a.ended 0)) c.is_call.ensures
