@@ -8,7 +8,7 @@ use native.Mathlib.Omega.{arith}
 use native.Mathlib.Numerals.{add-one, unary_clauses}
 use lib.Dec.{eqb, leb}
 use lib.ListN.{length, take, drop, get_or, set, drop_of_length-le}
-use lib.Seq.{drop-cons, take-suc-set, take_all, append_snoc, set-get_or}
+use lib.Seq.{drop-cons, take-suc-set, take_all, append_snoc}
 use denote.Array.{each}
 use denote.Shadow.{shadow}
 use mir.Val.{Val}
@@ -67,10 +67,8 @@ module _ (left gone : List ℕ) (a t : ℕ) (n : List Row) (i : ℕ) where
   pub rows_touched : (k : List ℕ) → i < length n → touched ≡ true → k ≡ line_by gone (eqb (i + 1) a) t (get_or n i no_row).line → Turn (set n i (record { line = k }))
   rows_touched k h b e = rows_on (record { line = k }) h (e ∙ sym (rw b))
 
-  pub rows_skipped : i < length n → touched ≡ false → Turn n
-  rows_skipped h b =
-      rows_on (get_or n i no_row) h (sym (rw b))
-      ∙ ap (λ (m : List Row). take (i + 1) m ++ next_rows left gone a t (i + 1 + 1) (drop (i + 1) m)) (set-get_or n i no_row)
+  pub rows_skipped : i < length n → touched ≡ false → Turn (set n i (get_or n i no_row))
+  rows_skipped h b = rows_on (get_or n i no_row) h (sym (rw b))
 
 pub rows_end : (left gone : List ℕ) (a t : ℕ) (n : List Row) (i : ℕ) → length n ≤ i → take i n ++ next_rows left gone a t (i + 1) (drop i n) ≡ n
 rows_end left gone a t n i h = (λ j. take_all i n h j ++ next_rows left gone a t (i + 1) (drop_of_length-le n h j)) ∙ append-nil n

@@ -4,6 +4,9 @@ use Rattle.lists.proofs.MarkLaws.{mark_on}
 use Rattle.lines.proofs.marks_of.Invariants.{one}
 use Rattle.lines.proofs.marks_of.Goals as goal
 
+pub loop-t-init : goal.loop-t-init
+loop-t-init c = refl
+
 pub loop-t-preserved : goal.loop-t-preserved
 loop-t-preserved c =
     let s = c.loop-t in

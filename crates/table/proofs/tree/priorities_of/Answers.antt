@@ -1,11 +1,14 @@
-use Rattle.std.proofs.Common.{ap, ◌∙◌}
+use Rattle.std.proofs.Common.{refl, ap, ◌∙◌, rules}
 use Rattle.lists.proofs.MarkLaws.{mark_on}
-use Rattle.lists.proofs.ListLaws.{down_on}
+use Rattle.lists.proofs.ListLaws.{mapped_long, down_on}
 use Rattle.rules.specs.State.{priority_of}
 use Rattle.rules.specs.Whole.{view_core}
 use Rattle.rules.specs.declared.Task.{Task}
 use Rattle.table.proofs.LeafLaws.{shown_at}
 use Rattle.table.proofs.tree.priorities_of.Goals as goal
+
+pub loop-t-init : goal.loop-t-init
+loop-t-init c = (search (rules, mapped_long), refl)
 
 pub loop-t-preserved : goal.loop-t-preserved
 loop-t-preserved c =
