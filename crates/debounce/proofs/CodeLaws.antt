@@ -50,7 +50,7 @@ contacts_from b (suc n) i (c ∷ cs) e h =
 
 pub contacts_each : (b : List ℕ) (cs : List Contact) → length cs ≡ 8 → ((k : ℕ) (d : Contact) → k < 8 → get_or cs k d ≡ opened (setting_at b k)) → cs ≡ map opened (settings_in b)
 unfolding settings_in
-contacts_each b cs e h = contacts_from b 8 0 cs e (λ k l. h k no_contact l)
+contacts_each b cs e h = contacts_from b 8 0 cs e (λ k l. h k no_contact l ∙ ap (λ (j : ℕ). opened (setting_at b j)) (omega arith))
 
 -- ── samples ──
 

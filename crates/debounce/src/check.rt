@@ -45,10 +45,7 @@ fn all_wait(s: Core, cs: [Contact; 8]) -> bool
     ensures { result ≡ all_wait s.clock s.tasks cs }
 {
     let now = s.clock;
-    s.tasks
-        .iter()
-        .zip(&cs)
-        .all(|(x, c)| waits_for(now, *x, *c))
+    s.tasks.iter().zip(&cs).all(|(x, c)| waits_for(now, *x, *c))
 }
 
 // Whether the card is not damaged.
