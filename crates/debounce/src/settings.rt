@@ -1,5 +1,5 @@
 // The settings: a field for each contact, laid out like a call record.
-ghost use Rattle.std.specs.Prelude.{◌≡◌, ◌+◌, ◌*◌, ◌<◌, ◌≤◌, map, length};
+ghost use Rattle.std.specs.Prelude.{◌≡◌, ◌+◌, ◌*◌, ◌≤◌, map, length};
 ghost use Rattle.debounce.specs.Card.{opened};
 ghost use Rattle.debounce.specs.Settings.{two, setting_at, good_field, good_settings, settings_in};
 
