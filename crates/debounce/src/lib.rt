@@ -11,7 +11,7 @@ ghost use Rattle.debounce.specs.Card.{tick_of};
 ghost use Rattle.debounce.specs.Settings.{fresh_of, no_card};
 
 use check::is_whole;
-use contacts::{no_contact, report_of};
+use contacts::report_of;
 use rules::{Refusal, Supervisor};
 use settings::{contacts_in, is_good};
 use turns::{no_tasks, started, ticked};
@@ -20,8 +20,8 @@ use turns::{no_tasks, started, ticked};
 pub const BAD_SETTING: u8 = 17;
 
 // A contact: its setting (n samples must agree, p ticks lie between two samples), whether it is reported closed, and how many of its
-// latest samples in a row say otherwise.
-#[derive(Clone, Copy)]
+// latest samples in a row say otherwise. The default is a contact that is not there.
+#[derive(Clone, Copy, Default)]
 pub struct Contact {
     pub n: u8,
     pub p: u16,
@@ -57,7 +57,7 @@ fn blank_card() -> Card
     ensures { result ≡ no_card }
 {
     let supervisor = no_tasks();
-    let contacts = [no_contact(); 8];
+    let contacts = [Contact::default(); 8];
     Card {
         supervisor,
         contacts,

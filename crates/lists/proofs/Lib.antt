@@ -10,3 +10,4 @@ pub mod OverLaws
 pub mod Parts
 pub mod Zeros
 pub mod FromFn
+pub mod Backwards

@@ -1,9 +1,7 @@
 -- Turns of the loops: down from a number, and over a line.
 -- Assumes nothing.
-use Rattle.std.proofs.Common.{◌≡◌, ℕ, zero, suc, ◌+◌, ◌<◌, ◌≤◌, Bool, false, ◌&&◌, eqb, List, [], ◌∷◌, ◌++◌, length, get_or, take, drop, fold, sym, refl, ap, ◌∙◌, add-one, arith, drop_of_length-le, drop-cons, ne_eqb, le-leb}
+use Rattle.std.proofs.Common.{◌≡◌, ℕ, zero, suc, ◌+◌, ◌<◌, ◌≤◌, Bool, false, ◌&&◌, List, [], ◌∷◌, length, get_or, drop, sym, refl, ap, ◌∙◌, add-one, drop_of_length-le, drop-cons, le-leb}
 use borrow.Author.Tests.{lt-leb}
-use mathlib.Core.Bool.{and-true, and_assoc}
-use lib.Bits.{bit_or, or_zero_l, or_add_and, and_le_r}
 use Rattle.lists.specs.Line.{blanks}
 use Rattle.std.specs.List.{list_all}
 use Rattle.lists.specs.Lists.{every, down_from}
@@ -13,16 +11,6 @@ use Rattle.soundness.specs.Check.{marked, walked, ascending}
 -- the word with the next task below, if it passes the test, goes on with those below it
 pub mark_on : (f : ℕ → Bool) (m n t : ℕ) (b : Bool) → b ≡ f (suc t) → n ≡ next_mark m b → marked f m (down_from (suc t)) ≡ marked f n (down_from t)
 mark_on f m n t b eb en = λ i. marked f (sym (en ∙ ap (next_mark m) eb) i) (down_from t)
-
--- the last of the front of a list, and the front before it
-pub last_left : {A : Type 0} (d x : A) (xs l : List A) → xs ++ (x ∷ []) ≡ take (suc (length xs)) l → (xs ≡ take (length xs) l) × (x ≡ get_or l (length xs) d)
-last_left d x [] [] e = absurd (cc)
-last_left d x [] (y ∷ ys) e = (refl, cc)
-last_left d x (z ∷ zs) [] e = absurd (cc)
-last_left d x (z ∷ zs) (y ∷ ys) e =
-    let r = last_left d x zs ys (cc) in
-    let h : z ≡ y = cc in
-    (λ i. h i ∷ r.0 i, r.1)
 
 -- a test of all is the library's
 pub every_list : {A : Type 0} (f : A → Bool) (l : List A) → list_all f l ≡ every f l

@@ -1,7 +1,6 @@
 -- The whole check: its parts, line by line, against the rules, which go task by task.
 -- Assumes nothing.
-use Rattle.std.proofs.Common.{◌≡◌, ℕ, ◌<◌, ◌≤◌, Bool, true, ◌&&◌, eqb, leb, List, [], ◌∷◌, ◌++◌, None, Some, length, drop, sym, refl, ap, ◌∙◌, arith, length-take-le, le-leb, leb-true}
-use Rattle.std.specs.Bool.{then_some}
+use Rattle.std.proofs.Common.{◌≡◌, ℕ, ◌<◌, ◌≤◌, Bool, true, ◌&&◌, eqb, leb, List, [], ◌∷◌, ◌++◌, length, drop, sym, refl, ap, ◌∙◌, arith, length-take-le, le-leb, leb-true}
 use mathlib.Core.Bool.{and-false, and_assoc, and_comm}
 use Rattle.lists.specs.Line.{line, tidy}
 use Rattle.lists.specs.Lists.{bit, count, every, in_order_by, down_from}
@@ -13,8 +12,7 @@ use Rattle.rules.specs.Whole.{view_core, unused, packed_core, sound_whole}
 use Rattle.rules.specs.declared.Supervisor.{Supervisor}
 use Rattle.rules.specs.declared.Core.{Core}
 use Rattle.table.specs.Moved.{left_of}
-use Rattle.soundness.specs.declared.Told.{Told}
-use Rattle.soundness.specs.Check.{Line, Ready, Callers, Held, Delays, good_in, belongs, marked_in, changed_in, words_of, told_of, stands_in, core_sound, checked_of, holds_in, ascending, delays_hold}
+use Rattle.soundness.specs.Check.{Line, Ready, Callers, Held, Delays, good_in, belongs, marked_in, changed_in, stands_in, core_sound, checked_of, holds_in, ascending}
 use Rattle.soundness.specs.Marks.{Marks, if_any}
 use Rattle.soundness.specs.TreeCheck.{tree_found}
 use Rattle.soundness.proofs.TreeFound.{found_is}
@@ -133,21 +131,6 @@ core_is s l t clock k = by_bool (leb s.created 31) fits (λ e. rw e)
         (λ y. rw y) in
         let g : core_sound s ≡ (a && f) = rw p in
         ap (λ (x : Bool). x && b) g ∙ last_swap a f b ∙ q ∙ ap (λ (x : Bool). x && z) e ∙ and_assoc (packed_core s && t) (standing v) z
-
--- what the code finds of a core: one of its tasks is not good, and each is
-pub checked_none : (s : Core) → told_of s ≡ None → None ≡ checked_of s
-checked_none s e =
-    by_bool (every (good_in (view_core s)) (down_from s.created))
-    (λ p. absurd (cc (rw p at e)))
-    (λ p. rw (p, and-false (leb s.created 31)))
-
-pub checked_is : (s : Core) (told : Told) (u l d f : Bool) → s.created ≤ 31 → told_of s ≡ Some told → u ≡ every unused (drop s.created s.tasks)
-    → l ≡ (holds_in told.ready s.ready && holds_in told.held s.held) → d ≡ delays_hold s told.delays → f ≡ tree_found s told.held told.changed
-    → then_some (((u && l) && d) && f) told.callers ≡ checked_of s
-checked_is s told u l d f h et eu el ed ef =
-    by_bool (every (good_in (view_core s)) (down_from s.created))
-    (λ p. let e : words_of s ≡ told = cc (rw p at et) in rw (le-leb s.created 31 h, p, eu, el, ed, ef, ← e))
-    (λ p. absurd (cc (rw p at et)))
 
 -- who belongs into the queues is asked for where a core is sound
 pub if_sound : (s : Core) (f : Marks → Bool) → if_any (checked_of s) f ≡ (core_sound s && f (marked_in s Callers))

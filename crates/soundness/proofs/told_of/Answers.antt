@@ -1,6 +1,7 @@
 use Rattle.std.proofs.Common.{◌≡◌, ℕ, suc, ◌-◌, ◌≤◌, Bool, true, false, ◌&&◌, List, [], ◌∷◌, ◌++◌, Some, length, take, get_or, sym, refl, ap, ◌∙◌, arith, length-append, length-take-le, rules}
 use Rattle.std.specs.Iterator.Adapters.{rev_source}
 use Rattle.std.specs.Slice.Iter.{iter_rest}
+use Rattle.lists.proofs.Backwards.{last_left}
 use Rattle.lists.proofs.ListLaws.{mapped_long}
 use Rattle.rules.specs.State.{blank, task_of}
 use Rattle.rules.specs.Whole.{view_core}
@@ -11,7 +12,7 @@ use Rattle.soundness.specs.Check.{Ready, Callers, Held, Delays, belongs, good_in
 use Rattle.soundness.specs.Marks.{no_marks, next_mark}
 use Rattle.soundness.specs.declared.Told.{Told}
 use Rattle.soundness.proofs.TaskLaws.{good_is}
-use Rattle.soundness.proofs.Turns.{last_left, mark_on}
+use Rattle.soundness.proofs.Turns.{mark_on}
 use Rattle.soundness.proofs.told_of.Invariants.{due, goods}
 use Rattle.soundness.proofs.told_of.Goals as goal
 
