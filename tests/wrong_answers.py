@@ -17,12 +17,11 @@ import sys
 from collections import namedtuple
 from pathlib import Path
 
-from unique_names import EXPORTING, public_functions, without_answer
+from unique_names import EXPORTING, impl_of, public_functions, without_answer
 
 Wrong = namedtuple("Wrong", "edit crate file says old new where law at")
 BEGIN, END = "<!-- wrong answers: made by tests/wrong_answers.py -->", "<!-- end of the wrong answers -->"
 FUNCTION = re.compile(r'^\s*(?:pub(?:\(crate\))? )?(?:extern "C" )?fn (\w+)')
-IMPL = re.compile(r"^impl(?:<.*?>)? (?:(?:\w+::)*(\w+)(?:<(\w+)>)? for )?(\w+)")
 CLAUSE = re.compile(r"^\s*(?:requires|ensures)\b")
 # what stands behind the name of a function where not its body but its contract is changed
 CONTRACT = " (contract)"
@@ -39,16 +38,6 @@ FACT = re.compile(r"^expected type `|first differ|differ only|the two types|the 
 def crates():
     """The listed crates, lower layers first."""
     return re.findall(r"(?m)^(\w+)\b[^:#\n]*:", Path("crates.txt").read_text())
-
-
-def impl_of(lines):
-    """The name that the toolchain gives the impl that is open behind these lines, as ModeFromCallMode or Row; none where none is."""
-    opened = [line for line in lines if IMPL.match(line) or line == "}"]
-    found = IMPL.match(opened[-1]) if opened else None
-    if found is None:
-        return []
-    trait, other, own = found.groups("")
-    return [(own[0].upper() + own[1:] if trait else own) + trait + other]
 
 
 def function_of(file, text, at):

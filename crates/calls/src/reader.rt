@@ -36,6 +36,7 @@ fn length_of(tag: u8) -> usize
 }
 
 // Whether tag, length and number of bytes are not those of a record.
+#[tactic(auto, unfolding(crate::specs::Parts::bad_frame))]
 fn bad_frame(s: &[u8]) -> bool
     ensures { result ≡ bad_frame s.now }
 {
