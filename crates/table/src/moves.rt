@@ -4,7 +4,7 @@
 ghost use Rattle.std.specs.Prelude.{◌≡◌};
 ghost use Rattle.lists.specs.Line.{line, pad};
 ghost use Rattle.lists.specs.Marks.{no_marks, marked};
-ghost use Rattle.rules.specs.State.{placed, ranked, retime};
+ghost use Rattle.rules.specs.State.{retime};
 ghost use Rattle.rules.specs.Whole.{view_core};
 ghost use Rattle.rules.specs.declared.Timer.TheVariants.{Off};
 ghost use Rattle.table.specs.Moved.{moved_of, readied_of, woken_of, ready_ranked, ranked_of, met_of, parted_of, left_of, changed_task};
