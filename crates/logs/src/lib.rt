@@ -224,22 +224,11 @@ fn run_with<R: Input + Print + Eprint>(
     run_log(rt, l, buf, out)
 }
 
-// Whether the bytes are the word `second`.
-fn is_word(word: &[u8; 7], n: usize) -> bool {
-    (n == 6)
-        & (word[0] == b's')
-        & (word[1] == b'e')
-        & (word[2] == b'c')
-        & (word[3] == b'o')
-        & (word[4] == b'n')
-        & (word[5] == b'd')
-}
-
 // Whether the only word behind the program's name is `second`, of so many words with the name.
 fn is_second<R: Env>(rt: &R, count: usize) -> bool {
     let mut word = [0u8; 7];
     let n = words::arg(rt, 1, &mut word);
-    (count == 2) & is_word(&word, n)
+    (count == 2) & matches!(&word[..n], b"second")
 }
 
 // Tells which words there are.
