@@ -11,8 +11,6 @@ use borrow.Author.Tests.{eq-eqb, ne_eqb}
 use Rattle.lists.proofs.Turns.{rest_cons}
 use Rattle.script.specs.CallText.{entry, entries}
 use Rattle.script.specs.Words.{is_blank, part_of, words_from}
-use Rattle.script.specs.Guess.{hear, heard_of}
-use Rattle.script.specs.declared.guess.Seen.{Seen}
 
 -- ── the entries of an open set ──
 
@@ -39,11 +37,3 @@ comment line inside i h e = rw (rest_cons line i 0 h, eq-eqb (get_or line i 0) 3
 
 pub no_part : (line : List ℕ) (inside : Bool) (i : ℕ) → length line ≤ i → words_from inside (drop i line) ≡ []
 no_part line inside i h = rw (drop_of_length-le line {i = i} h) refl
-
--- ── all bytes, one after the other ──
-
-pub hear_next : (s : Seen) (words : List ℕ) (i : ℕ) → i < length words → hear s (drop i words) ≡ hear (heard_of s (get_or words i 0)) (drop (i + 1) words)
-hear_next s words i h = rw (rest_cons words i 0 h) refl
-
-pub hear_done : (s : Seen) (words : List ℕ) (i : ℕ) → length words ≤ i → hear s (drop i words) ≡ s
-hear_done s words i h = rw (drop_of_length-le words {i = i} h) refl

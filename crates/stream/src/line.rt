@@ -2,7 +2,7 @@
 // not fit the buffer is told and skipped to its end.
 ghost use Rattle.std.specs.Prelude.{◌≡◌, ◌≤◌, ◌==◌, true, false, length, position};
 ghost use Rattle.text.specs.Text.{number_after};
-ghost use Rattle.stream.specs.Lines.{index_of, no_lines, kind_of, front_of, number_behind, skips_behind, WindowBehind};
+ghost use Rattle.stream.specs.Lines.{no_lines, kind_of, front_of, number_behind, skips_behind, WindowBehind};
 ghost use Rattle.stream.specs.Windows.{moved_to, Grown};
 
 use crate::errors::tell_long;

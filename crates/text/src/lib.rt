@@ -1,8 +1,9 @@
 // Text in lent room: bytes and decimal numbers, each put from a place on, with the place behind it as the answer.
 // Room that is too short cuts the text off: no byte behind the room, and no refusal.
+// Room and place are two parameters and no struct: `byte_once`, `bytes_once` and `number_once` (docs/STATEMENTS.md) speak of a call with both.
 #![tactic(auto)]
 
-ghost use Rattle.std.specs.Prelude.{◌≡◌, ◌≤◌, [], ◌∷◌, drop};
+ghost use Rattle.std.specs.Prelude.{min, ◌≡◌, ◌≤◌, [], ◌∷◌, drop};
 ghost use Rattle.text.specs.Text.{Put, decimal};
 
 // One byte.
@@ -14,6 +15,13 @@ pub fn put_byte(b: u8, out: &mut [u8], at: usize) -> usize
         return at + 1;
     }
     out.len()
+}
+
+// The smaller of two numbers. Code says `min`: this stands for its theorem `least_once`, which docs/STATEMENTS.md names.
+pub fn least(a: usize, b: usize) -> usize
+    ensures { result ≡ min a b }
+{
+    a.min(b)
 }
 
 // All bytes of a text.
