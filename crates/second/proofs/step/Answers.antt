@@ -7,9 +7,9 @@ use lib.ListN.{length}
 use Rattle.lists.proofs.ListLaws.{mapped_long}
 use lib.Dec.{ltb}
 use borrow.Author.Tests.{ltb-false}
-use Rattle.rules.specs.Second.{view_second, pack_second, sound_second, second_of, step_second}
+use Rattle.rules.specs.Second.{view_second, pack_second, sound_second, step_second}
 use Rattle.rules.specs.Step.{take_call, room_after}
-use Rattle.rules.specs.Whole.{StepOf, done_by}
+use Rattle.rules.specs.Whole.{StepOf, done_by, stepped_of}
 use Rattle.rules.specs.declared.Second.{Second}
 use Rattle.rules.proofs.StepSound.{call_sound}
 use Rattle.steps.proofs.EngineLaws.{answer_is, ended_is}
@@ -75,6 +75,6 @@ returns c =
     t.0 t.1 c.gone_marks-gone.ensures c.left_marks-left.ensures c.joined_queue-joined.ensures c.next_rows-rows_now.ensures in
     let answer = c.answer_by-answer.ensures ∙ answer_is pack_second x x.core v o k.result c.running-next.result refl (call_sound v d (sound_here x typed ok)) t.0 c.running-next.ensures in
     record {
-      value = (λ i. record { state = state i; answer = answer i }) ∙ sym (ap second_of done);
+      value = (λ i. record { state = state i; answer = answer i }) ∙ sym (ap stepped_of done);
       room = t.1 ∙ ap (room_after r) (ended_is pack_second x v o ∙ sym (ap (λ (w : StepOf Second). w.ended) done));
     }

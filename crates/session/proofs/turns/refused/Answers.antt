@@ -1,7 +1,7 @@
 use Rattle.std.proofs.Common.{◌≡◌, ℕ, ◌≤◌, true, eqb, List, length, ap, ◌∙◌, subst, arith, eq-eqb, ne_eqb}
 use Rattle.report.specs.Lines.{line_text, longest_line}
 use Rattle.rules.specs.declared.Answer.{Answer}
-use Rattle.rules.specs.declared.Running.{Running}
+use Rattle.rules.specs.Questions.{number_in}
 use Rattle.rules.specs.Whole.{refused_answer}
 use Rattle.text.proofs.Puts.{put_none, same_text}
 use Rattle.session.specs.Turn.{first, made}
@@ -28,7 +28,7 @@ returns-then-n-eq-END_OF_LOG c =
 pub returns : goal.returns
 returns c =
     let a = c.args in
-    let answer = c.refused_answer-answer.ensures ∙ ap (λ (k : Running). refused_answer a.n k.task) c.running-k.ensures in
+    let answer = c.refused_answer-answer.ensures ∙ ap (refused_answer a.n) (c.unwrap_or-runs.ensures ∙ ap number_in c.running.ensures) in
     let line = ap (λ (x : Answer). line_text a.s.step x a.room.now) answer in
     let said = says made _ _ (says_bad first a.s a.n a.many a.last a.room.now c.if-last-many.false (ne_eqb _ 12 c.if-n-eq-END_OF_LOG.false))
     (same_text line c.put_line-place.ensures.put) (subst (λ (t : List ℕ). length t ≤ longest_line) line c.put_line-place.ensures.room_len_bound) in
