@@ -4,7 +4,7 @@
 #include <stddef.h>
 #include <time.h>
 
-enum { LARGE = 400, FORM = 4096, ROUNDS = 3000, PASSES = 60, CALL_AT = 4 };
+enum { LARGE = 400, FORM = 4096, ROUNDS = 3000, PASSES = 60, CALL_AT = 8 };
 
 static unsigned long copies, bytes;
 

@@ -15,7 +15,7 @@ OPTIMISED = "-O3"
 BOTH_ENGINES = """fn main() {
     let mut room = [0u8; 124];
     let read = calls::read_record(&[7, 0, 0]);
-    let calls::Read::Record { call, count: _ } = read else {
+    let Ok(calls::Record { call, count: _ }) = read else {
         return;
     };
     let s = supervisor::empty(0);

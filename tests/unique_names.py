@@ -1,7 +1,7 @@
 """unique_names.py TRUST STATEMENTS: every public function's contract determines the answer, or TRUST names the function.
 
 A function is public if another crate can name it: a `pub fn` or `pub extern "C" fn` of a library's src/lib.rt, or of a module that is
-`pub` there. For each, proofs/Unique.antt of its crate names its contract (`use ..NAME.Reads as ALIAS`) and proves a theorem `.._once` of it, and
+`pub` there, or the function of a conversion there (`impl From<A> for B`). For each, proofs/Unique.antt of its crate names its contract (`use ..NAME.Reads as ALIAS`) and proves a theorem `.._once` of it, and
 the row of STATEMENTS that names that file names the theorem. A function that C calls stands for one of a library, of which this is proved (tests/exports.py). A function whose answer no contract determines stands in a table row of TRUST, as
 `crate::module::name`. And every function that is `pub`, in whatever file, has a contract on its answer, if it answers anything.
 """
@@ -11,13 +11,27 @@ from pathlib import Path
 
 # the crates that only pass functions on to C
 EXPORTING = {"card_c"}
+IMPL = re.compile(r"^impl(?:<.*?>)? (?:(?:\w+::)*(\w+)(?:<(\w+)>)? for )?(\w+)")
+
+
+def impl_of(lines):
+    """The name that the toolchain gives the impl that is open behind these lines, as ModeFromCallMode or Row; none where none is."""
+    opened = [line for line in lines if IMPL.match(line) or line == "}"]
+    found = IMPL.match(opened[-1]) if opened else None
+    if found is None:
+        return ()
+    trait, other, own = found.groups("")
+    return ((own[0].upper() + own[1:] if trait else own) + trait + other,)
 
 
 def public_functions(crate, modules=()):
     """The public functions of a crate, each as the names on the way to it."""
     text = (Path("crates") / crate / "src" / ("/".join(modules or ["lib"]) + ".rt")).read_text()
-    for name in re.findall(r'(?m)^\s*pub (?:extern "C" )?fn (\w+)', text):
-        yield (*modules, name)
+    lines = text.splitlines()
+    for number, line in enumerate(lines):
+        made = re.match(r'\s*(?:pub (?:extern "C" )?fn (\w+)|fn ((?:try_)?from)\b)', line)
+        if made:
+            yield (*modules, *impl_of(lines[:number]), made.group(1) or made.group(2))
     for module in re.findall(r"(?m)^pub mod (\w+);", text):
         yield from public_functions(crate, (*modules, module))
 

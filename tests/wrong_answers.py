@@ -17,7 +17,7 @@ import sys
 from collections import namedtuple
 from pathlib import Path
 
-from unique_names import EXPORTING, public_functions, without_answer
+from unique_names import EXPORTING, impl_of, public_functions, without_answer
 
 Wrong = namedtuple("Wrong", "edit crate file says old new where law at")
 BEGIN, END = "<!-- wrong answers: made by tests/wrong_answers.py -->", "<!-- end of the wrong answers -->"
@@ -44,7 +44,7 @@ def function_of(file, text, at):
     """The path of the function in which the text stands at that place, in its body or in its contract, or None."""
     lines = text[: text.index("\n", at)].splitlines()
     heads = [number for number, line in enumerate(lines) if FUNCTION.match(line)]
-    names = [FUNCTION.match(lines[heads[-1]]).group(1)] if heads else []
+    names = [*impl_of(lines[: heads[-1]]), FUNCTION.match(lines[heads[-1]]).group(1)] if heads else []
     since = lines[heads[-1] :] if heads else []
     in_contract = any(map(CLAUSE.match, since)) and not any(line.strip() == "{" for line in since)
     modules = file.removesuffix(".rt").split("/")[1:]

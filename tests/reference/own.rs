@@ -3,12 +3,12 @@
 //!
 //! A state is made of bytes by the library's own `state_in` and read back by its `store`. So little is assumed of the
 //! form: a struct goes by a pointer, as a result too; a slice goes as a pointer and a number of bytes; the call
-//! of a record that was read lies behind four bytes, the answer of a step behind the 632 of the state. Where one of these
+//! of a record that was read lies behind eight bytes, the answer of a step behind the 632 of the state. Where one of these
 //! is wrong, `agree` of bench.rs fails.
 
 use crate::flat::STATE;
 
-const CALL_AT: usize = 4;
+const CALL_AT: usize = 8;
 const ANSWER_AT: usize = 632;
 /// The bytes of a debouncer's card: those of its supervisor, and five for each contact.
 pub const CARD: usize = STATE + 8 * 5;

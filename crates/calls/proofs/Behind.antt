@@ -16,9 +16,16 @@ use Rattle.calls.specs.Reading.{call_in, read_of}
 use Rattle.calls.specs.Parts.{bad_frame, bad_body, body_read}
 use Rattle.calls.specs.declared.Call as C
 use Rattle.calls.specs.declared.Call.TheVariants.{Delay, Advance}
-use Rattle.calls.specs.declared.Read.TheVariants.{Record, BadRecord}
+use Rattle.std.specs.Prelude.{Result, Ok, Err}
+use Rattle.calls.specs.declared.Record.{Record}
+use Rattle.calls.specs.declared.ReadError.{ReadError}
+use Rattle.calls.specs.declared.ReadError.TheVariants.{BadRecord}
 use Rattle.calls.proofs.Frame.{frame_is, found, above_eight}
 use Rattle.calls.proofs.Round.{accepted_as}
+
+-- a fault, or what is read of a call
+abbrev or_bad : Bool → C.Call → ℕ → Result Record ReadError
+or_bad b c n = when b then Err BadRecord else Ok (record { call = c; count = n })
 
 module _ (s rest : List ℕ) where
   -- a byte of s, and four of them
@@ -72,11 +79,11 @@ module _ (s rest : List ℕ) where
         let more = length-append s rest in
         sym (found (s ++ rest) (bad_frame s) (bad_body (tag_of s) s) (λ z. omega arith) frame_here (rw same (body_here (tag_of s) fits)))
         ∙ (rw same (by_bool (bad_frame s) (λ e. simp e)
-        (λ e. ap (λ (c : C.Call). when bad_frame s || bad_body (tag_of s) s then BadRecord else Record c (3 + length_of (tag_of s))) (call_here (tag_of s) (frame_is s e).known fits))))
+        (λ e. ap (λ (c : C.Call). or_bad (bad_frame s || bad_body (tag_of s) s) c (3 + length_of (tag_of s))) (call_here (tag_of s) (frame_is s e).known fits))))
         ∙ found s (bad_frame s) (bad_body (tag_of s) s) (λ z. omega arith) refl refl
 
 -- what is accepted is accepted whatever follows
-pub accepted_ahead : (s rest : List ℕ) (c : C.Call) (n : ℕ) → read_of s ≡ Record c n → read_of (s ++ rest) ≡ Record c n
+pub accepted_ahead : (s rest : List ℕ) (c : C.Call) (n : ℕ) → read_of s ≡ Ok (record { call = c; count = n }) → read_of (s ++ rest) ≡ Ok (record { call = c; count = n })
 accepted_ahead s rest c n e = not-looked-at s rest (accepted_as s c n e).frame.fits ∙ e
 
 -- the longest record has ten bytes

@@ -7,7 +7,9 @@ use mathlib.Core.List.{List}
 use native.Mathlib.Omega.{arith}
 use borrow.Author.Tests.{eqb-true, eqb-false}
 use lib.Dec.{eqb}
-use Rattle.calls.specs.declared.Read.{Read}
+use Rattle.std.specs.Prelude.{Result}
+use Rattle.calls.specs.declared.Record.{Record}
+use Rattle.calls.specs.declared.ReadError.{ReadError}
 use lib.ListN.{length}
 use Rattle.lists.proofs.ListLaws.{by_bool}
 use Rattle.calls.specs.Reading.{faulty, read_of, refusal_of, count_of, refusal_for, count_for}
@@ -40,6 +42,6 @@ end_of_log_exactly s =
     (λ e. ((λ r. by_bool (faulty s) (λ f. absurd (omega (arith, simp (e, f) at r))) (λ f. absurd (omega (arith, simp (e, f) at r)))), (λ h. absurd (eqb-false (length s) 0 e h))))
 
 -- what the contract says of an answer, for the answer that is right
-pub answers : (s : List ℕ) (r : Read) → r ≡ read_of s
+pub answers : (s : List ℕ) (r : Result Record ReadError) → r ≡ read_of s
     → (r ≡ read_of s) × ((refusal_of r ≡ refusal_for s) × (count_of r ≡ count_for s))
 answers s r e = (e, (ap refusal_of e ∙ refusal_is s, ap count_of e ∙ count_is s))

@@ -1,10 +1,8 @@
--- The reader's parts, the faults of the frame, those of mode and d, and the fields of a record without a fault; and a record before the writer puts it.
-use Rattle.std.specs.Prelude.{ℕ, ◌+◌, ◌-◌, Bool, not, ◌&&◌, ◌||◌, List, ◌++◌, length, replicate, eqb, ltb}
+-- The reader's parts: the faults of the frame, those of mode and d, and the fields of a record without a fault.
+use Rattle.std.specs.Prelude.{ℕ, ◌+◌, Bool, not, ◌&&◌, ◌||◌, List, eqb, ltb}
 use Rattle.calls.specs.Record.{length_of, has_mode, mode_of, time_of}
 use Rattle.calls.specs.Reading.{few_bytes, unknown_tag, wrong_length, cut_short, call_in}
-use Rattle.calls.specs.declared.Read.{Read}
-use Rattle.calls.specs.declared.Read.TheVariants.{Record}
-use Rattle.calls.specs.declared.writer.Packet.{Packet}
+use Rattle.calls.specs.declared.Record.{Record}
 
 -- the faults of tag, length and number of bytes
 unfoldable pub bad_frame : List ℕ → Bool
@@ -19,9 +17,5 @@ abbrev pub bad_body : ℕ → List ℕ → Bool
 bad_body tag s = has_mode tag && bad_mode (mode_of tag s) (time_of tag s)
 
 -- what is found where there is no fault
-unfoldable pub body_read : ℕ → List ℕ → Read
-body_read tag s = Record (call_in tag s) (3 + length_of tag)
-
--- a record before it is put: its bytes, with 0 behind them up to ten, and how many they are
-abbrev pub packet : List ℕ → Packet
-packet l = record { bytes = l ++ replicate (10 - length l) 0; count = length l }
+unfoldable pub body_read : ℕ → List ℕ → Record
+body_read tag s = record { call = call_in tag s; count = 3 + length_of tag }

@@ -1,5 +1,5 @@
 -- What reading finds at the start of bytes (document 01, "Call records", "Refusal numbers").
-use Rattle.std.specs.Prelude.{ℕ, ◌+◌, ◌-◌, Bool, not, ◌&&◌, ◌||◌, List, length, eqb, ltb}
+use Rattle.std.specs.Prelude.{ℕ, ◌+◌, ◌-◌, Bool, not, ◌&&◌, ◌||◌, List, length, eqb, ltb, Result, Ok, Err}
 use Rattle.lists.specs.Lists.{when◌then◌else◌}
 use Rattle.calls.specs.Duration.{signed}
 use Rattle.calls.specs.Record.{byte, four_from, tag_of, length_said, is_unknown, length_of, has_mode, mode_of, time_of}
@@ -9,8 +9,9 @@ use Rattle.calls.specs.declared.SelectMode.{SelectMode}
 use Rattle.calls.specs.declared.SelectMode.TheVariants as S
 use Rattle.calls.specs.declared.Call as C
 use Rattle.calls.specs.declared.Call.TheVariants.{Create, Delay, Call, Select, End, Finish, Tick, Advance}
-use Rattle.calls.specs.declared.Read.{Read}
-use Rattle.calls.specs.declared.Read.TheVariants.{Record, BadRecord, EndOfLog}
+use Rattle.calls.specs.declared.Record.{Record}
+use Rattle.calls.specs.declared.ReadError.{ReadError}
+use Rattle.calls.specs.declared.ReadError.TheVariants.{BadRecord, EndOfLog}
 
 -- ── the six faults of a record ──
 
@@ -67,11 +68,11 @@ call_in tag s =
 -- ── what reading finds ──
 
 -- no bytes left: END_OF_LOG; a fault: BAD_RECORD; else the call and its record's bytes. Bytes behind the record are not looked at
-unfoldable pub read_of : List ℕ → Read
+unfoldable pub read_of : List ℕ → Result Record ReadError
 read_of s =
-    when eqb (length s) 0 then EndOfLog
-    else when faulty s then BadRecord
-    else Record (call_in (tag_of s) s) (3 + length_of (tag_of s))
+    when eqb (length s) 0 then Err EndOfLog
+    else when faulty s then Err BadRecord
+    else Ok (record { call = call_in (tag_of s) s; count = 3 + length_of (tag_of s) })
 
 -- ── the paper's numbers ──
 
@@ -83,17 +84,20 @@ BAD_RECORD = 11
 abbrev pub END_OF_LOG : ℕ
 END_OF_LOG = 12
 
+-- the number of each refusal
+abbrev pub number_of : ReadError → ℕ
+number_of BadRecord = BAD_RECORD
+number_of EndOfLog = END_OF_LOG
+
 -- the refusal number of each answer, 0 for none
-abbrev pub refusal_of : Read → ℕ
-refusal_of (Record c n) = 0
-refusal_of BadRecord = BAD_RECORD
-refusal_of EndOfLog = END_OF_LOG
+abbrev pub refusal_of : Result Record ReadError → ℕ
+refusal_of (Ok r) = 0
+refusal_of (Err e) = number_of e
 
 -- the bytes that each answer takes: a refused read takes 0
-abbrev pub count_of : Read → ℕ
-count_of (Record c n) = n
-count_of BadRecord = 0
-count_of EndOfLog = 0
+abbrev pub count_of : Result Record ReadError → ℕ
+count_of (Ok r) = r.count
+count_of (Err e) = 0
 
 -- the refusal number that bytes call for
 unfoldable pub refusal_for : List ℕ → ℕ

@@ -11,24 +11,26 @@ pub struct Mode {
     pub time: i32,
 }
 
-// The mode of a CALL.
-pub fn mode_of_call(mode: CallMode) -> Mode
-    ensures { result ≡ record { number = call_mode mode; time = call_time mode } }
-{
-    match mode {
-        CallMode::Simple => Mode { number: 0, time: 0 },
-        CallMode::Timed(d) => Mode { number: 1, time: d },
-        CallMode::Conditional => Mode { number: 2, time: 0 },
+impl From<CallMode> for Mode {
+    ghost from_gives = { λ mode m. m ≡ record { number = call_mode mode; time = call_time mode } };
+
+    fn from(mode: CallMode) -> Mode {
+        match mode {
+            CallMode::Simple => Mode { number: 0, time: 0 },
+            CallMode::Timed(d) => Mode { number: 1, time: d },
+            CallMode::Conditional => Mode { number: 2, time: 0 },
+        }
     }
 }
 
-// The mode of a SELECT.
-pub fn mode_of_select(mode: SelectMode) -> Mode
-    ensures { result ≡ record { number = select_mode mode; time = select_time mode } }
-{
-    match mode {
-        SelectMode::Plain => Mode { number: 0, time: 0 },
-        SelectMode::Delay(d) => Mode { number: 1, time: d },
-        SelectMode::Else => Mode { number: 2, time: 0 },
+impl From<SelectMode> for Mode {
+    ghost from_gives = { λ mode m. m ≡ record { number = select_mode mode; time = select_time mode } };
+
+    fn from(mode: SelectMode) -> Mode {
+        match mode {
+            SelectMode::Plain => Mode { number: 0, time: 0 },
+            SelectMode::Delay(d) => Mode { number: 1, time: d },
+            SelectMode::Else => Mode { number: 2, time: 0 },
+        }
     }
 }

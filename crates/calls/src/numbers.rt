@@ -1,6 +1,32 @@
 // The numbers of the refusals of the writer and of the reader.
+ghost use Rattle.std.specs.Prelude.{◌≡◌};
+ghost use Rattle.calls.specs.Reading.{number_of};
+
+use super::{ReadError, ShortRoom};
+
 pub const SHORT_ROOM: u8 = 1;
 
 pub const BAD_RECORD: u8 = 11;
 
 pub const END_OF_LOG: u8 = 12;
+
+impl From<ReadError> for u8 {
+    ghost from_gives = { λ error n. n ≡ number_of error };
+
+    fn from(error: ReadError) -> u8 {
+        match error {
+            ReadError::BadRecord => BAD_RECORD,
+            ReadError::EndOfLog => END_OF_LOG,
+        }
+    }
+}
+
+impl From<ShortRoom> for u8 {
+    ghost use Rattle.calls.specs.declared.numbers.TheConstants.{SHORT_ROOM};
+
+    ghost from_gives = { λ _ n. n ≡ SHORT_ROOM };
+
+    fn from(_error: ShortRoom) -> u8 {
+        SHORT_ROOM
+    }
+}

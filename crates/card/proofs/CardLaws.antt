@@ -10,14 +10,16 @@ use lib.ListN.{length, drop, set}
 use lib.Dec.{eqb}
 use Rattle.lists.specs.Line.{tidy}
 use Rattle.lists.proofs.LineLaws.{length_filter}
-use Rattle.calls.specs.Reading.{read_of}
-use Rattle.calls.specs.declared.Read.{Read}
+use Rattle.calls.specs.Reading.{read_of, number_of}
+use Rattle.calls.specs.declared.Record.{Record}
+use Rattle.calls.specs.declared.ReadError.{ReadError}
+use Rattle.calls.specs.declared.ReadError.TheVariants.{BadRecord, EndOfLog}
 use Rattle.rules.specs.Questions.{number_in, count_by, count_whole}
 use Rattle.rules.specs.Second.{view_second, rows_right, sound_second, step_second, count_second}
 use Rattle.rules.specs.Sound.{sound}
 use Rattle.rules.specs.State.{State, waits_on}
 use Rattle.rules.specs.Step.{room_after}
-use Rattle.rules.specs.Whole.{view_core, view, packed_core, sound_whole, StepOf, step_whole, answer_of}
+use Rattle.rules.specs.Whole.{view_core, view, packed_core, sound_whole, StepOf, step_whole, answer_of, refused_answer}
 use Rattle.rules.specs.declared.Answer.{Answer}
 use Rattle.rules.specs.declared.BadState.{BadState}
 use Rattle.rules.specs.declared.Second.{Second}
@@ -27,7 +29,7 @@ use Rattle.rules.proofs.WholeLaws.{callers_fit}
 use Rattle.codec.specs.Layout.{state_in}
 use Rattle.codec.specs.Rows.{second_in}
 use Rattle.lists.proofs.Tests.{and_second, if-true, if-false}
-use Rattle.card.specs.Answers.{step_by, card_step, second_step, after_by, answer_bytes, if_room}
+use Rattle.card.specs.Answers.{unread, step_by, card_step, second_step, after_by, answer_bytes, if_room}
 
 -- the first byte of lent bytes is set
 pub one_set : (l : List ℕ) (v : ℕ) → 1 ≤ length l → set l 0 v ≡ v ∷ drop 1 l
@@ -70,12 +72,18 @@ pub did_as : {S : Type 0} (put : S → List ℕ → List ℕ) (b room : List ℕ
 did_as {S} put b room w w' a b' room' p d =
     (d.0 ∙ ap answer_of (sym p), (d.1.0 ∙ ap (after_by put b) (sym p), d.1.1 ∙ ap (λ (w : StepOf S). room_after room w.ended) (sym p)))
 
+-- a record that cannot be read: no refusal of the reader is 0, so the bytes stay
+pub did_unread : {S : Type 0} (put : S → List ℕ → List ℕ) (b room : List ℕ) (s : S) (error : ReadError)
+    → Did put b room (unread s (number_of error)) (refused_answer (number_of error) 0) b room
+did_unread put b room s BadRecord = (refl, (refl, refl))
+did_unread put b room s EndOfLog = (refl, (refl, refl))
+
 -- the step of what was read
-pub step_by_lem : (b rec : List ℕ) (n : ℕ) (r : Read) → r ≡ read_of rec → card_step b rec n ≡ step_by step_whole (state_in b) n r
+pub step_by_lem : (b rec : List ℕ) (n : ℕ) (r : Result Record ReadError) → r ≡ read_of rec → card_step b rec n ≡ step_by step_whole (state_in b) n r
 unfolding card_step
 step_by_lem b rec n r e = ap (step_by step_whole (state_in b) n) (sym e)
 
-pub second_step_by : (b rec : List ℕ) (n : ℕ) (r : Read) → r ≡ read_of rec → second_step b rec n ≡ step_by step_second (second_in b) n r
+pub second_step_by : (b rec : List ℕ) (n : ℕ) (r : Result Record ReadError) → r ≡ read_of rec → second_step b rec n ≡ step_by step_second (second_in b) n r
 unfolding second_step
 second_step_by b rec n r e = ap (step_by step_second (second_in b) n) (sym e)
 

@@ -1,10 +1,10 @@
 -- What the functions of the card answer, and what they leave in lent bytes.
-use Rattle.std.specs.Prelude.{ℕ, List, [], ◌∷◌, length, drop, eqb, ltb}
+use Rattle.std.specs.Prelude.{ℕ, List, [], ◌∷◌, length, drop, eqb, ltb, Result, Ok, Err}
 use Rattle.lists.specs.Lists.{when◌then◌else◌}
-use Rattle.calls.specs.Reading.{read_of, refusal_of}
+use Rattle.calls.specs.Reading.{read_of, number_of}
 use Rattle.calls.specs.declared.Call as C
-use Rattle.calls.specs.declared.Read.{Read}
-use Rattle.calls.specs.declared.Read.TheVariants.{Record, BadRecord, EndOfLog}
+use Rattle.calls.specs.declared.Record.{Record}
+use Rattle.calls.specs.declared.ReadError.{ReadError}
 use Rattle.rules.specs.Step.{none}
 use Rattle.rules.specs.Second.{step_second}
 use Rattle.rules.specs.Whole.{StepOf, Whole, step_whole}
@@ -20,10 +20,9 @@ abbrev pub unread : {S : Type 0} → S → ℕ → StepOf S
 unread s n = record { refusal = n; answer = none; ended = []; next = 0; state = s }
 
 -- the step of the call that was read, with a room of so many bytes
-abbrev pub step_by : {S : Type 0} → (S → C.Call → ℕ → StepOf S) → S → ℕ → Read → StepOf S
-step_by step s room (Record c n) = step s c room
-step_by step s room BadRecord = unread s (refusal_of BadRecord)
-step_by step s room EndOfLog = unread s (refusal_of EndOfLog)
+abbrev pub step_by : {S : Type 0} → (S → C.Call → ℕ → StepOf S) → S → ℕ → Result Record ReadError → StepOf S
+step_by step s room (Ok r) = step s r.call room
+step_by step s room (Err error) = unread s (number_of error)
 
 -- the step of lent bytes by a record: of the first engine, and of the second
 unfoldable pub card_step : List ℕ → List ℕ → ℕ → Whole

@@ -9,8 +9,8 @@ ghost use Rattle.codec.specs.Rows.{second_size, second_in, stored_second};
 ghost use Rattle.card.specs.Answers.{second_step, second_after, answer_bytes, if_room, one_after};
 
 use super::{flag, put_answer, put_asked};
-use calls::numbers::{BAD_RECORD, END_OF_LOG, SHORT_ROOM};
-use calls::{Call, Read};
+use calls::Call;
+use calls::numbers::SHORT_ROOM;
 use codec::rows::{SECOND_SIZE, second_in, second_store};
 use rules::Answer;
 use steps::answers::refused_answer;
@@ -58,11 +58,9 @@ fn take_record(state: &mut [u8], record: &[u8], room: &mut [u8]) -> Answer
     ensures state_after { state.new ≡ second_after state.old (second_step state.old «record».now (length room.old)) }
     ensures room_after { room.new ≡ room_after room.old (second_step state.old «record».now (length room.old)).ended }
 {
-    let read = calls::read_record(record);
-    match read {
-        Read::Record { call, count: _ } => take_call(state, call, room),
-        Read::BadRecord => refused_answer(BAD_RECORD, 0),
-        Read::EndOfLog => refused_answer(END_OF_LOG, 0),
+    match calls::read_record(record) {
+        Ok(read) => take_call(state, read.call, room),
+        Err(error) => refused_answer(error.into(), 0),
     }
 }
 

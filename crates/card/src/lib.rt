@@ -14,8 +14,8 @@ ghost use Rattle.rules.specs.Whole.{pack, sound_whole, step_whole, answer_of};
 ghost use Rattle.card.specs.Answers.{card_step, state_after, answer_bytes, if_room, one_after};
 ghost use Rattle.codec.specs.Layout.{state_size, state_in, stored};
 
-use calls::numbers::{BAD_RECORD, END_OF_LOG, SHORT_ROOM};
-use calls::{Call, Read};
+use calls::Call;
+use calls::numbers::SHORT_ROOM;
 use codec::{STATE_SIZE, put_at, state_in, store};
 use rules::{Answer, BadState};
 use steps::answers::refused_answer;
@@ -70,11 +70,9 @@ fn take_record(state: &mut [u8], record: &[u8], room: &mut [u8]) -> Answer
     ensures state_after { state.new ≡ state_after state.old (card_step state.old «record».now (length room.old)) }
     ensures room_after { room.new ≡ room_after room.old (card_step state.old «record».now (length room.old)).ended }
 {
-    let read = calls::read_record(record);
-    match read {
-        Read::Record { call, count: _ } => take_call(state, call, room),
-        Read::BadRecord => refused_answer(BAD_RECORD, 0),
-        Read::EndOfLog => refused_answer(END_OF_LOG, 0),
+    match calls::read_record(record) {
+        Ok(read) => take_call(state, read.call, room),
+        Err(error) => refused_answer(error.into(), 0),
     }
 }
 

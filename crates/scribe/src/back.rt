@@ -1,5 +1,5 @@
 // Records to text, a line for each.
-use calls::{Call, Read};
+use calls::{Call, Record};
 use script::put_call;
 use stream::errors::tell_record;
 use stream::flow::{Flow, begun, done, fed, passed};
@@ -63,7 +63,7 @@ fn turn<R: Input + Print + Eprint>(rt: &R, r: Records, buf: &mut [u8], out: &mut
     let end = least(r.flow.window.end, buf.len());
     let at = least(r.flow.window.at, end);
     let got = calls::read_record(&buf[at..end]);
-    let Read::Record { call, count } = got else {
+    let Ok(Record { call, count }) = got else {
         return without(rt, r, end - at, buf, out);
     };
     taken(rt, r, call, std::num::wrapping_add_usize(at, count), out)

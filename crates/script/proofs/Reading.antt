@@ -1,20 +1,16 @@
 -- From what the parts of the reader promise to what a line says.
 -- Assumes nothing.
-use Prim.Native.Nat.{ℕ, ◌-◌, ◌≤◌, ◌<◌, min}
+use Prim.Native.Nat.{ℕ, ◌-◌, ◌≤◌, ◌<◌}
 use mathlib.Core.Path.{◌≡◌, refl, sym, ap, ◌∙◌}
 use mathlib.Core.Bool.{true, false, false≢true}
 use mathlib.Core.List.{List, [], ◌∷◌}
 use native.Mathlib.Omega.{arith}
 use lib.Dec.{eqb}
-use lib.ListN.{length, take, drop, length-take}
-use lib.Seq.{take_all, take_at}
-use borrow.Author.Tests.{eqb-true, eq-eqb, le-ltb}
+use lib.ListN.{length, length-take}
+use lib.Seq.{take_all}
+use borrow.Author.Tests.{eqb-true, eq-eqb}
 use Rattle.lists.proofs.Tests.{and_first, and_second}
-use Rattle.calls.specs.Record.{encode}
-use Rattle.calls.specs.Writing.{written_of, room_written}
-use Rattle.calls.specs.declared.Written.{Written}
 use Rattle.calls.specs.declared.Call as C
-use Rattle.calls.proofs.Packets.{at_most_ten}
 use Rattle.script.specs.CallText.{text_of}
 use Rattle.script.specs.Rows.{text_in, cut, Grown}
 use Rattle.script.specs.Says.{Fits, Says}
@@ -25,18 +21,6 @@ use Rattle.script.specs.declared.Line.TheVariants as L
 use Rattle.script.proofs.Growing.{then_grown, alone}
 use Rattle.script.proofs.Back.{guess_back}
 use Rattle.script.proofs.Shape.{text_short}
-
--- ── the record of a call ──
-
--- what is taken of ten bytes that a record was written into is the record
-pub record_taken : (c : C.Call) (room after : List ℕ) (w : Written) (n : ℕ) → length room ≡ 10 → w ≡ written_of (encode c) room
-    → after ≡ room_written (encode c) room → n ≡ min w.count 10 → take (n - 0) after ≡ encode c
-record_taken c room after w n h p q m =
-    let s = at_most_ten c in
-    let f = le-ltb (length room) (length (encode c)) (omega arith) in
-    let p' : w.count ≡ length (encode c) = ap (λ (w : Written). w.count) p ∙ rw f refl in
-    let k : length (encode c) ≡ n - 0 = omega arith in
-    ap (take (n - 0)) (q ∙ rw f refl) ∙ take_at (encode c) (drop (length (encode c)) room) (n - 0) k
 
 -- ── the guess ──
 

@@ -21,7 +21,7 @@ use Rattle.calls.specs.Range.{Bytes}
 use Rattle.calls.specs.declared.CallMode.TheVariants.{Simple, Timed, Conditional}
 use Rattle.calls.specs.declared.SelectMode.TheVariants as S
 use Rattle.calls.specs.declared.Call as C
-use Rattle.calls.specs.declared.Read.TheVariants.{Record}
+use Rattle.std.specs.Prelude.{Ok}
 use Rattle.calls.proofs.Round.{accepted_as, accepted_is}
 use Rattle.script.specs.CallText.{text_of}
 use Rattle.script.specs.Words.{words_of}
@@ -90,7 +90,7 @@ call_in_fits s all tag =
     (either Fits (eqb tag 7) tt (four_small s all 3)))))))
 
 -- the text printed for a record reads back as that record: whatever its line is read as has the record's bytes
-pub record_back : (s : List ℕ) (c : C.Call) (n : ℕ) (r : Line) → Bytes s → read_of s ≡ Record c n → Says (words_of (text_of c)) r → record_of r ≡ take n s
+pub record_back : (s : List ℕ) (c : C.Call) (n : ℕ) (r : Line) → Bytes s → read_of s ≡ Ok (record { call = c; count = n }) → Says (words_of (text_of c)) r → record_of r ≡ take n s
 record_back s c n r all e p =
     let f : Fits c = subst Fits (sym (accepted_as s c n e).call) (call_in_fits s all (tag_of s)) in
     ap record_of (said_once (words_of (text_of c)) r (L.Says c) p (text_read c f)) ∙ sym (accepted_is s c n all e)

@@ -10,7 +10,7 @@ ghost use Rattle.script.specs.Says.{Fits, record_of};
 use crate::row::{Row, empty, with_byte, with_number};
 use crate::word::with_word;
 use crate::{Line, word};
-use calls::modes::{Mode, mode_of_call, mode_of_select};
+use calls::modes::Mode;
 use calls::{Call, CallMode, SelectMode, ticks};
 use text::{least, put_bytes};
 
@@ -109,7 +109,7 @@ fn with_entry_call(row: Row, target: u8, entry: u8, mode: CallMode) -> Row
     ensures { Grown row (text_of (Call.Call target entry mode)) result }
 {
     let k = with_pair(row, word::CALL, target, entry);
-    with_mode(k, word::TIMED, word::CONDITIONAL, mode_of_call(mode))
+    with_mode(k, word::TIMED, word::CONDITIONAL, Mode::from(mode))
 }
 
 fn with_select(row: Row, set: u8, mode: SelectMode) -> Row
@@ -117,7 +117,7 @@ fn with_select(row: Row, set: u8, mode: SelectMode) -> Row
 {
     let k = with_word(row, word::SELECT);
     let l = with_open(k, set);
-    with_mode(l, word::WITH_DELAY, word::ELSE, mode_of_select(mode))
+    with_mode(l, word::WITH_DELAY, word::ELSE, Mode::from(mode))
 }
 
 // The text of a call. Its numbers are those of its types, so it is short.
@@ -159,9 +159,8 @@ pub fn put_record(line: Line, out: &mut [u8], at: usize) -> usize
         Line::Nothing => least(at, out.len()),
         Line::Says(c) => {
             let mut room = [0u8; 10];
-            let w = calls::write_record(c, &mut room);
-            let n = least(w.count, 10);
-            put_bytes(&room[0..n], out, at)
+            let n = calls::write_record(c, &mut room).unwrap();
+            put_bytes(&room[..n], out, at)
         }
         Line::Unread => least(at, out.len()),
     }

@@ -2,9 +2,10 @@
 use Rattle.std.proofs.Common.{◌≡◌, ℕ, ◌≤◌, Bool, false, not, ◌&&◌, eqb, ltb, List, ◌++◌, length, refl, ◌∙◌, arith, length-append, ltb-false, le-ltb}
 use mathlib.Core.Bool.{and-false}
 use Rattle.lists.proofs.ListLaws.{by_bool}
-use Rattle.calls.specs.Reading.{END_OF_LOG, read_of}
-use Rattle.calls.specs.declared.Read.{Read}
-use Rattle.calls.specs.declared.Read.TheVariants.{Record, BadRecord, EndOfLog}
+use Rattle.calls.specs.Reading.{END_OF_LOG, read_of, number_of}
+use Rattle.calls.specs.declared.Record.{Record}
+use Rattle.calls.specs.declared.ReadError.{ReadError}
+use Rattle.std.specs.Prelude.{Result, Ok, Err}
 use Rattle.calls.proofs.Round.{accepted_as}
 use Rattle.calls.proofs.Behind.{accepted_ahead, ten_ahead}
 use Rattle.session.specs.Turn.{Engine, turn_of, turn_by, took, leaves}
@@ -23,15 +24,13 @@ module _ {S : Type 0} (g : Engine S) (s : S) (room : List ℕ) where
 
   module _ (input rest : List ℕ) (last : Bool) where
     -- a turn that asks for no more bytes, by what it has read
-    settled_by : (r : Read) → read_of input ≡ r → ((turn_by g s r (length input) false room).next ≡ More → ⊥)
+    settled_by : (r : Result Record ReadError) → read_of input ≡ r → ((turn_by g s r (length input) false room).next ≡ More → ⊥)
         → turn_by g s (read_of (input ++ rest)) (length (input ++ rest)) last room ≡ turn_by g s r (length input) false room
-    settled_by (Record c k) e h = rw (accepted_ahead input rest c k e)
-    settled_by BadRecord e h =
-        let t = ten_there 11 (length input) h in
-        rw (ten_ahead input rest t ∙ e) (leaves_ahead 11 (length input) (length (input ++ rest)) last t (omega (arith, length-append input rest)))
-    settled_by EndOfLog e h =
-        let t = ten_there 12 (length input) h in
-        rw (ten_ahead input rest t ∙ e) (leaves_ahead 12 (length input) (length (input ++ rest)) last t (omega (arith, length-append input rest)))
+    settled_by (Ok r) e h = rw (accepted_ahead input rest r.call r.count e)
+    settled_by (Err error) e h =
+        let n = number_of error in
+        let t = ten_there n (length input) h in
+        rw (ten_ahead input rest t ∙ e) (leaves_ahead n (length input) (length (input ++ rest)) last t (omega (arith, length-append input rest)))
 
     -- is the same whatever bytes come behind, and whether any do
     pub settled : ((turn_of g s input false room).next ≡ More → ⊥) → turn_of g s (input ++ rest) last room ≡ turn_of g s input false room
@@ -46,11 +45,10 @@ module _ {S : Type 0} (g : Engine S) (s : S) (room : List ℕ) where
       by_bool (not last && ltb many 10) (λ e. simp e) (λ e. by_bool (eqb n END_OF_LOG) (λ f. simp (e, f)) (λ f. simp (e, f)))
 
   module _ (input : List ℕ) (last : Bool) where
-    within_by : (r : Read) → read_of input ≡ r → (turn_by g s r (length input) last room).count ≤ length input
+    within_by : (r : Result Record ReadError) → read_of input ≡ r → (turn_by g s r (length input) last room).count ≤ length input
     unfolding took
-    within_by (Record c k) e = let a = accepted_as input c k e in let f = a.frame.fits in omega (arith, a.count)
-    within_by BadRecord e = omega (arith, leaves_none 11 (length input) last)
-    within_by EndOfLog e = omega (arith, leaves_none 12 (length input) last)
+    within_by (Ok r) e = let a = accepted_as input r.call r.count e in let f = a.frame.fits in omega (arith, a.count)
+    within_by (Err error) e = omega (arith, leaves_none (number_of error) (length input) last)
 
     -- no more bytes than it is given
     pub turn_within : (turn_of g s input last room).count ≤ length input

@@ -1,10 +1,14 @@
 -- From what the parts of a turn promise to what the turn promises.
 -- Assumes nothing.
+use denote.Enum.Bare.{sameb}
 use Rattle.std.proofs.Common.{◌≡◌, ℕ, ◌≤◌, Bool, true, false, not, ◌&&◌, eqb, ltb, List, [], length, sym, refl, ap, ◌∙◌, subst}
 use Rattle.calls.specs.declared.Call as C
-use Rattle.calls.specs.declared.Read.{Read}
-use Rattle.calls.specs.declared.Read.TheVariants.{Record, BadRecord, EndOfLog}
-use Rattle.calls.specs.Reading.{read_of, refusal_of}
+use Rattle.calls.specs.declared.Record.{Record}
+use Rattle.calls.specs.declared.ReadError.{ReadError}
+use Rattle.calls.specs.declared.ReadError.TheVariants.{BadRecord, EndOfLog}
+use Rattle.calls.specs.contracts.ReadError.{the_type}
+use Rattle.std.specs.Prelude.{Result, Ok, Err}
+use Rattle.calls.specs.Reading.{read_of, number_of}
 use Rattle.lists.proofs.ListLaws.{by_bool}
 use Rattle.rules.specs.Step.{room_after}
 use Rattle.rules.specs.Whole.{refused_answer}
@@ -14,6 +18,11 @@ use Rattle.text.specs.Text.{Put, put_at}
 use Rattle.session.specs.Turn.{Engine, Turn, took, left, leaves, turn_by, turn_of, turned_by}
 use Rattle.session.specs.declared.turns.Next.{Next}
 use Rattle.session.specs.declared.turns.Next.TheVariants.{Again, More, Stop}
+
+-- `==` with the end of the log is the test of the number
+pub is_over : (error : ReadError) → sameb the_type error EndOfLog ≡ eqb (number_of error) 12
+is_over BadRecord = refl
+is_over EndOfLog = refl
 
 -- what a turn prints, and that it is no longer than a line
 abbrev pub Prints : {S : Type 0} → Turn S → List ℕ → ℕ → List ℕ → Type 0
@@ -65,17 +74,12 @@ module _ {S : Type 0} (g : Engine S) (s : S) where
   took_is c k room after a next e f h = λ i. record { session = h i; count = k; next = Again; text = line_text (g.number s) (e i) (f i); room = f i }
 
   -- what was read decides the turn
-  other_than_record : (got : Read) (many : ℕ) (last : Bool) (room : List ℕ) → ((c : C.Call) (k : ℕ) → got ≡ Record c k → ⊥)
-      → leaves g s (refusal_of got) many last room ≡ turn_by g s got many last room
-  other_than_record (Record c k) many last room h = absurd (h c k refl)
-  other_than_record BadRecord many last room h = refl
-  other_than_record EndOfLog many last room h = refl
+  module _ (input : List ℕ) (last : Bool) (room : List ℕ) (got : Result Record ReadError) (e : got ≡ read_of input) where
+    by_read : (r : Result Record ReadError) → got ≡ r → turn_by g s r (length input) last room ≡ turn_of g s input last room
+    by_read r f = ap (λ (x : Result Record ReadError). turn_by g s x (length input) last room) (sym f ∙ e)
 
-  module _ (input : List ℕ) (last : Bool) (room : List ℕ) (got : Read) (e : got ≡ read_of input) where
-    pub turn_refused : (n : ℕ) → ((c : C.Call) (k : ℕ) → got ≡ Record c k → ⊥) → n ≡ refusal_of got → leaves g s n (length input) last room ≡ turn_of g s input last room
-    turn_refused n h q =
-        ap (λ (x : ℕ). leaves g s x (length input) last room) q ∙ other_than_record got (length input) last room h
-        ∙ ap (λ (x : Read). turn_by g s x (length input) last room) e
+    pub turn_refused : (error : ReadError) → got ≡ Err error → leaves g s (number_of error) (length input) last room ≡ turn_of g s input last room
+    turn_refused error f = by_read (Err error) f
 
-    pub turn_took : (c : C.Call) (k : ℕ) → got ≡ Record c k → took g s c k room ≡ turn_of g s input last room
-    turn_took c k f = ap (λ (x : Read). turn_by g s x (length input) last room) (sym f ∙ e)
+    pub turn_took : (c : C.Call) (k : ℕ) → got ≡ Ok (record { call = c; count = k }) → took g s c k room ≡ turn_of g s input last room
+    turn_took c k f = by_read (Ok (record { call = c; count = k })) f

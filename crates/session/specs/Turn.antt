@@ -1,10 +1,10 @@
 -- One turn of stepper: the record at the start of the input is read, its call taken, and its line printed. With either engine.
 -- Assumes nothing.
-use Rattle.std.specs.Prelude.{ℕ, Bool, cond, not, ◌&&◌, List, [], length, ◌==◌, nat_lt}
+use Rattle.std.specs.Prelude.{ℕ, Bool, cond, not, ◌&&◌, List, [], length, ◌==◌, nat_lt, Result, Ok, Err}
 use Rattle.calls.specs.declared.Call as C
-use Rattle.calls.specs.declared.Read.{Read}
-use Rattle.calls.specs.declared.Read.TheVariants.{Record, BadRecord, EndOfLog}
-use Rattle.calls.specs.Reading.{END_OF_LOG, read_of, refusal_of}
+use Rattle.calls.specs.declared.Record.{Record}
+use Rattle.calls.specs.declared.ReadError.{ReadError}
+use Rattle.calls.specs.Reading.{END_OF_LOG, read_of, number_of}
 use Rattle.rules.specs.Questions.{number_in, running_whole}
 use Rattle.rules.specs.Second.{step_second, running_second}
 use Rattle.rules.specs.Step.{room_after}
@@ -82,10 +82,9 @@ leaves e s n many last room =
     (left s Stop (line_text (e.number s) (refused_answer n (e.runs s)) room) room))
 
 -- a turn by what was read
-abbrev pub turn_by : {S : Type 0} → Engine S → S → Read → ℕ → Bool → List ℕ → Turn S
-turn_by e s (Record c k) many last room = took e s c k room
-turn_by e s BadRecord many last room = leaves e s (refusal_of BadRecord) many last room
-turn_by e s EndOfLog many last room = leaves e s (refusal_of EndOfLog) many last room
+abbrev pub turn_by : {S : Type 0} → Engine S → S → Result Record ReadError → ℕ → Bool → List ℕ → Turn S
+turn_by e s (Ok r) many last room = took e s r.call r.count room
+turn_by e s (Err error) many last room = leaves e s (number_of error) many last room
 
 -- one turn on the input; `last` says that no more bytes come behind it
 abbrev pub turn_of : {S : Type 0} → Engine S → S → List ℕ → Bool → List ℕ → Turn S

@@ -1,12 +1,12 @@
 // One turn with the second engine: as `turns`, but for the state and the functions that take it.
 ghost use Rattle.std.specs.Prelude.{◌≡◌, ◌≤◌, length};
+ghost use Rattle.calls.specs.Reading.{number_of};
 ghost use Rattle.report.specs.Lines.{longest_line};
 ghost use Rattle.text.specs.Text.{put_at};
 ghost use Rattle.session.specs.Turn.{second, turn_of, second_turned_of, took, leaves};
 
-use crate::turns::{Next, refusal_of};
-use calls::numbers::END_OF_LOG;
-use calls::{Call, Read};
+use crate::turns::Next;
+use calls::{Call, ReadError, Record};
 use report::put_line;
 use rules::Second;
 
@@ -59,16 +59,16 @@ fn taken(
 // No record: more bytes are asked for, the log is over, or a last line says what is wrong.
 fn refused(
     s: SecondSession,
-    n: u8,
+    error: ReadError,
     many: usize,
     last: bool,
     room: &[u8],
     out: &mut [u8],
     at: usize,
 ) -> SecondTurned
-    ensures value { result ≡ second_turned_of (leaves second s n many last room.now) out.old at }
-    ensures out_after { out.new ≡ put_at out.old at (leaves second s n many last room.now).text }
-    ensures room_len_bound { length (leaves second s n many last room.now).text ≤ longest_line }
+    ensures value { result ≡ second_turned_of (leaves second s (number_of error) many last room.now) out.old at }
+    ensures out_after { out.new ≡ put_at out.old at (leaves second s (number_of error) many last room.now).text }
+    ensures room_len_bound { length (leaves second s (number_of error) many last room.now).text ≤ longest_line }
 {
     if !last & (many < 10) {
         return SecondTurned {
@@ -78,7 +78,7 @@ fn refused(
             next: Next::More,
         };
     }
-    if n == END_OF_LOG {
+    if error == ReadError::EndOfLog {
         return SecondTurned {
             session: s,
             count: 0,
@@ -87,7 +87,7 @@ fn refused(
         };
     }
     let runs = second::running(s.state).unwrap_or(0);
-    let answer = steps::answers::refused_answer(n, runs);
+    let answer = steps::answers::refused_answer(error.into(), runs);
     let place = put_line(s.step, answer, room, out, at);
     SecondTurned {
         session: s,
@@ -112,8 +112,8 @@ pub fn turn(
     ensures room_len_bound { length (turn_of second s input.now last room.old).text ≤ longest_line }
 {
     let got = calls::read_record(input);
-    let Read::Record { call, count } = got else {
-        return refused(s, refusal_of(got), input.len(), last, room, out, at);
+    let Ok(Record { call, count }) = got else {
+        return refused(s, got.unwrap_err(), input.len(), last, room, out, at);
     };
     taken(s, call, count, room, out, at)
 }

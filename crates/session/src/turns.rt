@@ -1,12 +1,11 @@
 // One turn: the record at the start of the input is read, its call taken, and its line printed.
 ghost use Rattle.std.specs.Prelude.{◌≡◌, ◌≤◌, length};
-ghost use Rattle.calls.specs.Reading.{refusal_of};
+ghost use Rattle.calls.specs.Reading.{number_of};
 ghost use Rattle.report.specs.Lines.{longest_line};
 ghost use Rattle.text.specs.Text.{put_at};
 ghost use Rattle.session.specs.Turn.{first, turn_of, turned_of, took, leaves};
 
-use calls::numbers::{BAD_RECORD, END_OF_LOG};
-use calls::{Call, Read};
+use calls::{Call, ReadError, Record};
 use report::put_line;
 use rules::Supervisor;
 
@@ -57,30 +56,19 @@ fn taken(s: Session, call: Call, count: usize, room: &mut [u8], out: &mut [u8], 
     }
 }
 
-// The refusal number of what was read, 0 for a record.
-pub(crate) fn refusal_of(got: Read) -> u8
-    ensures { result ≡ refusal_of got }
-{
-    match got {
-        Read::Record { call: _, count: _ } => 0,
-        Read::BadRecord => BAD_RECORD,
-        Read::EndOfLog => END_OF_LOG,
-    }
-}
-
 // No record: more bytes are asked for, the log is over, or a last line says what is wrong.
 fn refused(
     s: Session,
-    n: u8,
+    error: ReadError,
     many: usize,
     last: bool,
     room: &[u8],
     out: &mut [u8],
     at: usize,
 ) -> Turned
-    ensures value { result ≡ turned_of (leaves first s n many last room.now) out.old at }
-    ensures out_after { out.new ≡ put_at out.old at (leaves first s n many last room.now).text }
-    ensures room_len_bound { length (leaves first s n many last room.now).text ≤ longest_line }
+    ensures value { result ≡ turned_of (leaves first s (number_of error) many last room.now) out.old at }
+    ensures out_after { out.new ≡ put_at out.old at (leaves first s (number_of error) many last room.now).text }
+    ensures room_len_bound { length (leaves first s (number_of error) many last room.now).text ≤ longest_line }
 {
     if !last & (many < 10) {
         return Turned {
@@ -90,7 +78,7 @@ fn refused(
             next: Next::More,
         };
     }
-    if n == END_OF_LOG {
+    if error == ReadError::EndOfLog {
         return Turned {
             session: s,
             count: 0,
@@ -99,7 +87,7 @@ fn refused(
         };
     }
     let runs = supervisor::running(s.state).unwrap_or(0);
-    let answer = steps::answers::refused_answer(n, runs);
+    let answer = steps::answers::refused_answer(error.into(), runs);
     let place = put_line(s.step, answer, room, out, at);
     Turned {
         session: s,
@@ -124,8 +112,8 @@ pub fn turn(
     ensures room_len_bound { length (turn_of first s input.now last room.old).text ≤ longest_line }
 {
     let got = calls::read_record(input);
-    let Read::Record { call, count } = got else {
-        return refused(s, refusal_of(got), input.len(), last, room, out, at);
+    let Ok(Record { call, count }) = got else {
+        return refused(s, got.unwrap_err(), input.len(), last, room, out, at);
     };
     taken(s, call, count, room, out, at)
 }

@@ -13,8 +13,9 @@ use Rattle.lists.proofs.ListLaws.{by_bool}
 use Rattle.lists.proofs.Tests.{differ, if-true, if-false}
 use Rattle.calls.specs.Reading.{read_of}
 use Rattle.calls.specs.declared.Call as C
-use Rattle.calls.specs.declared.Read.{Read}
-use Rattle.calls.specs.declared.Read.TheVariants.{Record, BadRecord, EndOfLog}
+use Rattle.calls.specs.declared.Record.{Record}
+use Rattle.calls.specs.declared.ReadError.{ReadError}
+use Rattle.std.specs.Prelude.{Result, Ok, Err}
 use Rattle.rules.specs.State.{empty}
 use Rattle.rules.specs.Step.{room_after}
 use Rattle.rules.specs.Whole.{Typed, Whole, step_whole, answer_of}
@@ -28,7 +29,7 @@ use Rattle.rules.proofs.OverRuns.{empty_sound}
 use Rattle.codec.specs.Layout.{state_size, encode, state_in, stored}
 use Rattle.codec.proofs.Kept as codec
 use Rattle.card.specs.Answers.{step_by, state_after, answer_bytes, if_room}
-use Rattle.card.proofs.CardLaws.{step_by_lem}
+use Rattle.card.proofs.CardLaws.{did_unread, step_by_lem}
 use Rattle.statements.specs.Statement3.{reached}
 use Rattle.statements.specs.Library.{CardUse, step_in, KeepsCard, CardChain, left_by, answer_in, uses_by, uses_of, uses_in, RunsCard, Library}
 
@@ -109,7 +110,7 @@ module _ (b : List ℕ) (u : CardUse) (k : KeepsCard b u) where
       )
 
   -- with room, what is done is the step of what was read
-  module _ (f : ltb (length u.answer) 7 ≡ false) (r : Read) (e : read_of u.sent ≡ r) where
+  module _ (f : ltb (length u.answer) 7 ≡ false) (r : Result Record ReadError) (e : read_of u.sent ≡ r) where
     abbrev does : Whole
     does = step_by step_whole (state_in b) (length u.room) r
 
@@ -125,17 +126,20 @@ module _ (b : List ℕ) (u : CardUse) (k : KeepsCard b u) where
     told_is : answer_in u.told ≡ answer_of does
     told_is = ap answer_in (k.told ∙ if-false _ _ _ f) ∙ answer_back (answer_of (step_in b u)) (drop 7 u.answer) ∙ ap answer_of is
 
-  took : (b₀ : List ℕ) → Holds b₀ b → ltb (length u.answer) 7 ≡ false → (r : Read) → read_of u.sent ≡ r → Takes b₀ b (uses_by u r) u.left
-  took b₀ h f (Record c n) e =
-      let l = left_is f (Record c n) e in
-      let t = told_is f (Record c n) e in
-      let s = stepped b₀ b h c (length u.room) in
+  -- a record that cannot be read leaves the bytes as they were
+  unread_left : ltb (length u.answer) 7 ≡ false → (error : ReadError) → read_of u.sent ≡ Err error → u.left ≡ b
+  unread_left f error e = left_is f (Err error) e ∙ sym (did_unread stored b u.room (state_in b) error).1.0
+
+  took : (b₀ : List ℕ) → Holds b₀ b → ltb (length u.answer) 7 ≡ false → (r : Result Record ReadError) → read_of u.sent ≡ r → Takes b₀ b (uses_by u r) u.left
+  took b₀ h f (Ok r) e =
+      let l = left_is f (Ok r) e in
+      let t = told_is f (Ok r) e in
+      let s = stepped b₀ b h r.call (length u.room) in
       let g = ap state_in l ∙ s.0 in
-      let kept : Keeps (state_in b) (record { call = c; lent = u.room; gave = record { state = state_in u.left; answer = answer_in u.told }; wrote = u.wrote }) =
-      record { answer = λ i. record { state = g i; answer = t i }; room = wrote_is f (Record c n) e } in
+      let kept : Keeps (state_in b) (record { call = r.call; lent = u.room; gave = record { state = state_in u.left; answer = answer_in u.told }; wrote = u.wrote }) =
+      record { answer = λ i. record { state = g i; answer = t i }; room = wrote_is f (Ok r) e } in
       record { holds = subst (Holds b₀) (sym l) s.1; chain = λ more m. (kept, m); ends = λ more. refl }
-  took b₀ h f BadRecord e = stays b₀ b u.left h (left_is f BadRecord e)
-  took b₀ h f EndOfLog e = stays b₀ b u.left h (left_is f EndOfLog e)
+  took b₀ h f (Err error) e = stays b₀ b u.left h (unread_left f error e)
 
   takes : (b₀ : List ℕ) → Holds b₀ b → Takes b₀ b (uses_of u) u.left
   takes b₀ h =
@@ -148,10 +152,9 @@ module _ (b : List ℕ) (u : CardUse) (k : KeepsCard b u) where
       let f = le-ltb (length u.answer) 7 h in
       k.returned ∙ if-false _ _ _ f ∙ sym (ap (λ (x : List ℕ). (answer_in x).refusal) (k.told ∙ if-false _ _ _ f))
 
-  idle : (r : Read) → read_of u.sent ≡ r → ltb (length u.answer) 7 ≡ false → uses_by u r ≡ [] → (u.left ≡ b) × (u.wrote ≡ u.room)
-  idle (Record c n) e f z = let q : ◌≡◌ {A = ℕ} 1 0 = ap length z in absurd (omega (arith, q))
-  idle BadRecord e f z = (left_is f BadRecord e, wrote_is f BadRecord e)
-  idle EndOfLog e f z = (left_is f EndOfLog e, wrote_is f EndOfLog e)
+  idle : (r : Result Record ReadError) → read_of u.sent ≡ r → ltb (length u.answer) 7 ≡ false → uses_by u r ≡ [] → (u.left ≡ b) × (u.wrote ≡ u.room)
+  idle (Ok r) e f z = let q : ◌≡◌ {A = ℕ} 1 0 = ap length z in absurd (omega (arith, q))
+  idle (Err error) e f z = (unread_left f error e, wrote_is f (Err error) e)
 
   idles : uses_of u ≡ [] → (u.left ≡ b) × (u.wrote ≡ u.room)
   idles z = by_bool (ltb (length u.answer) 7) short (λ f. idle (read_of u.sent) refl f (sym (if-false _ _ _ f) ∙ z))

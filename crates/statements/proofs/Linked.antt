@@ -26,8 +26,10 @@ use Rattle.workspace.proofs.owned.release.Met as owned_release
 use Rattle.calls.proofs.durations.ticks.Met as ticks
 use Rattle.calls.proofs.durations.word.Met as word
 use Rattle.calls.proofs.durations.bytes_of.Met as bytes_of
-use Rattle.calls.proofs.modes.mode_of_call.Met as mode_of_call
-use Rattle.calls.proofs.modes.mode_of_select.Met as mode_of_select
+use Rattle.calls.proofs.modes.ModeFromCallMode.from.Met as mode_of_call
+use Rattle.calls.proofs.modes.ModeFromSelectMode.from.Met as mode_of_select
+use Rattle.calls.proofs.numbers.U8FromReadError.from.Met as read_error_number
+use Rattle.calls.proofs.numbers.U8FromShortRoom.from.Met as short_room_number
 use Rattle.statements.specs.Linked.{Linked}
 
 pub linked : Linked
@@ -59,6 +61,8 @@ linked = record {
   bytes_of = bytes_of.met;
   mode_of_call = mode_of_call.met;
   mode_of_select = mode_of_select.met;
+  read_error_number = read_error_number.met;
+  short_room_number = short_room_number.met;
   card_empty_asks = λ κs x. tt;
   card_sound_asks = λ κs x. tt;
   card_step_asks = λ κs x. tt;
@@ -84,4 +88,6 @@ linked = record {
   bytes_of_asks = λ κs x. tt;
   mode_of_call_asks = λ κs x. tt;
   mode_of_select_asks = λ κs x. tt;
+  read_error_number_asks = λ κs x. tt;
+  short_room_number_asks = λ κs x. tt;
 }

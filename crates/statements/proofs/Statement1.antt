@@ -24,10 +24,11 @@ use Rattle.rules.specs.Questions.{refusal_in, number_in, yes_in, count_whole, ca
 use Rattle.rules.specs.declared.Supervisor.{Supervisor}
 use Rattle.calls.specs.Record.{encode}
 use Rattle.calls.specs.Reading.{read_of, refusal_of, count_of}
-use Rattle.calls.specs.Writing.{written_of, room_written}
+use Rattle.calls.specs.Writing.{written_of, room_written, write_refusal_of}
 use Rattle.calls.specs.declared.Call as C
-use Rattle.calls.specs.declared.Read as R
-use Rattle.calls.specs.declared.Read.TheVariants.{Record, BadRecord, EndOfLog}
+use Rattle.calls.specs.declared.Record.{Record}
+use Rattle.calls.specs.declared.ReadError.{ReadError}
+use Rattle.std.specs.Prelude.{Result, Ok, Err}
 use Rattle.calls.proofs.Exactly.{bad_record_exactly, end_of_log_exactly}
 use Rattle.calls.proofs.Unique.{read_asks, write_asks}
 use Rattle.supervisor.proofs.Unique.{empty_asks, sound_asks, running_asks, priority_asks, step_asks, count_asks, callable_asks}
@@ -130,15 +131,14 @@ room_enough s ty u k =
 takes_nothing : (s : List ℕ) → 0 < refusal_of (read_of s) → count_of (read_of s) ≡ 0
 takes_nothing s h = go (read_of s) h
   where
-    go : (r : R.Read) → 0 < refusal_of r → count_of r ≡ 0
-    go (Record c n) h = absurd (omega arith)
-    go BadRecord h = refl
-    go EndOfLog h = refl
+    go : (r : Result Record ReadError) → 0 < refusal_of r → count_of r ≡ 0
+    go (Ok r) h = absurd (omega arith)
+    go (Err error) h = refl
 
-writes_nothing : (c : C.Call) (room : List ℕ) → 0 < (written_of (encode c) room).refusal → room_written (encode c) room ≡ room
+writes_nothing : (c : C.Call) (room : List ℕ) → 0 < write_refusal_of (written_of (encode c) room) → room_written (encode c) room ≡ room
 writes_nothing c room h = by_bool (ltb (length room) (length (encode c))) (λ b. rw b) (λ b. absurd (omega (arith, rw b at h)))
 
-short_room : (c : C.Call) (room : List ℕ) → ((written_of (encode c) room).refusal ≡ 1) ↔ (length room < length (encode c))
+short_room : (c : C.Call) (room : List ℕ) → (write_refusal_of (written_of (encode c) room) ≡ 1) ↔ (length room < length (encode c))
 short_room c room =
     by_bool (ltb (length room) (length (encode c)))
     (λ b. (λ e. ltb-true (length room) (length (encode c)) b, λ h. rw b))

@@ -1,12 +1,12 @@
 -- The library is the supervisor: uses of `card_step`, over bytes that `card_empty` made, are a run of statement 3, so all that is said of `step`
 -- there holds of the library.
 -- Assumes nothing.
-use Rattle.std.specs.Prelude.{ℕ, ◌≤◌, ◌<◌, ◌≡◌, List, [], ◌∷◌, ◌++◌, length, drop}
+use Rattle.std.specs.Prelude.{ℕ, ◌≤◌, ◌<◌, ◌≡◌, List, [], ◌∷◌, ◌++◌, length, drop, Result, Ok, Err}
 use Rattle.lists.specs.Lists.{bit}
 use Rattle.calls.specs.Record.{byte}
 use Rattle.calls.specs.Reading.{read_of}
-use Rattle.calls.specs.declared.Read.{Read}
-use Rattle.calls.specs.declared.Read.TheVariants.{Record, BadRecord, EndOfLog}
+use Rattle.calls.specs.declared.Record.{Record}
+use Rattle.calls.specs.declared.ReadError.{ReadError}
 use Rattle.rules.specs.Step.{room_after}
 use Rattle.rules.specs.Whole.{Whole, sound_whole, answer_of}
 use Rattle.rules.specs.Questions.{refusal_in, number_in, yes_in, count_whole, callable_whole, running_whole, priority_whole}
@@ -61,10 +61,9 @@ abbrev pub answer_in : List ℕ → Answer
 answer_in b = record { refusal = byte b 0; result = byte b 1; task = byte b 2; entry = byte b 3; partner = byte b 4; ended = byte b 5; next = byte b 6 }
 
 -- the use of `step` that a use of `card_step` is, read off its bytes; none where the record is not read as a call
-abbrev pub uses_by : CardUse → Read → List Use
-uses_by u (Record c n) = record { call = c; lent = u.room; gave = record { state = state_in u.left; answer = answer_in u.told }; wrote = u.wrote } ∷ []
-uses_by u BadRecord = []
-uses_by u EndOfLog = []
+abbrev pub uses_by : CardUse → Result Record ReadError → List Use
+uses_by u (Ok r) = record { call = r.call; lent = u.room; gave = record { state = state_in u.left; answer = answer_in u.told }; wrote = u.wrote } ∷ []
+uses_by u (Err error) = []
 
 -- and none where the answer has no room for seven bytes
 abbrev pub uses_of : CardUse → List Use

@@ -55,13 +55,17 @@ use Rattle.workspace.proofs.owned.release.Reads as of-owned-release
 use Rattle.calls.proofs.durations.ticks.Statement as ticks
 use Rattle.calls.proofs.durations.word.Statement as word
 use Rattle.calls.proofs.durations.bytes_of.Statement as bytes_of
-use Rattle.calls.proofs.modes.mode_of_call.Statement as mode_of_call
-use Rattle.calls.proofs.modes.mode_of_select.Statement as mode_of_select
+use Rattle.calls.proofs.modes.ModeFromCallMode.from.Statement as mode_of_call
+use Rattle.calls.proofs.modes.ModeFromSelectMode.from.Statement as mode_of_select
+use Rattle.calls.proofs.numbers.U8FromReadError.from.Statement as read_error_number
+use Rattle.calls.proofs.numbers.U8FromShortRoom.from.Statement as short_room_number
 use Rattle.calls.proofs.durations.ticks.Reads as of-ticks
 use Rattle.calls.proofs.durations.word.Reads as of_word
 use Rattle.calls.proofs.durations.bytes_of.Reads as of-bytes-of
-use Rattle.calls.proofs.modes.mode_of_call.Reads as of-mode-of-call
-use Rattle.calls.proofs.modes.mode_of_select.Reads as of-mode-of-select
+use Rattle.calls.proofs.modes.ModeFromCallMode.from.Reads as of-mode-of-call
+use Rattle.calls.proofs.modes.ModeFromSelectMode.from.Reads as of-mode-of-select
+use Rattle.calls.proofs.numbers.U8FromReadError.from.Reads as of-read-error-number
+use Rattle.calls.proofs.numbers.U8FromShortRoom.from.Reads as of-short-room-number
 
 -- the contracts over lent tables ask nothing: `requires` is the claim that always holds, in each model of the toolchain's logic (of such contracts
 -- the toolchain makes no plainer reading)
@@ -99,6 +103,8 @@ pub record Linked : Type 2 where
   pub bytes_of : {M : Type 1} → bytes_of.statement M
   pub mode_of_call : {M : Type 1} → mode_of_call.statement M
   pub mode_of_select : {M : Type 1} → mode_of_select.statement M
+  pub read_error_number : {M : Type 1} → read_error_number.statement M
+  pub short_room_number : {M : Type 1} → short_room_number.statement M
   -- "on every input": no contract asks anything of its caller
   pub card_empty_asks : AsksNothing of-card-empty.Asked
   pub card_sound_asks : AsksNothing of-card-sound.Asked
@@ -125,3 +131,5 @@ pub record Linked : Type 2 where
   pub bytes_of_asks : AsksNothing of-bytes-of.Asked
   pub mode_of_call_asks : AsksNothing of-mode-of-call.Asked
   pub mode_of_select_asks : AsksNothing of-mode-of-select.Asked
+  pub read_error_number_asks : AsksNothing of-read-error-number.Asked
+  pub short_room_number_asks : AsksNothing of-short-room-number.Asked

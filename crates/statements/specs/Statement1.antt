@@ -13,7 +13,7 @@ use Rattle.rules.specs.Uses.{Use, Keeps}
 use Rattle.rules.specs.declared.Supervisor.{Supervisor}
 use Rattle.calls.specs.Record.{encode}
 use Rattle.calls.specs.Reading.{read_of, refusal_of, count_of, faulty}
-use Rattle.calls.specs.Writing.{written_of, room_written}
+use Rattle.calls.specs.Writing.{written_of, room_written, write_refusal_of}
 use Rattle.calls.specs.declared.Call as C
 use Rattle.calls.proofs.read_record.Statement as read_record
 use Rattle.calls.proofs.write_record.Statement as write_record
@@ -91,7 +91,7 @@ pub record Statement1 : Type 2 where
   -- a refused read takes 0 bytes
   pub takes_nothing : (s : List ℕ) → 0 < refusal_of (read_of s) → count_of (read_of s) ≡ 0
   -- the writer: SHORT_ROOM exactly when the room is below the record; a refused write leaves its room untouched
-  pub short_room : (c : C.Call) (room : List ℕ) → ((written_of (encode c) room).refusal ≡ 1) ↔ (length room < length (encode c))
-  pub writes_nothing : (c : C.Call) (room : List ℕ) → 0 < (written_of (encode c) room).refusal → room_written (encode c) room ≡ room
+  pub short_room : (c : C.Call) (room : List ℕ) → (write_refusal_of (written_of (encode c) room) ≡ 1) ↔ (length room < length (encode c))
+  pub writes_nothing : (c : C.Call) (room : List ℕ) → 0 < write_refusal_of (written_of (encode c) room) → room_written (encode c) room ≡ room
   -- how to provoke refusal 10? Not at all: a queue that the running task would join has at most 30 callers (so 10 is retired)
   pub no_overflow : (s : Supervisor) → Typed s → sound_whole s ≡ true → 0 < state.running (view s) → (g e : ℕ) → length (queue (view s) g e) ≤ 30

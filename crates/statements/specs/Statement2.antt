@@ -1,7 +1,7 @@
 -- Statement 2. Each step gives the next state, result, list of ended waits and dispatched task that the rules give. The dispatched
 -- task heads the highest ready level. Call records are read and written so that each call has one record and each good record one call.
 -- Assumes nothing.
-use Rattle.std.specs.Prelude.{ℕ, ◌≤◌, ◌≡◌, true, false, List, ◌++◌, length, take}
+use Rattle.std.specs.Prelude.{ℕ, ◌≤◌, ◌≡◌, true, false, List, ◌++◌, length, take, Ok}
 use Rattle.rules.specs.State.{State, queue, current_of, is_task}
 use Rattle.rules.specs.declared.Item.{Item}
 use Rattle.rules.specs.Step.{took, take_call}
@@ -12,7 +12,6 @@ use Rattle.rules.specs.SoundFacts.{HasEntry}
 use Rattle.rules.specs.Uses.{Keeps}
 use Rattle.rules.specs.declared.Supervisor.{Supervisor}
 use Rattle.calls.specs.declared.Call as C
-use Rattle.calls.specs.declared.Read.TheVariants.{Record}
 use Rattle.calls.specs.Record.{encode}
 use Rattle.calls.specs.Reading.{read_of}
 use Rattle.calls.specs.Range.{InRange, Bytes}
@@ -49,10 +48,10 @@ pub record Statement2 : Type 1 where
   pub dispatched : (s : Supervisor) → Typed s → sound_whole s ≡ true → (c : C.Call) (n : ℕ) → 124 ≤ n
       → Dispatched (view (step_whole s c n).state) (step_whole s c n).next
   -- "each call has one record": it is read back as that call, whatever bytes follow, and no other call has it
-  pub read_back : (c : C.Call) → InRange c → (rest : List ℕ) → read_of (encode c ++ rest) ≡ Record c (length (encode c))
+  pub read_back : (c : C.Call) → InRange c → (rest : List ℕ) → read_of (encode c ++ rest) ≡ Ok (record { call = c; count = length (encode c) })
   pub one_call : (c c' : C.Call) → InRange c → InRange c' → encode c ≡ encode c' → c ≡ c'
   -- "each good record one call": what is accepted is the record of the call that it gives
-  pub good_record : (s : List ℕ) (c : C.Call) (n : ℕ) → Bytes s → read_of s ≡ Record c n → take n s ≡ encode c
+  pub good_record : (s : List ℕ) (c : C.Call) (n : ℕ) → Bytes s → read_of s ≡ Ok (record { call = c; count = n }) → take n s ≡ encode c
   -- COUNT is the length of that queue, 0 for a task or entry that is not there, and so the number of tasks that wait on that entry
   pub count_is_length : (s : Supervisor) (t e : ℕ) → sound_whole s ≡ true → number_in (count_whole s t e) ≡ length (queue (view s) t e)
   pub count_absent : (s : Supervisor) → Typed s → sound_whole s ≡ true → (t e : ℕ) → (HasEntry (view s) t e → ⊥) → number_in (count_whole s t e) ≡ 0

@@ -14,4 +14,4 @@ returns c =
     let a = k.args in
     let word : List ℕ = 67 ∷ 65 ∷ 76 ∷ 76 ∷ [] in
     same_grown (append_assoc word (spaced a.target ++ spaced a.entry) (call_mode_text a.mode) ∙ ap (λ (t : List ℕ). word ++ t) (append_assoc (spaced a.target) (spaced a.entry) (call_mode_text a.mode)))
-    (then_grown k.with_pair-k.ensures (rw (c.mode_of_call.ensures, call_mode_text_lem a.mode) at c.with_mode.ensures))
+    (then_grown k.with_pair-k.ensures (rw (c.from.ensures, call_mode_text_lem a.mode) at c.with_mode.ensures))

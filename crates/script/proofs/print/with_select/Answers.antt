@@ -7,4 +7,4 @@ pub returns : goal.returns
 unfolding text_of
 returns c =
     let k = c.before.before in
-    then_grown k.with_word-k.ensures (then_grown k.with_open-l.ensures (rw (c.mode_of_select.ensures, select_mode_text_lem k.args.mode) at c.with_mode.ensures))
+    then_grown k.with_word-k.ensures (then_grown k.with_open-l.ensures (rw (c.from.ensures, select_mode_text_lem k.args.mode) at c.with_mode.ensures))

@@ -1,6 +1,0 @@
-use Rattle.calls.specs.Parts.{body_read}
-use Rattle.calls.proofs.reader.read_select.Goals as goal
-
-pub returns : goal.returns
-unfolding body_read
-returns c = let k = c.before in rw (rw k.four_from.ensures at k.select_mode-mode.ensures)
