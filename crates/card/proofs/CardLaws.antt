@@ -4,6 +4,7 @@ use mathlib.Core.Path.{◌≡◌, refl, sym, ap, ◌∙◌}
 use mathlib.Core.Bool.{Bool, true, false, ◌&&◌}
 use mathlib.Core.List.{List, [], ◌∷◌, ◌++◌}
 use native.Mathlib.Omega.{arith}
+use Rattle.std.specs.Prelude.{Result}
 use borrow.Author.Tests.{lt-ltb, le-ltb, eq-eqb, ne_eqb}
 use lib.ListN.{length, drop, set}
 use lib.Dec.{eqb}
@@ -13,15 +14,14 @@ use Rattle.calls.specs.Reading.{read_of, number_of}
 use Rattle.calls.specs.declared.Record.{Record}
 use Rattle.calls.specs.declared.ReadError.{ReadError}
 use Rattle.calls.specs.declared.ReadError.TheVariants.{BadRecord, EndOfLog}
-use Rattle.std.specs.Prelude.{Result}
-use Rattle.rules.specs.Questions.{count_by, count_whole}
+use Rattle.rules.specs.Questions.{number_in, count_by, count_whole}
 use Rattle.rules.specs.Second.{view_second, rows_right, sound_second, step_second, count_second}
 use Rattle.rules.specs.Sound.{sound}
 use Rattle.rules.specs.State.{State, waits_on}
 use Rattle.rules.specs.Step.{room_after}
 use Rattle.rules.specs.Whole.{view_core, view, packed_core, sound_whole, StepOf, step_whole, answer_of, refused_answer}
 use Rattle.rules.specs.declared.Answer.{Answer}
-use Rattle.rules.specs.declared.Count.{Count}
+use Rattle.rules.specs.declared.BadState.{BadState}
 use Rattle.rules.specs.declared.Second.{Second}
 use Rattle.rules.specs.declared.Supervisor.{Supervisor}
 use Rattle.rules.proofs.SoundTest.{sound_props}
@@ -37,15 +37,15 @@ one_set [] v h = absurd (omega arith)
 one_set (x ∷ l) v h = refl
 
 -- a queue's length is a byte
-count_small : (is_sound : Bool) (v : State) (k : Count) (t e : ℕ) → v.clock < 4294967296 → (is_sound ≡ true → sound v ≡ true) → k ≡ count_by is_sound v t e → k.count < 256
+count_small : (is_sound : Bool) (v : State) (k : Result ℕ BadState) (t e : ℕ) → v.clock < 4294967296 → (is_sound ≡ true → sound v ≡ true) → k ≡ count_by is_sound v t e → number_in k < 256
 count_small true v k t e n h q = rw q (omega (arith, length_filter (waits_on v t e) v.callers, callers_fit v (sound_props v n (h refl))))
 count_small false v k t e n h q = rw q (omega arith)
 
-pub whole_small : (s : Supervisor) (k : Count) (t e : ℕ) → s.core.clock < 4294967296 → k ≡ count_whole s t e → k.count < 256
+pub whole_small : (s : Supervisor) (k : Result ℕ BadState) (t e : ℕ) → s.core.clock < 4294967296 → k ≡ count_whole s t e → number_in k < 256
 unfolding count_whole
 whole_small s k t e n q = count_small (sound_whole s) (view s) k t e n (and_second (packed_core s.core && tidy s.callers) (sound (view s))) q
 
-pub second_small : (x : Second) (k : Count) (t e : ℕ) → x.core.clock < 4294967296 → k ≡ count_second x t e → k.count < 256
+pub second_small : (x : Second) (k : Result ℕ BadState) (t e : ℕ) → x.core.clock < 4294967296 → k ≡ count_second x t e → number_in k < 256
 unfolding count_second
 second_small x k t e n q = count_small (sound_second x) (view_second x) k t e n (and_second (packed_core x.core && rows_right (view_core x.core) 1 x.rows) (sound (view_second x))) q
 

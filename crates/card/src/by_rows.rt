@@ -1,13 +1,14 @@
 // The same over the second engine, whose state has bytes of its own: a core, and behind it a row of callers for each task.
 ghost use Rattle.std.specs.Prelude.{◌++◌, ◌≡◌, length, drop};
 ghost use Rattle.lists.specs.Lists.{bit};
+ghost use Rattle.rules.specs.Questions.{refusal_in, number_in, yes_in};
 ghost use Rattle.rules.specs.Second.{start_second, sound_second, step_second, count_second, callable_second, running_second, priority_second};
 ghost use Rattle.rules.specs.Step.{room_after};
 ghost use Rattle.rules.specs.Whole.{answer_of};
 ghost use Rattle.codec.specs.Rows.{second_size, second_in, stored_second};
 ghost use Rattle.card.specs.Answers.{second_step, second_after, answer_bytes, if_room, one_after};
 
-use super::{flag, put_answer, put_one};
+use super::{flag, put_answer, put_asked};
 use calls::Call;
 use calls::numbers::SHORT_ROOM;
 use codec::rows::{SECOND_SIZE, second_in, second_store};
@@ -80,40 +81,36 @@ pub fn second_step(state: &mut [u8], record: &[u8], room: &mut [u8], answer: &mu
 
 // COUNT of a task and an entry.
 pub fn second_count(state: &[u8], task: u8, entry: u8, answer: &mut [u8]) -> u8
-    ensures value { result ≡ if_room 1 answer.old 1 (count_second (second_in state.now) task entry).refusal }
-    ensures answer_after { answer.new ≡ one_after answer.old (count_second (second_in state.now) task entry).count }
+    ensures value { result ≡ if_room 1 answer.old 1 (refusal_in (count_second (second_in state.now) task entry)) }
+    ensures answer_after { answer.new ≡ one_after answer.old (number_in (count_second (second_in state.now) task entry)) }
 {
     let x = second_in(state);
-    let k = second::count(x, task, entry);
-    put_one(answer, k.refusal, k.count as u8)
+    put_asked(answer, second::count(x, task, entry).map(|n| n as u8))
 }
 
 // CALLABLE of a task: 1 for yes.
 pub fn second_callable(state: &[u8], task: u8, answer: &mut [u8]) -> u8
-    ensures value { result ≡ if_room 1 answer.old 1 (callable_second (second_in state.now) task).refusal }
-    ensures answer_after { answer.new ≡ one_after answer.old (bit (callable_second (second_in state.now) task).yes) }
+    ensures value { result ≡ if_room 1 answer.old 1 (refusal_in (callable_second (second_in state.now) task)) }
+    ensures answer_after { answer.new ≡ one_after answer.old (bit (yes_in (callable_second (second_in state.now) task))) }
 {
     let x = second_in(state);
-    let k = second::callable(x, task);
-    put_one(answer, k.refusal, flag(k.yes))
+    put_asked(answer, second::callable(x, task).map(flag))
 }
 
 // The dispatched task, 0 if there is none.
 pub fn second_running(state: &[u8], answer: &mut [u8]) -> u8
-    ensures value { result ≡ if_room 1 answer.old 1 (running_second (second_in state.now)).refusal }
-    ensures answer_after { answer.new ≡ one_after answer.old (running_second (second_in state.now)).task }
+    ensures value { result ≡ if_room 1 answer.old 1 (refusal_in (running_second (second_in state.now))) }
+    ensures answer_after { answer.new ≡ one_after answer.old (number_in (running_second (second_in state.now))) }
 {
     let x = second_in(state);
-    let k = second::running(x);
-    put_one(answer, k.refusal, k.task)
+    put_asked(answer, second::running(x))
 }
 
 // The priority of a task, worked out afresh; 0 for a number not created.
 pub fn second_priority(state: &[u8], task: u8, answer: &mut [u8]) -> u8
-    ensures value { result ≡ if_room 1 answer.old 1 (priority_second (second_in state.now) task).refusal }
-    ensures answer_after { answer.new ≡ one_after answer.old (priority_second (second_in state.now) task).priority }
+    ensures value { result ≡ if_room 1 answer.old 1 (refusal_in (priority_second (second_in state.now) task)) }
+    ensures answer_after { answer.new ≡ one_after answer.old (number_in (priority_second (second_in state.now) task)) }
 {
     let x = second_in(state);
-    let k = second::priority(x, task);
-    put_one(answer, k.refusal, k.priority)
+    put_asked(answer, second::priority(x, task))
 }

@@ -7,7 +7,7 @@ pub mod contacts;
 
 ghost use Rattle.std.specs.Prelude.{◌≤◌, ◌++◌, ◌≡◌, length, drop};
 ghost use Rattle.lists.specs.Lists.{bit};
-ghost use Rattle.rules.specs.Questions.{count_whole, callable_whole, running_whole, priority_whole};
+ghost use Rattle.rules.specs.Questions.{refusal_in, number_in, yes_in, count_whole, callable_whole, running_whole, priority_whole};
 ghost use Rattle.rules.specs.State.{empty};
 ghost use Rattle.rules.specs.Step.{room_after};
 ghost use Rattle.rules.specs.Whole.{pack, sound_whole, step_whole, answer_of};
@@ -17,7 +17,7 @@ ghost use Rattle.codec.specs.Layout.{state_size, state_in, stored};
 use calls::Call;
 use calls::numbers::SHORT_ROOM;
 use codec::{STATE_SIZE, put_at, state_in, store};
-use rules::Answer;
+use rules::{Answer, BadState};
 use steps::answers::refused_answer;
 
 // 1 for yes, 0 for no.
@@ -105,7 +105,7 @@ pub fn card_step(state: &mut [u8], record: &[u8], room: &mut [u8], answer: &mut 
     taken.refusal
 }
 
-// A question's answer: its byte, and its refusal.
+// The byte of an answer, and what is returned beside it.
 fn put_one(answer: &mut [u8], refusal: u8, value: u8) -> u8
     ensures value { result ≡ if_room 1 answer.old 1 refusal }
     ensures answer_after { answer.new ≡ one_after answer.old value }
@@ -117,42 +117,49 @@ fn put_one(answer: &mut [u8], refusal: u8, value: u8) -> u8
     refusal
 }
 
+// The answer of a question: its byte, 0 with a refusal, and the number of the refusal.
+fn put_asked(answer: &mut [u8], asked: Result<u8, BadState>) -> u8
+    ensures value { result ≡ if_room 1 answer.old 1 (refusal_in asked) }
+    ensures answer_after { answer.new ≡ one_after answer.old (number_in asked) }
+{
+    match asked {
+        Ok(value) => put_one(answer, 0, value),
+        Err(refusal) => put_one(answer, u8::from(refusal), 0),
+    }
+}
+
 // COUNT of a task and an entry.
 pub fn card_count(state: &[u8], task: u8, entry: u8, answer: &mut [u8]) -> u8
-    ensures value { result ≡ if_room 1 answer.old 1 (count_whole (state_in state.now) task entry).refusal }
-    ensures answer_after { answer.new ≡ one_after answer.old (count_whole (state_in state.now) task entry).count }
+    ensures value { result ≡ if_room 1 answer.old 1 (refusal_in (count_whole (state_in state.now) task entry)) }
+    ensures answer_after { answer.new ≡ one_after answer.old (number_in (count_whole (state_in state.now) task entry)) }
 {
     let s = state_in(state);
-    let k = supervisor::count(s, task, entry);
-    put_one(answer, k.refusal, k.count as u8)
+    put_asked(answer, supervisor::count(s, task, entry).map(|n| n as u8))
 }
 
 // CALLABLE of a task: 1 for yes.
 pub fn card_callable(state: &[u8], task: u8, answer: &mut [u8]) -> u8
-    ensures value { result ≡ if_room 1 answer.old 1 (callable_whole (state_in state.now) task).refusal }
-    ensures answer_after { answer.new ≡ one_after answer.old (bit (callable_whole (state_in state.now) task).yes) }
+    ensures value { result ≡ if_room 1 answer.old 1 (refusal_in (callable_whole (state_in state.now) task)) }
+    ensures answer_after { answer.new ≡ one_after answer.old (bit (yes_in (callable_whole (state_in state.now) task))) }
 {
     let s = state_in(state);
-    let k = supervisor::callable(s, task);
-    put_one(answer, k.refusal, flag(k.yes))
+    put_asked(answer, supervisor::callable(s, task).map(flag))
 }
 
 // The dispatched task, 0 if there is none.
 pub fn card_running(state: &[u8], answer: &mut [u8]) -> u8
-    ensures value { result ≡ if_room 1 answer.old 1 (running_whole (state_in state.now)).refusal }
-    ensures answer_after { answer.new ≡ one_after answer.old (running_whole (state_in state.now)).task }
+    ensures value { result ≡ if_room 1 answer.old 1 (refusal_in (running_whole (state_in state.now))) }
+    ensures answer_after { answer.new ≡ one_after answer.old (number_in (running_whole (state_in state.now))) }
 {
     let s = state_in(state);
-    let k = supervisor::running(s);
-    put_one(answer, k.refusal, k.task)
+    put_asked(answer, supervisor::running(s))
 }
 
 // The priority of a task, worked out afresh; 0 for a number not created.
 pub fn card_priority(state: &[u8], task: u8, answer: &mut [u8]) -> u8
-    ensures value { result ≡ if_room 1 answer.old 1 (priority_whole (state_in state.now) task).refusal }
-    ensures answer_after { answer.new ≡ one_after answer.old (priority_whole (state_in state.now) task).priority }
+    ensures value { result ≡ if_room 1 answer.old 1 (refusal_in (priority_whole (state_in state.now) task)) }
+    ensures answer_after { answer.new ≡ one_after answer.old (number_in (priority_whole (state_in state.now) task)) }
 {
     let s = state_in(state);
-    let k = supervisor::priority(s, task);
-    put_one(answer, k.refusal, k.priority)
+    put_asked(answer, supervisor::priority(s, task))
 }

@@ -5,7 +5,7 @@
 
 ghost use Rattle.std.specs.Prelude.{◌++◌, ◌≡◌, length, drop};
 ghost use Rattle.lists.specs.Lists.{bit};
-ghost use Rattle.rules.specs.Questions.{count_whole, callable_whole, running_whole, priority_whole};
+ghost use Rattle.rules.specs.Questions.{refusal_in, number_in, yes_in, count_whole, callable_whole, running_whole, priority_whole};
 ghost use Rattle.rules.specs.Second.{start_second, sound_second, count_second, callable_second, running_second, priority_second};
 ghost use Rattle.rules.specs.State.{empty};
 ghost use Rattle.rules.specs.Step.{room_after};
@@ -53,8 +53,8 @@ pub extern "C" fn card_step(
 // COUNT of a task and an entry.
 #[unsafe(no_mangle)]
 pub extern "C" fn card_count(state: &[u8], task: u8, entry: u8, answer: &mut [u8]) -> u8
-    ensures value { result ≡ if_room 1 answer.old 1 (count_whole (state_in state.now) task entry).refusal }
-    ensures answer_after { answer.new ≡ one_after answer.old (count_whole (state_in state.now) task entry).count }
+    ensures value { result ≡ if_room 1 answer.old 1 (refusal_in (count_whole (state_in state.now) task entry)) }
+    ensures answer_after { answer.new ≡ one_after answer.old (number_in (count_whole (state_in state.now) task entry)) }
 {
     card::card_count(state, task, entry, answer)
 }
@@ -62,8 +62,8 @@ pub extern "C" fn card_count(state: &[u8], task: u8, entry: u8, answer: &mut [u8
 // CALLABLE of a task: 1 for yes.
 #[unsafe(no_mangle)]
 pub extern "C" fn card_callable(state: &[u8], task: u8, answer: &mut [u8]) -> u8
-    ensures value { result ≡ if_room 1 answer.old 1 (callable_whole (state_in state.now) task).refusal }
-    ensures answer_after { answer.new ≡ one_after answer.old (bit (callable_whole (state_in state.now) task).yes) }
+    ensures value { result ≡ if_room 1 answer.old 1 (refusal_in (callable_whole (state_in state.now) task)) }
+    ensures answer_after { answer.new ≡ one_after answer.old (bit (yes_in (callable_whole (state_in state.now) task))) }
 {
     card::card_callable(state, task, answer)
 }
@@ -71,8 +71,8 @@ pub extern "C" fn card_callable(state: &[u8], task: u8, answer: &mut [u8]) -> u8
 // The dispatched task, 0 if there is none.
 #[unsafe(no_mangle)]
 pub extern "C" fn card_running(state: &[u8], answer: &mut [u8]) -> u8
-    ensures value { result ≡ if_room 1 answer.old 1 (running_whole (state_in state.now)).refusal }
-    ensures answer_after { answer.new ≡ one_after answer.old (running_whole (state_in state.now)).task }
+    ensures value { result ≡ if_room 1 answer.old 1 (refusal_in (running_whole (state_in state.now))) }
+    ensures answer_after { answer.new ≡ one_after answer.old (number_in (running_whole (state_in state.now))) }
 {
     card::card_running(state, answer)
 }
@@ -80,8 +80,8 @@ pub extern "C" fn card_running(state: &[u8], answer: &mut [u8]) -> u8
 // The priority of a task, worked out afresh; 0 for a number not created.
 #[unsafe(no_mangle)]
 pub extern "C" fn card_priority(state: &[u8], task: u8, answer: &mut [u8]) -> u8
-    ensures value { result ≡ if_room 1 answer.old 1 (priority_whole (state_in state.now) task).refusal }
-    ensures answer_after { answer.new ≡ one_after answer.old (priority_whole (state_in state.now) task).priority }
+    ensures value { result ≡ if_room 1 answer.old 1 (refusal_in (priority_whole (state_in state.now) task)) }
+    ensures answer_after { answer.new ≡ one_after answer.old (number_in (priority_whole (state_in state.now) task)) }
 {
     card::card_priority(state, task, answer)
 }
@@ -122,8 +122,8 @@ pub extern "C" fn second_step(
 // COUNT of a task and an entry.
 #[unsafe(no_mangle)]
 pub extern "C" fn second_count(state: &[u8], task: u8, entry: u8, answer: &mut [u8]) -> u8
-    ensures value { result ≡ if_room 1 answer.old 1 (count_second (second_in state.now) task entry).refusal }
-    ensures answer_after { answer.new ≡ one_after answer.old (count_second (second_in state.now) task entry).count }
+    ensures value { result ≡ if_room 1 answer.old 1 (refusal_in (count_second (second_in state.now) task entry)) }
+    ensures answer_after { answer.new ≡ one_after answer.old (number_in (count_second (second_in state.now) task entry)) }
 {
     card::by_rows::second_count(state, task, entry, answer)
 }
@@ -131,8 +131,8 @@ pub extern "C" fn second_count(state: &[u8], task: u8, entry: u8, answer: &mut [
 // CALLABLE of a task: 1 for yes.
 #[unsafe(no_mangle)]
 pub extern "C" fn second_callable(state: &[u8], task: u8, answer: &mut [u8]) -> u8
-    ensures value { result ≡ if_room 1 answer.old 1 (callable_second (second_in state.now) task).refusal }
-    ensures answer_after { answer.new ≡ one_after answer.old (bit (callable_second (second_in state.now) task).yes) }
+    ensures value { result ≡ if_room 1 answer.old 1 (refusal_in (callable_second (second_in state.now) task)) }
+    ensures answer_after { answer.new ≡ one_after answer.old (bit (yes_in (callable_second (second_in state.now) task))) }
 {
     card::by_rows::second_callable(state, task, answer)
 }
@@ -140,8 +140,8 @@ pub extern "C" fn second_callable(state: &[u8], task: u8, answer: &mut [u8]) -> 
 // The dispatched task, 0 if there is none.
 #[unsafe(no_mangle)]
 pub extern "C" fn second_running(state: &[u8], answer: &mut [u8]) -> u8
-    ensures value { result ≡ if_room 1 answer.old 1 (running_second (second_in state.now)).refusal }
-    ensures answer_after { answer.new ≡ one_after answer.old (running_second (second_in state.now)).task }
+    ensures value { result ≡ if_room 1 answer.old 1 (refusal_in (running_second (second_in state.now))) }
+    ensures answer_after { answer.new ≡ one_after answer.old (number_in (running_second (second_in state.now))) }
 {
     card::by_rows::second_running(state, answer)
 }
@@ -149,8 +149,8 @@ pub extern "C" fn second_running(state: &[u8], answer: &mut [u8]) -> u8
 // The priority of a task, worked out afresh; 0 for a number not created.
 #[unsafe(no_mangle)]
 pub extern "C" fn second_priority(state: &[u8], task: u8, answer: &mut [u8]) -> u8
-    ensures value { result ≡ if_room 1 answer.old 1 (priority_second (second_in state.now) task).refusal }
-    ensures answer_after { answer.new ≡ one_after answer.old (priority_second (second_in state.now) task).priority }
+    ensures value { result ≡ if_room 1 answer.old 1 (refusal_in (priority_second (second_in state.now) task)) }
+    ensures answer_after { answer.new ≡ one_after answer.old (number_in (priority_second (second_in state.now) task)) }
 {
     card::by_rows::second_priority(state, task, answer)
 }

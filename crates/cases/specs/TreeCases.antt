@@ -6,7 +6,7 @@ use Rattle.std.specs.Prelude.{ℕ, zero, suc, Bool, true, false, not, ◌&&◌, 
 use Rattle.lists.specs.Lists.{when◌then◌else◌}
 use Rattle.rules.specs.State.{empty, meeting}
 use Rattle.rules.specs.Whole.{pack, sound_whole}
-use Rattle.rules.specs.Questions.{priority_whole}
+use Rattle.rules.specs.Questions.{refusal_in, number_in, priority_whole}
 use Rattle.rules.specs.declared.Task.{Task}
 use Rattle.rules.specs.declared.Supervisor.{Supervisor}
 use Rattle.rules.specs.declared.Timer.TheVariants.{Off}
@@ -29,7 +29,7 @@ asks cs t p = record { calls = cs; task = t; priority = p }
 
 -- it is answered, with this priority
 abbrev pub answers : Asked → Bool
-answers a = let k = priority_whole (last_of step_of (pack (empty 0)) a.calls).state a.task in eqb k.refusal 0 && eqb k.priority a.priority
+answers a = let k = priority_whole (last_of step_of (pack (empty 0)) a.calls).state a.task in eqb (refusal_in k) 0 && eqb (number_in k) a.priority
 
 -- task 3, of priority 9, is held by task 2, of priority 3, and that by task 1, of priority 5
 abbrev chain : List C.Call
@@ -89,7 +89,7 @@ struct_of x = pack (record { clock = 0; tasks = x.tasks; ready = x.ready; caller
 
 -- the struct is sound or not, as said, and the question is refused where it is not
 abbrev pub told : Struct → Bool
-told x = (when x.sound then sound_whole (struct_of x) else not (sound_whole (struct_of x))) && eqb (priority_whole (struct_of x) 1).refusal (when x.sound then 0 else 2)
+told x = (when x.sound then sound_whole (struct_of x) else not (sound_whole (struct_of x))) && eqb (refusal_in (priority_whole (struct_of x) 1)) (when x.sound then 0 else 2)
 
 unfoldable pub structs : List Struct
 structs =

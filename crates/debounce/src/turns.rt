@@ -20,7 +20,7 @@ pub struct Turned {
 }
 
 // One call, with a room of its own.
-fn stepped(s: Supervisor, call: Call) -> Stepped
+fn stepped(s: Supervisor, call: Call) -> Stepped<Supervisor>
     ensures { result ≡ stepped_of (takes s call) }
 {
     let mut room = [0u8; ROOM];
@@ -28,7 +28,7 @@ fn stepped(s: Supervisor, call: Call) -> Stepped
 }
 
 // DELAY p by the running task.
-fn delayed(s: Supervisor, p: u16) -> Stepped
+fn delayed(s: Supervisor, p: u16) -> Stepped<Supervisor>
     ensures { result ≡ stepped_of (takes s (Delay (pos p))) }
 {
     stepped(s, Call::Delay(i32::from(p)))

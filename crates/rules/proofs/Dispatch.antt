@@ -15,7 +15,7 @@ use Rattle.rules.specs.Step.{Outcome, refused, took, none, room_after, take_call
 use Rattle.rules.specs.declared.Refusal.{Refusal}
 use Rattle.rules.specs.declared.Refusal.TheVariants.{ShortRoom, BadState}
 use Rattle.rules.specs.Whole.{Typed, Whole, view, sound_whole, decline, done, step_whole}
-use Rattle.rules.specs.Questions.{count_whole}
+use Rattle.rules.specs.Questions.{number_in, count_whole}
 use Rattle.rules.specs.EachStep.{Dispatched, waiting_on}
 use Rattle.rules.specs.SoundFacts.{HasEntry, InPriorities}
 use Rattle.rules.specs.declared.Supervisor.{Supervisor}
@@ -130,12 +130,12 @@ queue_counts s t e h = same_length (length (queue s t e)) (queue s t e) (waiting
         count_filter_yes (waits_on s t e) u s.callers y ∙ h.callers u ∙ rw q.1 (sym (count_filter_yes (waits_on s t e) u (down_from (created s)) y ∙ down_once u (created s) i.0 i.1)))
         (λ y. count_filter_no (waits_on s t e) u s.callers y ∙ sym (count_filter_no (waits_on s t e) u (down_from (created s)) y))
 
-pub counted : (s : Supervisor) → Typed s → sound_whole s ≡ true → (t e : ℕ) → (count_whole s t e).count ≡ length (waiting_on (view s) t e)
+pub counted : (s : Supervisor) → Typed s → sound_whole s ≡ true → (t e : ℕ) → number_in (count_whole s t e) ≡ length (waiting_on (view s) t e)
 unfolding count_whole
 counted s k e t n = rw e (queue_counts (view s) t n (sound_view s k e))
 
 -- a task or entry that is not there has nobody queued
-pub count_absent : (s : Supervisor) → Typed s → sound_whole s ≡ true → (t e : ℕ) → (HasEntry (view s) t e → ⊥) → (count_whole s t e).count ≡ 0
+pub count_absent : (s : Supervisor) → Typed s → sound_whole s ≡ true → (t e : ℕ) → (HasEntry (view s) t e → ⊥) → number_in (count_whole s t e) ≡ 0
 unfolding count_whole
 count_absent s k h t e n = rw h (ap length (nobody (queue (view s) t e) absent))
   where

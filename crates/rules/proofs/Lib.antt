@@ -42,3 +42,4 @@ pub mod Apart
 pub mod Leaving
 pub mod SecondLaws
 pub mod Twins
+pub mod QuestionLaws

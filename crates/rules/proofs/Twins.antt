@@ -14,7 +14,7 @@ use Rattle.rules.specs.declared.Refusal.{Refusal}
 use Rattle.rules.specs.declared.Refusal.TheVariants.{ShortRoom}
 use Rattle.rules.specs.Callers.{Alike}
 use Rattle.rules.specs.Whole.{view, pack, sound_whole, StepOf, Whole, decline, done_by, answer_of, step_whole}
-use Rattle.rules.specs.Questions.{count_by, callable_by, running_by, count_whole, callable_whole, running_whole, priority_by, priority_whole}
+use Rattle.rules.specs.Questions.{asked_by, count_by, callable_by, running_by, count_whole, callable_whole, running_whole, priority_by, priority_whole}
 use Rattle.rules.specs.Second.{view_second, pack_second, sound_second, step_second, start_second, count_second, callable_second, running_second, priority_second}
 use Rattle.rules.specs.Tree.{highest_of}
 use Rattle.rules.specs.Runs.{start}
@@ -144,7 +144,7 @@ module _ (s : Supervisor) (x : Second) (t : Twins s x) where
   unfolding count_second count_whole
   same_count g e =
       (λ i. count_by (second_sound i) (second_view i) g e)
-      ∙ ap (λ (l : List ℕ). record { refusal = 0; count = length l }) (same_queue g e)
+      ∙ ap (λ (l : List ℕ). asked_by true (length l)) (same_queue g e)
       ∙ sym (λ i. count_by (first_sound i) (first_view i) g e)
 
   pub same_callable : (g : ℕ) → callable_second x g ≡ callable_whole s g
@@ -158,7 +158,7 @@ module _ (s : Supervisor) (x : Second) (t : Twins s x) where
   unfolding running_second running_whole
   same_runs =
       (λ i. running_by (second_sound i) (second_view i))
-      ∙ ap (λ (n : ℕ). record { refusal = 0; task = n }) (sym (same_running t.one u across_here))
+      ∙ ap (asked_by true) (sym (same_running t.one u across_here))
       ∙ sym (λ i. running_by (first_sound i) (first_view i))
 
   pub same_priority : (g : ℕ) → priority_second x g ≡ priority_whole s g

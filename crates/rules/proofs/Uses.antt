@@ -22,12 +22,12 @@ entry_back s u k = go u.gave u.wrote k.answer k.room
     w : Whole
     w = step_whole s u.call (length u.lent)
 
-    go : (g : Stepped) (b : List ℕ) → g ≡ stepped_of w → b ≡ room_after u.lent w.ended → read_entry s (record { call = u.call; lent = u.lent; gave = g; wrote = b }) ≡ entry_whole s (asked u)
+    go : (g : Stepped Supervisor) (b : List ℕ) → g ≡ stepped_of w → b ≡ room_after u.lent w.ended → read_entry s (record { call = u.call; lent = u.lent; gave = g; wrote = b }) ≡ entry_whole s (asked u)
     go g b e f = rw (e, f) (λ j. record { before = view s; call = u.call; out = record { refusal = w.refusal; answer = w.answer; ended = items_back w.ended u.lent j; next = w.next; state = view w.state } })
 
 pub read_back : ReadBack
 read_back s [] k = refl
 read_back s (u ∷ us) k =
-    let e : u.gave.state ≡ (step_whole s u.call (length u.lent)).state = ap (λ (g : Stepped). g.state) k.0.answer in
+    let e : u.gave.state ≡ (step_whole s u.call (length u.lent)).state = ap (λ (g : Stepped Supervisor). g.state) k.0.answer in
     ap (λ (x : Entry). x ∷ read_log u.gave.state us) (entry_back s u k.0)
     ∙ ap (λ (l : List Entry). entry_whole s (asked u) ∷ l) (read_back u.gave.state us k.1 ∙ ap (λ (t : Supervisor). log_whole t (map asked us)) e)

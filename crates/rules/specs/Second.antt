@@ -1,24 +1,21 @@
 -- The second engine (request (v)): all calls to a task in one queue, whatever the entry. A struct with a row of callers for each task.
 -- Assumes nothing.
-use Rattle.std.specs.Prelude.{ℕ, zero, suc, ◌<◌, ◌≡◌, Bool, true, ◌&&◌, List, [], ◌∷◌, ◌++◌, map, length}
+use Rattle.std.specs.Prelude.{ℕ, zero, suc, ◌<◌, ◌≡◌, Bool, true, ◌&&◌, List, [], ◌∷◌, ◌++◌, map, length, Result}
 use Rattle.lists.specs.Line.{line, pad, tidy}
 use Rattle.lists.specs.Lists.{every}
 use Rattle.rules.specs.State.{State, empty}
 use Rattle.rules.specs.Sound.{sound}
 use Rattle.rules.specs.Step.{room_after}
 use Rattle.rules.specs.Callers.{with_callers, calling, callers_of}
-use Rattle.rules.specs.Whole.{view_core, pack_core, packed_core, StepOf, step_by, answer_of}
+use Rattle.rules.specs.Whole.{view_core, pack_core, packed_core, StepOf, step_by, stepped_of}
 use Rattle.rules.specs.Questions.{count_by, callable_by, running_by, priority_by}
 use Rattle.rules.specs.Runs.{start}
 use Rattle.rules.specs.Uses.{Use, Chain}
 use Rattle.rules.specs.declared.Answer.{Answer}
-use Rattle.rules.specs.declared.Callable.{Callable}
-use Rattle.rules.specs.declared.Count.{Count}
-use Rattle.rules.specs.declared.Priority.{Priority}
+use Rattle.rules.specs.declared.BadState.{BadState}
 use Rattle.rules.specs.declared.Row.{Row}
-use Rattle.rules.specs.declared.Running.{Running}
 use Rattle.rules.specs.declared.Second.{Second}
-use Rattle.rules.specs.declared.SecondStepped.{SecondStepped}
+use Rattle.rules.specs.declared.Stepped.{Stepped}
 use Rattle.calls.specs.declared.Call as C
 
 -- ── the struct ──
@@ -53,26 +50,22 @@ sound_second x = packed_core x.core && rows_right (view_core x.core) 1 x.rows &&
 unfoldable pub step_second : Second → C.Call → ℕ → StepOf Second
 step_second x c room = step_by pack_second (sound_second x) x (view_second x) c room
 
--- what the code's step gives: the struct and the answer
-abbrev pub second_of : StepOf Second → SecondStepped
-second_of w = record { state = w.state; answer = answer_of w }
-
 -- the supervisor with no tasks, its clock at n
 abbrev pub start_second : ℕ → Second
 start_second n = pack_second (empty n)
 
 -- ── the questions, as those of the first engine ──
 
-unfoldable pub count_second : Second → ℕ → ℕ → Count
+unfoldable pub count_second : Second → ℕ → ℕ → Result ℕ BadState
 count_second x t e = count_by (sound_second x) (view_second x) t e
 
-unfoldable pub callable_second : Second → ℕ → Callable
+unfoldable pub callable_second : Second → ℕ → Result Bool BadState
 callable_second x t = callable_by (sound_second x) (view_second x) t
 
-unfoldable pub running_second : Second → Running
+unfoldable pub running_second : Second → Result ℕ BadState
 running_second x = running_by (sound_second x) (view_second x)
 
-unfoldable pub priority_second : Second → ℕ → Priority
+unfoldable pub priority_second : Second → ℕ → Result ℕ BadState
 priority_second x t = priority_by (sound_second x) (view_second x) t
 
 -- ── uses of the code's `step`, one after the other ──
@@ -81,12 +74,12 @@ priority_second x t = priority_by (sound_second x) (view_second x) t
 pub record SecondUse : Type 0 where
   pub call : C.Call
   pub lent : List ℕ
-  pub gave : SecondStepped
+  pub gave : Stepped Second
   pub wrote : List ℕ
 
 -- the use keeps the contract of `step`, in the state x
 pub record SecondKeeps (x : Second) (u : SecondUse) : Type 0 where
-  pub answer : u.gave ≡ second_of (step_second x u.call (length u.lent))
+  pub answer : u.gave ≡ stepped_of (step_second x u.call (length u.lent))
   pub room : u.wrote ≡ room_after u.lent (step_second x u.call (length u.lent)).ended
 
 -- uses one after the other: each in the state that the one before gave

@@ -14,7 +14,7 @@ use Rattle.calls.specs.declared.Call as C
 pub record Use : Type 0 where
   pub call : C.Call
   pub lent : List ℕ
-  pub gave : Stepped
+  pub gave : Stepped Supervisor
   pub wrote : List ℕ
 
 -- the use keeps the contract of `step`, in the state s

@@ -139,5 +139,5 @@ abbrev pub refused_answer : ℕ → ℕ → Answer
 refused_answer n next = record { refusal = n; result = 0; task = 0; entry = 0; partner = 0; ended = 0; next = next }
 
 -- what the code's step gives: the struct and the answer
-abbrev pub stepped_of : Whole → Stepped
+abbrev pub stepped_of : {S : Type 0} → StepOf S → Stepped S
 stepped_of w = record { state = w.state; answer = answer_of w }

@@ -1,4 +1,4 @@
-// The state of the supervisor, the calls and the answers: types and numbers. All else stands in specs/.
+// The state of the supervisor and the answers: types and numbers. All else stands in specs/.
 #![tactic(auto)]
 
 pub mod numbers;
@@ -131,44 +131,22 @@ pub struct Answer {
     pub next: u8,
 }
 
-// What a step gives: the state afterwards, and the answer.
+// What a step of an engine gives: the state afterwards, and the answer.
 #[derive(Clone, Copy)]
-pub struct Stepped {
-    pub state: Supervisor,
+pub struct Stepped<S> {
+    pub state: S,
     pub answer: Answer,
 }
 
-// What a step of the second engine gives.
-#[derive(Clone, Copy)]
-pub struct SecondStepped {
-    pub state: Second,
-    pub answer: Answer,
-}
+// The refusal of a question: the state is not sound.
+#[derive(Clone, Copy, Debug, PartialEq, Eq)]
+pub struct BadState;
 
-// What COUNT answers: a refusal (0 if none), and how many are queued.
-#[derive(Clone, Copy)]
-pub struct Count {
-    pub refusal: u8,
-    pub count: usize,
-}
+// Its number, for those who are answered in bytes.
+impl From<BadState> for u8 {
+    ghost from_gives = { λ _ n. n ≡ 2 };
 
-// What CALLABLE answers: a refusal (0 if none), and yes or no.
-#[derive(Clone, Copy)]
-pub struct Callable {
-    pub refusal: u8,
-    pub yes: bool,
-}
-
-// What the question who runs answers: a refusal (0 if none), and the task, 0 where nobody is ready.
-#[derive(Clone, Copy)]
-pub struct Running {
-    pub refusal: u8,
-    pub task: u8,
-}
-
-// What the question for a task's priority answers: a refusal (0 if none), and the priority, 0 for a number not created.
-#[derive(Clone, Copy)]
-pub struct Priority {
-    pub refusal: u8,
-    pub priority: u8,
+    fn from(_refusal: BadState) -> u8 {
+        Refusal::BadState.into()
+    }
 }

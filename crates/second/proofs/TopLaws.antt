@@ -5,7 +5,7 @@ use mathlib.Core.Path.{◌≡◌, sym, ap, subst, ◌∙◌}
 use mathlib.Core.Bool.{Bool, true, false, not, ◌&&◌}
 use mathlib.Core.List.{List, [], ◌++◌}
 use native.Mathlib.Omega.{arith}
-use lib.Dec.{ltb, leb}
+use lib.Dec.{ltb}
 use lib.ListN.{length, get_or}
 use lib.Seq.{length-take-le}
 use Rattle.calls.specs.declared.Call as C
@@ -13,7 +13,7 @@ use Rattle.lists.specs.Line.{line, pad}
 use Rattle.lists.specs.Lists.{filter}
 use Rattle.lists.specs.Marks.{no_marks, marked}
 use Rattle.lists.proofs.Tests.{and_first, and_second, if-true}
-use Rattle.rules.specs.State.{State, created, task_of, is_completed, queue, waits_on, running}
+use Rattle.rules.specs.State.{State, created, is_task, place_of, is_completed, queue, waits_on, running}
 use Rattle.rules.specs.Sound.{sound}
 use Rattle.std.specs.Prelude.{Result}
 use Rattle.rules.specs.Step.{took, take_call, room_after}
@@ -21,13 +21,11 @@ use Rattle.rules.specs.declared.Item.{Item}
 use Rattle.rules.specs.declared.Refusal.{Refusal}
 use Rattle.rules.specs.declared.Refusal.TheVariants.{ShortRoom, BadState}
 use Rattle.rules.specs.Callers.{asks, calling, callers_of, accepted_in, gone_by, left_by, Told}
-use Rattle.rules.specs.Whole.{view_core, pack_core, packed_core, StepOf, decline, done_by}
-use Rattle.rules.specs.Second.{gathered, view_second, pack_second, rows_right, sound_second, step_second, second_of, callable_second}
-use Rattle.rules.specs.declared.Callable.{Callable}
+use Rattle.rules.specs.Whole.{view_core, pack_core, packed_core, StepOf, decline, done_by, stepped_of}
+use Rattle.rules.specs.Second.{gathered, view_second, pack_second, rows_right, sound_second, step_second}
 use Rattle.rules.specs.declared.Row.{Row}
 use Rattle.rules.specs.declared.Second.{Second}
-use Rattle.rules.specs.declared.SecondStepped.{SecondStepped}
-use Rattle.rules.specs.declared.Task.{Task}
+use Rattle.rules.specs.declared.Stepped.{Stepped}
 use Rattle.rules.proofs.Apart.{queue_of, running_core, same_step, tells}
 use Rattle.rules.proofs.Fate.{FateOf, fate}
 use Rattle.rules.proofs.Invariant.{Sound}
@@ -37,6 +35,7 @@ use Rattle.rules.proofs.SoundTest.{sound_props}
 use Rattle.rules.proofs.StepSound.{Kept, call_sound}
 use Rattle.rules.proofs.WholeLaws.{core_packed, core_parts}
 use Rattle.steps.specs.Change.{one, task_at, partner_at, bytes_in, joined_of}
+use Rattle.steps.specs.Engine.{callable_in}
 use Rattle.steps.specs.Taken.{SeesFor, seen, taken_as, taken_of, ended_by}
 use Rattle.steps.specs.declared.answers.Taken.{Taken}
 use Rattle.steps.proofs.AnswerLaws.{by_core, by_core_ended}
@@ -124,10 +123,8 @@ module _ (x : Second) (h : TypedSecond x) (ok : sound_second x ≡ true) where
       queue_of v t e ∙ ap (filter (waits_on v t e)) (sees_row (view_core x.core) x.rows t right_here h.rows)
       ∙ sym (queue_of (seen x.core (row_of x.rows t)) t e)
 
-pub callable_is : (x : Second) (t : ℕ) (b d : Bool) (k : Task) → TypedSecond x → sound_second x ≡ true → b ≡ (ltb 0 t && leb t x.core.created) → k ≡ task_of (view_second x) t → d ≡ is_completed k.place
-    → ◌≡◌ {A = Callable} (record { refusal = 0; yes = b && not d }) (callable_second x t)
-unfolding callable_second
-callable_is x t b d k h ok eb ek ed = rw (ok, eb, ed, ek, created_here x h ok)
+pub callable_is : (x : Second) (t : ℕ) → TypedSecond x → sound_second x ≡ true → callable_in x.core t ≡ (is_task (view_second x) t && not (is_completed (place_of (view_second x) t)))
+callable_is x t h ok = rw (created_here x h ok)
 
 -- ── the whole step ──
 
@@ -144,8 +141,8 @@ module _ (x : Second) (c : C.Call) (n : ℕ) where
   unfolding step_second
   step_sound e q = rw (e, q)
 
-pub by_state : {w q : StepOf Second} {r : SecondStepped} → w ≡ q → r ≡ second_of q → r ≡ second_of w
-by_state e h = h ∙ sym (ap second_of e)
+pub by_state : {w q : StepOf Second} {r : Stepped Second} → w ≡ q → r ≡ stepped_of q → r ≡ stepped_of w
+by_state e h = h ∙ sym (ap stepped_of e)
 
 pub by_room : {w q : StepOf Second} (x y : List ℕ) → w ≡ q → x ≡ room_after y q.ended → x ≡ room_after y w.ended
 by_room x y e k = k ∙ sym (ap (λ (w : StepOf Second). room_after y w.ended) e)

@@ -5,7 +5,7 @@ use Rattle.calls.specs.declared.Call as C
 use Rattle.calls.specs.declared.Record.{Record}
 use Rattle.calls.specs.declared.ReadError.{ReadError}
 use Rattle.calls.specs.Reading.{END_OF_LOG, read_of, number_of}
-use Rattle.rules.specs.Questions.{running_whole}
+use Rattle.rules.specs.Questions.{number_in, running_whole}
 use Rattle.rules.specs.Second.{step_second, running_second}
 use Rattle.rules.specs.Step.{room_after}
 use Rattle.rules.specs.Whole.{step_whole, answer_of, refused_answer}
@@ -33,7 +33,7 @@ pub record Engine (S : Type 0) : Type 0 where
 abbrev pub first : Engine Session
 first = record {
   number = λ s. s.step;
-  runs = λ s. (running_whole s.state).task;
+  runs = λ s. number_in (running_whole s.state);
   answer = λ s c n. answer_of (step_whole s.state c n);
   ended = λ s c n. (step_whole s.state c n).ended;
   after = λ s c n. record { state = (step_whole s.state c n).state; step = number_after s.step };
@@ -42,7 +42,7 @@ first = record {
 abbrev pub second : Engine SecondSession
 second = record {
   number = λ s. s.step;
-  runs = λ s. (running_second s.state).task;
+  runs = λ s. number_in (running_second s.state);
   answer = λ s c n. answer_of (step_second s.state c n);
   ended = λ s c n. (step_second s.state c n).ended;
   after = λ s c n. record { state = (step_second s.state c n).state; step = number_after s.step };

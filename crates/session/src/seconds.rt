@@ -86,8 +86,8 @@ fn refused(
             next: Next::Stop,
         };
     }
-    let k = second::running(s.state);
-    let answer = steps::answers::refused_answer(error.into(), k.task);
+    let runs = second::running(s.state).unwrap_or(0);
+    let answer = steps::answers::refused_answer(error.into(), runs);
     let place = put_line(s.step, answer, room, out, at);
     SecondTurned {
         session: s,

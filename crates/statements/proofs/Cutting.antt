@@ -44,20 +44,20 @@ module _ (s : Supervisor) (u : Use) (k : Keeps s u) {w : Whole} (same : step_who
   wrote = k.room ∙ ap (λ (x : Whole). room_after u.lent x.ended) same
 
   state_is : u.gave.state ≡ w.state
-  state_is = ap (λ (g : Stepped). g.state) gave
+  state_is = ap (λ (g : Stepped Supervisor). g.state) gave
 
   readings_are : u.gave.answer.entry ≡ w.answer.entry
-  readings_are = ap (λ (g : Stepped). g.answer.entry) gave
+  readings_are = ap (λ (g : Stepped Supervisor). g.answer.entry) gave
 
   next_is : u.gave.answer.next ≡ w.next
-  next_is = ap (λ (g : Stepped). g.answer.next) gave
+  next_is = ap (λ (g : Stepped Supervisor). g.answer.next) gave
 
   refusal_is : u.gave.answer.refusal ≡ w.refusal
-  refusal_is = ap (λ (g : Stepped). g.answer.refusal) gave
+  refusal_is = ap (λ (g : Stepped Supervisor). g.answer.refusal) gave
 
   ends_are : ended_in u ≡ w.ended
   ends_are =
-      ap (λ (g : Stepped). items_in g.answer.ended u.wrote) gave
+      ap (λ (g : Stepped Supervisor). items_in g.answer.ended u.wrote) gave
       ∙ ap (items_in (length w.ended)) wrote
       ∙ items_back w.ended u.lent
 
@@ -73,10 +73,10 @@ like_tick : (s : Supervisor) (u : Use) (n : ℕ) → u.gave ≡ stepped_of (step
 like_tick s u n e =
     let y = tick_numbers s n (length u.lent) in
     record {
-      refusal = ap (λ (g : Stepped). g.answer.refusal) e ∙ y.0;
-      result = ap (λ (g : Stepped). g.answer.result) e ∙ y.1;
-      task = ap (λ (g : Stepped). g.answer.task) e ∙ y.2;
-      partner = ap (λ (g : Stepped). g.answer.partner) e ∙ y.3;
+      refusal = ap (λ (g : Stepped Supervisor). g.answer.refusal) e ∙ y.0;
+      result = ap (λ (g : Stepped Supervisor). g.answer.result) e ∙ y.1;
+      task = ap (λ (g : Stepped Supervisor). g.answer.task) e ∙ y.2;
+      partner = ap (λ (g : Stepped Supervisor). g.answer.partner) e ∙ y.3;
     }
 
 ends_joined : (u v w : Use) {x y : List Item} → ended_in u ≡ x → ended_in v ≡ y → ended_in w ≡ x ++ y → EndsJoined u v w
@@ -130,7 +130,7 @@ module _ (s : Supervisor) (t : Typed s) where
       }
 
   onward : (u : Use) → Keeps s u → Typed u.gave.state
-  onward u k = subst Typed (sym (ap (λ (g : Stepped). g.state) k.answer)) (step_typed s t u.call (length u.lent))
+  onward u k = subst Typed (sym (ap (λ (g : Stepped Supervisor). g.state) k.answer)) (step_typed s t u.call (length u.lent))
 
 chained : (s : Supervisor) → Typed s → (us : List Use) → Chain s us → Typed (reached s us)
 chained s t [] k = t

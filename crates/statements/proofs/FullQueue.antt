@@ -1,6 +1,6 @@
 -- A queue can hold 31 callers.
 -- Assumes nothing.
-use mathlib.Core.Path.{◌≡◌, refl}
+use Rattle.std.proofs.Common.{◌≡◌, refl, Ok}
 use Rattle.lists.specs.Line.{pad, pad_to}
 use Rattle.rules.specs.State.{running}
 use Rattle.rules.specs.Sound.{standing, sound}
@@ -10,6 +10,6 @@ use Rattle.rules.specs.Whole.{step_whole}
 use Rattle.rules.specs.Questions.{count_whole}
 use Rattle.statements.specs.FullQueue.{crowd, crowd_count}
 
-pub full_queue : crowd_count ≡ record { refusal = 0; count = 31 }
+pub full_queue : crowd_count ≡ Ok 31
 unfolding crowd standing sound reaches_top step_whole running open_entry queued_on pad pad_to count_whole
 full_queue = refl

@@ -15,7 +15,6 @@ use Rattle.rules.specs.Uses.{Use, Chain}
 use Rattle.rules.specs.Runs.{start}
 use Rattle.rules.specs.Second.{view_second, pack_second, sound_second, step_second, start_second, SecondUse, SecondChain, second_reached, Question, BothRun, asked_of, replied_of, second_asked, second_replied}
 use Rattle.rules.specs.declared.Second.{Second}
-use Rattle.rules.specs.declared.SecondStepped.{SecondStepped}
 use Rattle.rules.specs.declared.Stepped.{Stepped}
 use Rattle.rules.specs.declared.Supervisor.{Supervisor}
 use Rattle.calls.specs.declared.Call as C
@@ -65,15 +64,15 @@ alike_uses (u ∷ us) (w ∷ ws) s x t k l e =
     there = λ i. step_second x (sym q i).call (length (sym q i).lent)
 
     answer : w.gave.answer ≡ u.gave.answer
-    answer = ap (λ (g : SecondStepped). g.answer) l.0.answer ∙ ap (λ (z : StepOf Second). answer_of z) there ∙ same.answer ∙ sym (ap (λ (g : Stepped). g.answer) k.0.answer)
+    answer = ap (λ (g : Stepped Second). g.answer) l.0.answer ∙ ap (λ (z : StepOf Second). answer_of z) there ∙ same.answer ∙ sym (ap (λ (g : Stepped Supervisor). g.answer) k.0.answer)
 
     wrote : w.wrote ≡ u.wrote
     wrote = l.0.room ∙ (λ i. room_after (sym q i).lent (there i).ended) ∙ ap (room_after u.lent) same.ended ∙ sym k.0.room
 
     next : Twins u.gave.state w.gave.state
     next =
-        subst (λ (y : Second). Twins u.gave.state y) (sym (ap (λ (g : SecondStepped). g.state) l.0.answer ∙ ap (λ (z : StepOf Second). z.state) there))
-        (subst (λ (y : Supervisor). Twins y (step_second x u.call (length u.lent)).state) (sym (ap (λ (g : Stepped). g.state) k.0.answer)) same.next)
+        subst (λ (y : Second). Twins u.gave.state y) (sym (ap (λ (g : Stepped Second). g.state) l.0.answer ∙ ap (λ (z : StepOf Second). z.state) there))
+        (subst (λ (y : Supervisor). Twins y (step_second x u.call (length u.lent)).state) (sym (ap (λ (g : Stepped Supervisor). g.state) k.0.answer)) same.next)
 
 alike_run : (n : ℕ) (run : BothRun n) → AlikeUses run.first run.second (start n) (start_second n)
 alike_run n run = alike_uses run.first run.second (start n) (start_second n) (starts n run.clock) run.first_kept run.second_kept run.asked

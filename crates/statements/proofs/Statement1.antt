@@ -20,7 +20,7 @@ use Rattle.rules.proofs.Dispatch.{untouched, refused_next, has_room}
 use Rattle.rules.proofs.Ends.{few_ends}
 use Rattle.rules.proofs.EveryStruct.{by_struct}
 use Rattle.rules.proofs.WholeLaws.{step_whole_lem}
-use Rattle.rules.specs.Questions.{count_whole, callable_whole, running_whole, priority_whole}
+use Rattle.rules.specs.Questions.{refusal_in, number_in, yes_in, count_whole, callable_whole, running_whole, priority_whole}
 use Rattle.rules.specs.declared.Supervisor.{Supervisor}
 use Rattle.calls.specs.Record.{encode}
 use Rattle.calls.specs.Reading.{read_of, refusal_of, count_of}
@@ -51,35 +51,35 @@ question : (b : Bool) → (◌≡◌ {A = ℕ} (when b then 0 else 2) 2) ↔ (b 
 question true = (λ e. absurd (omega (arith, e)), λ e. absurd (clash refl e))
 question false = (λ e. refl, λ e. refl)
 
-count_refused : (s : Supervisor) (t e : ℕ) → ((count_whole s t e).refusal ≡ 2) ↔ (sound_whole s ≡ false)
+count_refused : (s : Supervisor) (t e : ℕ) → (refusal_in (count_whole s t e) ≡ 2) ↔ (sound_whole s ≡ false)
 unfolding count_whole
 count_refused s t e = by_bool (sound_whole s) (λ b. rw b (question true)) (λ b. rw b (question false))
 
-callable_refused : (s : Supervisor) (t : ℕ) → ((callable_whole s t).refusal ≡ 2) ↔ (sound_whole s ≡ false)
+callable_refused : (s : Supervisor) (t : ℕ) → (refusal_in (callable_whole s t) ≡ 2) ↔ (sound_whole s ≡ false)
 unfolding callable_whole
 callable_refused s t = by_bool (sound_whole s) (λ b. rw b (question true)) (λ b. rw b (question false))
 
-running_refused : (s : Supervisor) → ((running_whole s).refusal ≡ 2) ↔ (sound_whole s ≡ false)
+running_refused : (s : Supervisor) → (refusal_in (running_whole s) ≡ 2) ↔ (sound_whole s ≡ false)
 unfolding running_whole
 running_refused s = by_bool (sound_whole s) (λ b. rw b (question true)) (λ b. rw b (question false))
 
-priority_refused : (s : Supervisor) (t : ℕ) → ((priority_whole s t).refusal ≡ 2) ↔ (sound_whole s ≡ false)
+priority_refused : (s : Supervisor) (t : ℕ) → (refusal_in (priority_whole s t) ≡ 2) ↔ (sound_whole s ≡ false)
 unfolding priority_whole
 priority_refused s t = by_bool (sound_whole s) (λ b. rw b (question true)) (λ b. rw b (question false))
 
-count_zero : (s : Supervisor) (t e : ℕ) → sound_whole s ≡ false → (count_whole s t e).count ≡ 0
+count_zero : (s : Supervisor) (t e : ℕ) → sound_whole s ≡ false → number_in (count_whole s t e) ≡ 0
 unfolding count_whole
 count_zero s t e b = rw b
 
-callable_no : (s : Supervisor) (t : ℕ) → sound_whole s ≡ false → (callable_whole s t).yes ≡ false
+callable_no : (s : Supervisor) (t : ℕ) → sound_whole s ≡ false → yes_in (callable_whole s t) ≡ false
 unfolding callable_whole
 callable_no s t b = rw b
 
-running_zero : (s : Supervisor) → sound_whole s ≡ false → (running_whole s).task ≡ 0
+running_zero : (s : Supervisor) → sound_whole s ≡ false → number_in (running_whole s) ≡ 0
 unfolding running_whole
 running_zero s b = rw b
 
-priority_zero : (s : Supervisor) (t : ℕ) → sound_whole s ≡ false → (priority_whole s t).priority ≡ 0
+priority_zero : (s : Supervisor) (t : ℕ) → sound_whole s ≡ false → number_in (priority_whole s t) ≡ 0
 unfolding priority_whole
 priority_zero s t b = rw b
 
@@ -88,10 +88,10 @@ abbrev ruled : Supervisor → Use → Whole
 ruled s u = step_whole s u.call (length u.lent)
 
 gave_refusal : (s : Supervisor) (u : Use) → Keeps s u → u.gave.answer.refusal ≡ (ruled s u).refusal
-gave_refusal s u k = ap (λ (g : Stepped). g.answer.refusal) k.answer
+gave_refusal s u k = ap (λ (g : Stepped Supervisor). g.answer.refusal) k.answer
 
 gave_next : (s : Supervisor) (u : Use) → Keeps s u → u.gave.answer.next ≡ (ruled s u).next
-gave_next s u k = ap (λ (g : Stepped). g.answer.next) k.answer
+gave_next s u k = ap (λ (g : Stepped Supervisor). g.answer.next) k.answer
 
 use_refused : (s : Supervisor) → Typed s → (u : Use) → Keeps s u → u.gave.answer.refusal ≡ first_row (rows s u.call (length u.lent))
 use_refused s ty u k = gave_refusal s u k ∙ by_table s u.call (length u.lent) ty
@@ -103,9 +103,9 @@ use_untouched s u k h =
     let a : answer_of w ≡ refused_answer w.refusal w.next =
     λ i. record { refusal = w.refusal; result = (t.answer i).result; task = (t.answer i).task; entry = (t.answer i).entry; partner = (t.answer i).partner; ended = length (t.ended i); next = w.next } in
     record {
-      state = ap (λ (g : Stepped). g.state) k.answer ∙ t.state;
+      state = ap (λ (g : Stepped Supervisor). g.state) k.answer ∙ t.state;
       room = k.room ∙ t.room u.lent;
-      answer = ap (λ (g : Stepped). g.answer) k.answer ∙ a ∙ (λ i. refused_answer (sym (gave_refusal s u k) i) (sym (gave_next s u k) i));
+      answer = ap (λ (g : Stepped Supervisor). g.answer) k.answer ∙ a ∙ (λ i. refused_answer (sym (gave_refusal s u k) i) (sym (gave_next s u k) i));
     }
 
 next_refused : (s : Supervisor) (u : Use) → Keeps s u → 2 < u.gave.answer.refusal → u.gave.answer.next ≡ state.running (view s)
@@ -126,7 +126,7 @@ room_enough s ty u k =
     by_struct (λ (x : Supervisor). length (ruled x u).ended ≤ 31) s (length u.lent) ty
     (λ r q. rw (q u.call) (omega arith))
     (λ v h g e. rw (step_whole_lem v u.call (length u.lent) h) (few_ends v a h)) in
-    omega (arith, few, ap (λ (g : Stepped). g.answer.ended) k.answer)
+    omega (arith, few, ap (λ (g : Stepped Supervisor). g.answer.ended) k.answer)
 
 takes_nothing : (s : List ℕ) → 0 < refusal_of (read_of s) → count_of (read_of s) ≡ 0
 takes_nothing s h = go (read_of s) h

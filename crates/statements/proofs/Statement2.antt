@@ -12,7 +12,7 @@ use Rattle.rules.proofs.WholeLaws.{view_pack, sound_view, tree_view}
 use Rattle.rules.proofs.StepSound.{Kept, call_sound}
 use Rattle.rules.specs.Step.{took, take_call}
 use Rattle.rules.specs.Whole.{Typed, Whole, view, sound_whole, done, step_whole}
-use Rattle.rules.specs.Questions.{count_whole, priority_whole}
+use Rattle.rules.specs.Questions.{number_in, count_whole, priority_whole}
 use Rattle.rules.proofs.TreeMoves.{highest_is}
 use Rattle.rules.proofs.TreeTest.{highest_none}
 use native.Mathlib.Omega.{arith}
@@ -26,7 +26,7 @@ the_rule : (s : Supervisor) (c : C.Call) (n : ℕ) → 124 ≤ n → sound_whole
 unfolding step_whole
 the_rule s c n h e = rw (le-ltb n 124 h, e)
 
-count_is_length : (s : Supervisor) (t e : ℕ) → sound_whole s ≡ true → (count_whole s t e).count ≡ length (queue (view s) t e)
+count_is_length : (s : Supervisor) (t e : ℕ) → sound_whole s ≡ true → number_in (count_whole s t e) ≡ length (queue (view s) t e)
 unfolding count_whole
 count_is_length s t e h = rw h
 
@@ -35,14 +35,14 @@ next_state : (s : Supervisor) → Typed s → sound_whole s ≡ true → (c : C.
 next_state s k e c n h st a l q =
     ap (λ (w : Whole). view w.state) (the_rule s c n h e ∙ ap (done s) q) ∙ view_pack st (subst Kept q (call_sound (view s) c (sound_view s k e)))
 
-priority_is_current : (s : Supervisor) → Typed s → sound_whole s ≡ true → (t : ℕ) → (priority_whole s t).priority ≡ current_of (view s) t
+priority_is_current : (s : Supervisor) → Typed s → sound_whole s ≡ true → (t : ℕ) → number_in (priority_whole s t) ≡ current_of (view s) t
 unfolding priority_whole
 priority_is_current s k e t =
     let h = sound_view s k e in
     let g = tree_view s k e in
     rw e (highest_is (view s) 30 (g.no_ring t).0 t h g (g.no_ring t).1 (omega arith))
 
-priority_absent : (s : Supervisor) → Typed s → sound_whole s ≡ true → (t : ℕ) → is_task (view s) t ≡ false → (priority_whole s t).priority ≡ 0
+priority_absent : (s : Supervisor) → Typed s → sound_whole s ≡ true → (t : ℕ) → is_task (view s) t ≡ false → number_in (priority_whole s t) ≡ 0
 unfolding priority_whole
 priority_absent s k e t n = rw e (highest_none (view s) 30 t (sound_view s k e) n)
 

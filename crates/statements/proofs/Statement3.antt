@@ -20,7 +20,7 @@ use Rattle.statements.specs.Statement3.{reached, Run, state_of, log_of, Statemen
 
 -- the state that a use gives is that of the rules
 gave_state : (s : Supervisor) (u : Use) → Keeps s u → u.gave.state ≡ after_step s (asked u)
-gave_state s u k = ap (λ (g : Stepped). g.state) k.answer
+gave_state s u k = ap (λ (g : Stepped Supervisor). g.state) k.answer
 
 reached_is : (s : Supervisor) (us : List Use) → Chain s us → reached s us ≡ reach_whole s (map asked us)
 reached_is s [] k = refl

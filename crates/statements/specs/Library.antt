@@ -9,7 +9,7 @@ use Rattle.calls.specs.declared.Record.{Record}
 use Rattle.calls.specs.declared.ReadError.{ReadError}
 use Rattle.rules.specs.Step.{room_after}
 use Rattle.rules.specs.Whole.{Whole, sound_whole, answer_of}
-use Rattle.rules.specs.Questions.{count_whole, callable_whole, running_whole, priority_whole}
+use Rattle.rules.specs.Questions.{refusal_in, number_in, yes_in, count_whole, callable_whole, running_whole, priority_whole}
 use Rattle.rules.specs.Runs.{start}
 use Rattle.rules.specs.Uses.{Use}
 use Rattle.rules.specs.declared.Answer.{Answer}
@@ -103,17 +103,17 @@ pub record Library : Type 1 where
   -- whatever the contracts of the questions allow is what the definitions say of the state in the bytes: its number returned, its answer in one byte
   pub card_tells_sound : (κs : _) (x : _) (r : _) (y : _) → card_sound.Learnt κs x r y → r ≡ bit (sound_whole (state_in x.0.now))
   pub card_tells_count : (κs : _) (x : _) (r : _) (y : _) → card_count.Learnt κs x r y
-      → (r ≡ if_room 1 x.1.1.1.0.now 1 (count_whole (state_in x.0.now) x.1.0 x.1.1.0).refusal)
-      × (y.1.1.1.0.now ≡ one_after x.1.1.1.0.now (count_whole (state_in x.0.now) x.1.0 x.1.1.0).count)
+      → (r ≡ if_room 1 x.1.1.1.0.now 1 (refusal_in (count_whole (state_in x.0.now) x.1.0 x.1.1.0)))
+      × (y.1.1.1.0.now ≡ one_after x.1.1.1.0.now (number_in (count_whole (state_in x.0.now) x.1.0 x.1.1.0)))
   pub card_tells_callable : (κs : _) (x : _) (r : _) (y : _) → card_callable.Learnt κs x r y
-      → (r ≡ if_room 1 x.1.1.0.now 1 (callable_whole (state_in x.0.now) x.1.0).refusal)
-      × (y.1.1.0.now ≡ one_after x.1.1.0.now (bit (callable_whole (state_in x.0.now) x.1.0).yes))
+      → (r ≡ if_room 1 x.1.1.0.now 1 (refusal_in (callable_whole (state_in x.0.now) x.1.0)))
+      × (y.1.1.0.now ≡ one_after x.1.1.0.now (bit (yes_in (callable_whole (state_in x.0.now) x.1.0))))
   pub card_tells_running : (κs : _) (x : _) (r : _) (y : _) → card_running.Learnt κs x r y
-      → (r ≡ if_room 1 x.1.0.now 1 (running_whole (state_in x.0.now)).refusal)
-      × (y.1.0.now ≡ one_after x.1.0.now (running_whole (state_in x.0.now)).task)
+      → (r ≡ if_room 1 x.1.0.now 1 (refusal_in (running_whole (state_in x.0.now))))
+      × (y.1.0.now ≡ one_after x.1.0.now (number_in (running_whole (state_in x.0.now))))
   pub card_tells_priority : (κs : _) (x : _) (r : _) (y : _) → card_priority.Learnt κs x r y
-      → (r ≡ if_room 1 x.1.1.0.now 1 (priority_whole (state_in x.0.now) x.1.0).refusal)
-      × (y.1.1.0.now ≡ one_after x.1.1.0.now (priority_whole (state_in x.0.now) x.1.0).priority)
+      → (r ≡ if_room 1 x.1.1.0.now 1 (refusal_in (priority_whole (state_in x.0.now) x.1.0)))
+      × (y.1.1.0.now ≡ one_after x.1.1.0.now (number_in (priority_whole (state_in x.0.now) x.1.0)))
   -- any sequence of uses, refused ones and records that cannot be read included
   pub card_run : (n : ℕ) → n < 4294967296 → (b : List ℕ) → state_size ≤ length b → (us : List CardUse) → CardChain (stored (start n) b) us → RunsCard n b us
   -- the number returned is the refusal of the answer

@@ -8,7 +8,7 @@ use Rattle.lists.specs.Once.{AsksNothing}
 use Rattle.rules.specs.State as state
 use Rattle.rules.specs.State.{queue}
 use Rattle.rules.specs.Whole.{Typed, view, sound_whole, refused_answer}
-use Rattle.rules.specs.Questions.{count_whole, callable_whole, running_whole, priority_whole}
+use Rattle.rules.specs.Questions.{refusal_in, number_in, yes_in, count_whole, callable_whole, running_whole, priority_whole}
 use Rattle.rules.specs.Uses.{Use, Keeps}
 use Rattle.rules.specs.declared.Supervisor.{Supervisor}
 use Rattle.calls.specs.Record.{encode}
@@ -68,15 +68,15 @@ pub record Statement1 : Type 2 where
   -- "bad input gets the refusal number": that of the first row of the table that applies, and 0, which is none, where no row does
   pub use_refused : (s : Supervisor) → Typed s → (u : Use) → Keeps s u → u.gave.answer.refusal ≡ first_row (rows s u.call (length u.lent))
   -- a question is refused, with 2, exactly when the state is not sound
-  pub count_refused : (s : Supervisor) (t e : ℕ) → ((count_whole s t e).refusal ≡ 2) ↔ (sound_whole s ≡ false)
-  pub callable_refused : (s : Supervisor) (t : ℕ) → ((callable_whole s t).refusal ≡ 2) ↔ (sound_whole s ≡ false)
-  pub running_refused : (s : Supervisor) → ((running_whole s).refusal ≡ 2) ↔ (sound_whole s ≡ false)
-  pub priority_refused : (s : Supervisor) (t : ℕ) → ((priority_whole s t).refusal ≡ 2) ↔ (sound_whole s ≡ false)
+  pub count_refused : (s : Supervisor) (t e : ℕ) → (refusal_in (count_whole s t e) ≡ 2) ↔ (sound_whole s ≡ false)
+  pub callable_refused : (s : Supervisor) (t : ℕ) → (refusal_in (callable_whole s t) ≡ 2) ↔ (sound_whole s ≡ false)
+  pub running_refused : (s : Supervisor) → (refusal_in (running_whole s) ≡ 2) ↔ (sound_whole s ≡ false)
+  pub priority_refused : (s : Supervisor) (t : ℕ) → (refusal_in (priority_whole s t) ≡ 2) ↔ (sound_whole s ≡ false)
   -- a refused question answers 0 or no
-  pub count_zero : (s : Supervisor) (t e : ℕ) → sound_whole s ≡ false → (count_whole s t e).count ≡ 0
-  pub callable_no : (s : Supervisor) (t : ℕ) → sound_whole s ≡ false → (callable_whole s t).yes ≡ false
-  pub running_zero : (s : Supervisor) → sound_whole s ≡ false → (running_whole s).task ≡ 0
-  pub priority_zero : (s : Supervisor) (t : ℕ) → sound_whole s ≡ false → (priority_whole s t).priority ≡ 0
+  pub count_zero : (s : Supervisor) (t e : ℕ) → sound_whole s ≡ false → number_in (count_whole s t e) ≡ 0
+  pub callable_no : (s : Supervisor) (t : ℕ) → sound_whole s ≡ false → yes_in (callable_whole s t) ≡ false
+  pub running_zero : (s : Supervisor) → sound_whole s ≡ false → number_in (running_whole s) ≡ 0
+  pub priority_zero : (s : Supervisor) (t : ℕ) → sound_whole s ≡ false → number_in (priority_whole s t) ≡ 0
   -- "a refused step returns the state it was given, an empty list of ended waits, and lent room untouched"
   pub use_untouched : (s : Supervisor) (u : Use) → Keeps s u → 0 < u.gave.answer.refusal → Refused s u
   -- the dispatched task that it answers is that of the unchanged state; 0 after 1 and 2

@@ -6,7 +6,7 @@ use Rattle.rules.specs.State.{State, queue, current_of, is_task}
 use Rattle.rules.specs.declared.Item.{Item}
 use Rattle.rules.specs.Step.{took, take_call}
 use Rattle.rules.specs.Whole.{Typed, view, sound_whole, done, step_whole}
-use Rattle.rules.specs.Questions.{count_whole, callable_whole, running_whole, priority_whole}
+use Rattle.rules.specs.Questions.{number_in, count_whole, callable_whole, running_whole, priority_whole}
 use Rattle.rules.specs.EachStep.{Dispatched, waiting_on}
 use Rattle.rules.specs.SoundFacts.{HasEntry}
 use Rattle.rules.specs.Uses.{Keeps}
@@ -53,9 +53,9 @@ pub record Statement2 : Type 1 where
   -- "each good record one call": what is accepted is the record of the call that it gives
   pub good_record : (s : List ℕ) (c : C.Call) (n : ℕ) → Bytes s → read_of s ≡ Ok (record { call = c; count = n }) → take n s ≡ encode c
   -- COUNT is the length of that queue, 0 for a task or entry that is not there, and so the number of tasks that wait on that entry
-  pub count_is_length : (s : Supervisor) (t e : ℕ) → sound_whole s ≡ true → (count_whole s t e).count ≡ length (queue (view s) t e)
-  pub count_absent : (s : Supervisor) → Typed s → sound_whole s ≡ true → (t e : ℕ) → (HasEntry (view s) t e → ⊥) → (count_whole s t e).count ≡ 0
-  pub count_is_number : (s : Supervisor) → Typed s → sound_whole s ≡ true → (t e : ℕ) → (count_whole s t e).count ≡ length (waiting_on (view s) t e)
+  pub count_is_length : (s : Supervisor) (t e : ℕ) → sound_whole s ≡ true → number_in (count_whole s t e) ≡ length (queue (view s) t e)
+  pub count_absent : (s : Supervisor) → Typed s → sound_whole s ≡ true → (t e : ℕ) → (HasEntry (view s) t e → ⊥) → number_in (count_whole s t e) ≡ 0
+  pub count_is_number : (s : Supervisor) → Typed s → sound_whole s ≡ true → (t e : ℕ) → number_in (count_whole s t e) ≡ length (waiting_on (view s) t e)
   -- the priority worked out afresh down the tree is the current one; 0 for a number not created
-  pub priority_is_current : (s : Supervisor) → Typed s → sound_whole s ≡ true → (t : ℕ) → (priority_whole s t).priority ≡ current_of (view s) t
-  pub priority_absent : (s : Supervisor) → Typed s → sound_whole s ≡ true → (t : ℕ) → is_task (view s) t ≡ false → (priority_whole s t).priority ≡ 0
+  pub priority_is_current : (s : Supervisor) → Typed s → sound_whole s ≡ true → (t : ℕ) → number_in (priority_whole s t) ≡ current_of (view s) t
+  pub priority_absent : (s : Supervisor) → Typed s → sound_whole s ≡ true → (t : ℕ) → is_task (view s) t ≡ false → number_in (priority_whole s t) ≡ 0

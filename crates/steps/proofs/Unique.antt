@@ -13,6 +13,9 @@ use Rattle.steps.proofs.change.looks.Reads as looks
 use Rattle.steps.proofs.change.comes.Reads as comes
 use Rattle.steps.proofs.change.joined_queue.Reads as joined-queue
 use Rattle.steps.proofs.change.next_line.Reads as next-line
+use Rattle.steps.proofs.engine.empty_core.Reads as empty-core
+use Rattle.steps.proofs.engine.queue_length.Reads as queue-length
+use Rattle.steps.proofs.engine.is_callable.Reads as is-callable
 
 pub take_call_once : (κs : _) (x : _) (r r' : _) (y y' : _) → take-call.Learnt κs x r y → take-call.Learnt κs x r' y' → (r ≡ r') × (y.1.1.1.0.now ≡ y'.1.1.1.0.now)
 take_call_once κs x r r' y y' p q = (p.0 ∙ sym q.0, p.1 ∙ sym q.1)
@@ -46,3 +49,12 @@ joined_queue_once κs x r r' y y' p q = p ∙ sym q
 
 pub next_line_once : Once next-line.Learnt
 next_line_once κs x r r' y y' p q = p ∙ sym q
+
+pub empty_core_once : Once empty-core.Learnt
+empty_core_once κs x r r' y y' p q = p ∙ sym q
+
+pub queue_length_once : Once queue-length.Learnt
+queue_length_once κs x r r' y y' p q = p ∙ sym q
+
+pub is_callable_once : Once is-callable.Learnt
+is_callable_once κs x r r' y y' p q = p ∙ sym q

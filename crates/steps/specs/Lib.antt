@@ -1,3 +1,4 @@
 pub mod Lowest
 pub mod Taken
 pub mod Change
+pub mod Engine

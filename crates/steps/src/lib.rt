@@ -11,6 +11,7 @@ mod create;
 mod delay;
 mod end;
 mod ended;
+pub mod engine;
 mod finish;
 mod runner;
 mod select;

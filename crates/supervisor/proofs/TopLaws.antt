@@ -5,18 +5,18 @@ use mathlib.Core.Path.{◌≡◌, refl, subst}
 use mathlib.Core.Bool.{Bool, true, false, not, ◌&&◌}
 use mathlib.Core.List.{List, ◌++◌}
 use native.Mathlib.Omega.{arith}
-use lib.Dec.{ltb, leb}
+use lib.Dec.{ltb}
 use lib.ListN.{length}
 use lib.Seq.{length-take-le}
 use Rattle.lists.specs.Line.{line}
 use Rattle.lists.specs.Marks.{no_marks, marked}
-use Rattle.rules.specs.State.{State, created, task_of, is_completed}
+use Rattle.rules.specs.State.{State, created, is_task, place_of, is_completed}
+use Rattle.steps.specs.Engine.{callable_in}
 use Rattle.rules.specs.Step.{took, take_call, room_after}
 use Rattle.rules.specs.declared.Refusal.TheVariants.{ShortRoom, BadState}
 use Rattle.rules.specs.Callers.{accepted_in, comes_by, Told}
 use Rattle.rules.specs.Whole.{Typed, view, pack, pack_core, sound_whole, decline, done, step_whole}
 use Rattle.rules.specs.declared.Item.{Item}
-use Rattle.rules.specs.declared.Task.{Task}
 use Rattle.rules.specs.declared.Supervisor.{Supervisor}
 use Rattle.rules.proofs.Apart.{tells}
 use Rattle.rules.proofs.WholeLaws.{parts, core_parts, core_packed, sound_view}
@@ -24,8 +24,6 @@ use Rattle.steps.specs.Taken.{Stands, SeesFor, taken_as}
 use Rattle.steps.specs.Change.{one, task_at, bytes_in, line_by}
 use Rattle.steps.proofs.ChangeLaws.{line_is}
 use Rattle.steps.specs.declared.answers.Taken.{Taken}
-use Rattle.rules.specs.declared.Callable.{Callable}
-use Rattle.rules.specs.Questions.{callable_whole}
 use Rattle.calls.specs.declared.Call as C
 
 -- the core of a sound struct stands, and its line of callers is that of the state
@@ -63,7 +61,5 @@ state_is s c st a x k room after m l b t h o ek ea em eb el =
 created_sound : (s : Supervisor) → sound_whole s ≡ true → length s.core.tasks ≡ 31 → created (view s) ≡ s.core.created
 created_sound s h k = length-take-le s.core.created s.core.tasks (omega (arith, (core_parts s.core (parts s h).core).few, k))
 
-pub callable_is : (s : Supervisor) (t : ℕ) (b d : Bool) (x : Task) → sound_whole s ≡ true → length s.core.tasks ≡ 31 → b ≡ (ltb 0 t && leb t s.core.created) → x ≡ task_of (view s) t → d ≡ is_completed x.place
-    → ◌≡◌ {A = Callable} (record { refusal = 0; yes = b && not d }) (callable_whole s t)
-unfolding callable_whole
-callable_is s t b d x h k eb ex ed = rw (h, eb, ed, ex, created_sound s h k)
+pub callable_is : (s : Supervisor) (t : ℕ) → sound_whole s ≡ true → length s.core.tasks ≡ 31 → callable_in s.core t ≡ (is_task (view s) t && not (is_completed (place_of (view s) t)))
+callable_is s t h k = rw (created_sound s h k)

@@ -8,18 +8,16 @@ ghost use Rattle.rules.specs.State as state;
 ghost use Rattle.rules.specs.Whole.{stepped_of, pack, sound_whole, step_whole};
 
 use calls::Call;
-use rules::{Callable, Core, Count, Priority, Refusal, Running, Stepped, Supervisor};
+use rules::{BadState, Refusal, Stepped, Supervisor};
 use soundness::{is_sound, parts_sound};
 use steps::answers::{answer_by, is_short, refused_answer};
 use steps::change::{comes, gone_marks, next_line};
+use steps::engine::{empty_core, is_callable, queue_length};
 use steps::take_call;
-use table::place::{is_between, is_completed};
-use table::queues::{Test, picked};
-use table::tasks::{blank_task, task_of};
 use table::tree::highest_of;
 
 // One call. A refused one leaves the state and the room as they are; the items of ended waits are written one behind the other.
-pub fn step(s: Supervisor, c: Call, room: &mut [u8]) -> Stepped
+pub fn step(s: Supervisor, c: Call, room: &mut [u8]) -> Stepped<Supervisor>
     ensures value { result ≡ stepped_of (step_whole s c (length room.old)) }
     ensures room { room.new ≡ room_after room.old (step_whole s c (length room.old)).ended }
 {
@@ -59,19 +57,10 @@ pub fn step(s: Supervisor, c: Call, room: &mut [u8]) -> Stepped
 pub fn empty(clock: u32) -> Supervisor
     ensures { result ≡ pack (state.empty clock) }
 {
-    let tasks = [blank_task(); 31];
-    let line = [0u8; 31];
-    let core = Core {
-        clock,
-        created: 0,
-        tasks,
-        ready: line,
-        held: line,
-        delays: line,
-    };
+    let core = empty_core(clock);
     Supervisor {
         core,
-        callers: line,
+        callers: [0u8; 31],
     }
 }
 
@@ -83,76 +72,33 @@ pub fn sound(s: Supervisor) -> bool
 }
 
 // Who runs: the head of the highest ready queue that is not empty, 0 where nobody is ready.
-pub fn running(s: Supervisor) -> Running
+pub fn running(s: Supervisor) -> Result<u8, BadState>
     ensures { result ≡ running_whole s }
 {
-    if is_sound(s) {
-        let task = table::dispatch::running(s.core);
-        return Running { refusal: 0, task };
-    }
-    Running {
-        refusal: Refusal::BadState as u8,
-        task: 0,
-    }
+    sound(s)
+        .then(|| table::dispatch::running(s.core))
+        .ok_or(BadState)
 }
 
 // COUNT: how many are queued on entry e of task t.
-pub fn count(s: Supervisor, t: u8, e: u8) -> Count
+pub fn count(s: Supervisor, t: u8, e: u8) -> Result<usize, BadState>
     ensures { result ≡ count_whole s t e }
 {
-    if is_sound(s) {
-        let callers = s.callers;
-        let q = picked(
-            s.core,
-            callers,
-            Test::QueuedOn {
-                target: t,
-                entry: e,
-            },
-        );
-        let n = lines::len(q);
-        return Count {
-            refusal: 0,
-            count: n,
-        };
-    }
-    Count {
-        refusal: Refusal::BadState as u8,
-        count: 0,
-    }
+    sound(s)
+        .then(|| queue_length(s.core, s.callers, t, e))
+        .ok_or(BadState)
 }
 
 // CALLABLE: whether task t was created and has not completed.
-pub fn callable(s: Supervisor, t: u8) -> Callable
+pub fn callable(s: Supervisor, t: u8) -> Result<bool, BadState>
     ensures { result ≡ callable_whole s t }
 {
-    if is_sound(s) {
-        let x = task_of(s.core, t);
-        let p = x.place;
-        return Callable {
-            refusal: 0,
-            yes: is_between(t, s.core.created) & !is_completed(p),
-        };
-    }
-    Callable {
-        refusal: Refusal::BadState as u8,
-        yes: false,
-    }
+    sound(s).then(|| is_callable(s.core, t)).ok_or(BadState)
 }
 
 // The priority of task t, worked out afresh: the highest created one among itself and everyone below it in the tree of held callers.
-pub fn priority(s: Supervisor, t: u8) -> Priority
+pub fn priority(s: Supervisor, t: u8) -> Result<u8, BadState>
     ensures { result ≡ priority_whole s t }
 {
-    if is_sound(s) {
-        let priority = highest_of(s.core, t);
-        return Priority {
-            refusal: 0,
-            priority,
-        };
-    }
-    Priority {
-        refusal: Refusal::BadState as u8,
-        priority: 0,
-    }
+    sound(s).then(|| highest_of(s.core, t)).ok_or(BadState)
 }

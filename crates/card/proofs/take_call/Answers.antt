@@ -18,7 +18,7 @@ returns-then-answer-eq0 c =
     -- what the step answers, of the state in the lent bytes
     let q : c.step-k.result ≡ stepped_of w = c.step-k.ensures.value ∙ ap (λ (s : Supervisor). stepped_of (step_whole s a.c n)) c.state_in-s.ensures in
     let r = c.step-k.ensures.room ∙ ap (λ (s : Supervisor). room_after room (step_whole s a.c n).ended) c.state_in-s.ensures in
-    let d = did_take stored b room w c.step-k.result.answer (ap (λ (k : Stepped). k.answer) q) _ r c.step-k.result.state _ (ap (λ (k : Stepped). k.state) q) c.if-answer-eq0.true c.store.ensures in
+    let d = did_take stored b room w c.step-k.result.answer (ap (λ (k : Stepped Supervisor). k.answer) q) _ r c.step-k.result.state _ (ap (λ (k : Stepped Supervisor). k.state) q) c.if-answer-eq0.true c.store.ensures in
     record { value = d.0; state_after = d.1.0; room_after = d.1.1 }
 
 pub returns : goal.returns
@@ -31,5 +31,5 @@ returns c =
     -- what the step answers, of the state in the lent bytes
     let q : c.step-k.result ≡ stepped_of w = c.step-k.ensures.value ∙ ap (λ (s : Supervisor). stepped_of (step_whole s a.c n)) c.state_in-s.ensures in
     let r = c.step-k.ensures.room ∙ ap (λ (s : Supervisor). room_after room (step_whole s a.c n).ended) c.state_in-s.ensures in
-    let d = did_refuse stored b room w c.step-k.result.answer (ap (λ (k : Stepped). k.answer) q) _ r c.if-answer-eq0.false in
+    let d = did_refuse stored b room w c.step-k.result.answer (ap (λ (k : Stepped Supervisor). k.answer) q) _ r c.if-answer-eq0.false in
     record { value = d.0; state_after = d.1.0; room_after = d.1.1 }

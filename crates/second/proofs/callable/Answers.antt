@@ -1,18 +1,19 @@
-use native.Mathlib.Omega.{arith}
-use borrow.Author.Rules.{rules}
-use Prim.Native.Nat.{◌<◌}
-use mathlib.Core.Path.{◌≡◌, sym, ◌∙◌}
-use lib.ListN.{length}
+use Rattle.std.proofs.Common.{◌≡◌, ◌<◌, Bool, IfSome, rules, arith, not, ◌&&◌, length, ◌∙◌}
 use Rattle.lists.proofs.ListLaws.{mapped_long}
-use Rattle.rules.specs.Second.{callable_second}
+use Rattle.rules.specs.State.{is_task, place_of, is_completed}
+use Rattle.rules.specs.Second.{view_second, sound_second, callable_second}
+use Rattle.rules.proofs.QuestionLaws.{asked_is}
+use Rattle.steps.specs.Engine.{callable_in}
 use Rattle.second.specs.Rows.{TypedSecond}
 use Rattle.second.proofs.RowLaws.{rows_long}
 use Rattle.second.proofs.TopLaws.{callable_is}
 use Rattle.second.proofs.callable.Goals as goal
 
-pub returns-then-is_sound_second : goal.returns-then-is_sound_second
-returns-then-is_sound_second c =
+pub returns : goal.returns
+unfolding callable_second
+returns c =
     let x = c.args.x in
+    let t = c.args.t in
     let l1 : length x.core.tasks ≡ 31 = search (rules, mapped_long) in
     let l2 : length x.core.ready ≡ 31 = search (rules, mapped_long) in
     let l3 : length x.rows ≡ 31 = search (rules, mapped_long) in
@@ -24,8 +25,5 @@ returns-then-is_sound_second c =
       rows = l3;
       lines = λ j h. rows_long x.rows _ c.well_formed.0.1.1.1.0.1.1 j (omega (arith, l3));
     } in
-    callable_is x c.args.t _ _ c.task_of-k.result typed (sym c.is_sound_second.ensures ∙ c.if-is_sound_second.true) c.is_between.ensures c.task_of-k.ensures c.is_completed.ensures
-
-pub returns : goal.returns
-unfolding callable_second
-returns c = let q = sym c.is_sound_second.ensures ∙ c.if-is_sound_second.false in rw q
+    let got : IfSome c.then.result (λ (b : Bool). b ≡ callable_in x.core t) = search rules in
+    asked_is (is_task (view_second x) t && not (is_completed (place_of (view_second x) t))) _ (sound_second x) c.then.result (c.then.ensures.variant ∙ c.sound.ensures) got (λ e. callable_is x t typed e) c.ok_or.ensures.value

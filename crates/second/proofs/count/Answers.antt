@@ -1,27 +1,19 @@
-use native.Mathlib.Omega.{arith}
-use borrow.Author.Rules.{rules}
-use Prim.Native.Nat.{ℕ, ◌<◌}
-use mathlib.Core.Path.{◌≡◌, sym, ◌∙◌, ap}
-use lib.ListN.{length}
+use Rattle.std.proofs.Common.{◌≡◌, ℕ, ◌<◌, IfSome, rules, arith, sym, ap, length, ◌∙◌}
 use Rattle.lists.proofs.ListLaws.{mapped_long}
-use mathlib.Core.List.{List}
-use Rattle.lists.specs.Line.{line}
-use Rattle.lists.specs.Lists.{filter}
-use Rattle.rules.specs.Second.{count_second}
-use Rattle.rules.specs.State.{waits_on}
-use Rattle.rules.specs.Whole.{view_core}
-use Rattle.steps.proofs.MoveLaws.{picked_line}
-use Rattle.table.specs.declared.queues.Test.TheVariants.{QueuedOn}
-use Rattle.second.specs.Rows.{TypedSecond}
+use Rattle.rules.specs.State.{queue}
+use Rattle.rules.specs.Second.{view_second, sound_second, count_second}
+use Rattle.rules.proofs.QuestionLaws.{asked_is}
+use Rattle.steps.specs.Engine.{queued_in}
+use Rattle.second.specs.Rows.{row_of, TypedSecond}
 use Rattle.second.proofs.RowLaws.{rows_long}
 use Rattle.second.proofs.TopLaws.{queue_here}
 use Rattle.second.proofs.count.Goals as goal
 
-pub returns-then-is_sound_second : goal.returns-then-is_sound_second
+pub returns : goal.returns
 unfolding count_second
-returns-then-is_sound_second c =
+returns c =
     let a = c.args in
-    let x = c.args.x in
+    let x = a.x in
     let l1 : length x.core.tasks ≡ 31 = search (rules, mapped_long) in
     let l2 : length x.core.ready ≡ 31 = search (rules, mapped_long) in
     let l3 : length x.rows ≡ 31 = search (rules, mapped_long) in
@@ -33,11 +25,5 @@ returns-then-is_sound_second c =
       rows = l3;
       lines = λ j h. rows_long x.rows _ c.well_formed.0.1.1.1.0.1.1 j (omega (arith, l3));
     } in
-    let q = sym c.is_sound_second.ensures ∙ c.if-is_sound_second.true in
-    let long : length c.row_of-row.result ≡ 31 = search rules in
-    let n = c.len-n.ensures ∙ ap length (picked_line x.core c.row_of-row.result (QueuedOn a.t a.e) c.picked-q.result long c.picked-q.ensures) in
-    rw q (ap (λ (k : ℕ). record { refusal = 0; count = k }) (n ∙ ap length (ap (λ (l : List ℕ). filter (waits_on (view_core x.core) a.t a.e) (line l)) c.row_of-row.ensures ∙ sym (queue_here x typed q a.t a.e))))
-
-pub returns : goal.returns
-unfolding count_second
-returns c = let q = sym c.is_sound_second.ensures ∙ c.if-is_sound_second.false in rw q
+    let got : IfSome c.then.result (λ (n : ℕ). n ≡ queued_in x.core (row_of x.rows a.t) a.t a.e) = search rules in
+    asked_is (length (queue (view_second x) a.t a.e)) _ (sound_second x) c.then.result (c.then.ensures.variant ∙ c.sound.ensures) got (λ e. ap length (sym (queue_here x typed e a.t a.e))) c.ok_or.ensures.value

@@ -8,9 +8,9 @@ use Rattle.lists.proofs.ListLaws.{mapped_long}
 use lib.Dec.{ltb}
 use borrow.Author.Tests.{ltb-false}
 use Rattle.std.specs.Prelude.{Ok, Err}
-use Rattle.rules.specs.Second.{gathered, view_second, pack_second, sound_second, second_of, step_second}
+use Rattle.rules.specs.Second.{gathered, view_second, pack_second, sound_second, step_second}
 use Rattle.rules.specs.Step.{Outcome, refused, took, take_call, room_after}
-use Rattle.rules.specs.Whole.{view_core, StepOf, done_by, refused_answer}
+use Rattle.rules.specs.Whole.{view_core, StepOf, done_by, refused_answer, stepped_of}
 use Rattle.rules.specs.declared.Second.{Second}
 use Rattle.rules.proofs.Apart.{running_core}
 use Rattle.rules.proofs.StepSound.{Kept, call_sound}
@@ -79,7 +79,7 @@ returns-in-Err c =
     let next = c.running-next.ensures ∙ sym (running_core (view_core x.core) (gathered x.rows)) in
     let answer = c.refused_answer-answer-in-Err.ensures ∙ λ i. refused_answer (c.from-in-Err.ensures i) (next i) in
     record {
-      value = (λ i. record { state = x; answer = answer i }) ∙ sym (ap second_of done);
+      value = (λ i. record { state = x; answer = answer i }) ∙ sym (ap stepped_of done);
       room = t.1 ∙ ap (λ (o : Outcome). room_after r (ended_by o)) none ∙ sym (ap (λ (w : StepOf Second). room_after r w.ended) done);
     }
 
@@ -114,6 +114,6 @@ returns c =
     let kept = subst Kept was.outcome (call_sound v d (sound_here x typed ok)) in
     let answer = c.answer_by-answer.ensures ∙ answer_is pack_second x v was.state was.answer was.list k c.running-next-2.result kept was.gave c.running-next-2.ensures in
     record {
-      value = (λ i. record { state = state i; answer = answer i }) ∙ sym (ap second_of done);
+      value = (λ i. record { state = state i; answer = answer i }) ∙ sym (ap stepped_of done);
       room = room ∙ sym (ap (λ (w : StepOf Second). room_after r w.ended) done);
     }

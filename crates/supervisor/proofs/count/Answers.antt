@@ -1,22 +1,15 @@
-use borrow.Author.Rules.{rules}
-use Prim.Native.Nat.{ℕ}
-use mathlib.Core.Path.{◌≡◌, ◌∙◌, ap, sym}
-use lib.ListN.{length}
+use Rattle.std.proofs.Common.{◌≡◌, ℕ, IfSome, rules, refl, length, ◌∙◌}
+use Rattle.rules.specs.State.{queue}
 use Rattle.rules.specs.Questions.{count_whole}
-use Rattle.table.specs.declared.queues.Test.TheVariants.{QueuedOn}
-use Rattle.lists.proofs.ListLaws.{mapped_long}
-use Rattle.steps.proofs.MoveLaws.{picked_line}
+use Rattle.rules.specs.Whole.{view, sound_whole}
+use Rattle.rules.proofs.QuestionLaws.{asked_is}
+use Rattle.steps.specs.Engine.{queued_in}
 use Rattle.supervisor.proofs.count.Goals as goal
-
-pub returns-then-is_sound : goal.returns-then-is_sound
-unfolding count_whole
-returns-then-is_sound c =
-    let a = c.args in
-    let k : length a.s.callers ≡ 31 = search (rules, mapped_long) in
-    let n = c.len-n.ensures ∙ ap length (picked_line a.s.core a.s.callers (QueuedOn a.t a.e) c.picked-q.result k c.picked-q.ensures) in
-    let q = sym c.is_sound.ensures ∙ c.if-is_sound.true in
-    rw q (ap (λ (k : ℕ). record { refusal = 0; count = k }) n)
 
 pub returns : goal.returns
 unfolding count_whole
-returns c = let q = sym c.is_sound.ensures ∙ c.if-is_sound.false in rw q
+returns c =
+    let a = c.args in
+    let s = a.s in
+    let got : IfSome c.then.result (λ (n : ℕ). n ≡ queued_in s.core s.callers a.t a.e) = search rules in
+    asked_is (length (queue (view s) a.t a.e)) _ (sound_whole s) c.then.result (c.then.ensures.variant ∙ c.sound.ensures) got (λ e. refl) c.ok_or.ensures.value

@@ -3,4 +3,4 @@ use Rattle.supervisor.proofs.empty.Goals as goal
 
 pub returns : goal.returns
 unfolding pad pad_to
-returns c = rw c.blank_task-tasks.ensures
+returns c = rw c.empty_core-core.ensures

@@ -1,16 +1,15 @@
-use mathlib.Core.Path.{◌∙◌, sym}
-use Rattle.rules.specs.Questions.{running_whole}
+use Rattle.std.proofs.Common.{◌≡◌, ℕ, IfSome, rules, sym, ◌∙◌}
 use Rattle.lists.specs.Line.{line}
-use Rattle.rules.specs.Whole.{view_core}
+use Rattle.rules.specs.State.{running}
+use Rattle.rules.specs.Questions.{running_whole}
+use Rattle.rules.specs.Whole.{view_core, view, sound_whole}
 use Rattle.rules.proofs.Apart.{running_core}
+use Rattle.rules.proofs.QuestionLaws.{asked_is}
 use Rattle.supervisor.proofs.running.Goals as goal
-
-pub returns-then-is_sound : goal.returns-then-is_sound
-unfolding running_whole
-returns-then-is_sound c =
-    let e = c.running-task.ensures ∙ sym (running_core (view_core c.args.s.core) (line c.args.s.callers)) in
-    rw (sym c.is_sound.ensures ∙ c.if-is_sound.true) (λ i. record { refusal = 0; task = e i })
 
 pub returns : goal.returns
 unfolding running_whole
-returns c = let q = sym c.is_sound.ensures ∙ c.if-is_sound.false in rw q
+returns c =
+    let s = c.args.s in
+    let got : IfSome c.then.result (λ (n : ℕ). n ≡ running (view_core s.core)) = search rules in
+    asked_is (running (view s)) _ (sound_whole s) c.then.result (c.then.ensures.variant ∙ c.sound.ensures) got (λ e. sym (running_core (view_core s.core) (line s.callers))) c.ok_or.ensures.value

@@ -2,6 +2,7 @@ use Rattle.std.proofs.Common.{ℕ, ◌≤◌, List, length, sym, ap, ◌∙◌, 
 use Rattle.calls.specs.Reading.{number_of}
 use Rattle.report.specs.Lines.{line_text, longest_line}
 use Rattle.rules.specs.declared.Answer.{Answer}
+use Rattle.rules.specs.Questions.{number_in}
 use Rattle.rules.specs.Whole.{refused_answer}
 use Rattle.text.proofs.Puts.{put_none, same_text}
 use Rattle.session.specs.Turn.{first, made}
@@ -25,7 +26,7 @@ returns-then-eq c =
 pub returns : goal.returns
 returns c =
     let a = c.args in
-    let answer = c.refused_answer-answer.ensures ∙ (λ i. refused_answer (c.into.ensures i) (c.running-k.ensures i).task) in
+    let answer = c.refused_answer-answer.ensures ∙ (λ i. refused_answer (c.into.ensures i) ((c.unwrap_or-runs.ensures ∙ ap number_in c.running.ensures) i)) in
     let line = ap (λ (x : Answer). line_text a.s.step x a.room.now) answer in
     let said = says made _ _ (says_bad first a.s (number_of a.error) a.many a.last a.room.now c.if-last-many.false (sym (is_over a.error) ∙ sym c.eq.ensures ∙ c.if-eq.false))
     (same_text line c.put_line-place.ensures.put) (subst (λ (t : List ℕ). length t ≤ longest_line) line c.put_line-place.ensures.room_len_bound) in

@@ -1,5 +1,6 @@
 use Rattle.std.proofs.Common.{◌≡◌, length, ap}
 use Rattle.rules.specs.declared.Stepped.{Stepped}
+use Rattle.rules.specs.declared.Supervisor.{Supervisor}
 use Rattle.text.specs.Text.{number_after}
 use Rattle.session.specs.Turn.{Turn, first, made}
 use Rattle.session.specs.declared.turns.Session.{Session}
@@ -21,7 +22,7 @@ gives number c =
     let next : ◌≡◌ {A = Session} (record { state = k.result.state; step = c.wrapping_add_u64.result }) (first.after a.s a.call (length a.room.now)) =
     λ i. record { state = (k.ensures.value i).state; step = number c i } in
     let whole = took_is first a.s a.call a.count a.room.now k.new.room k.result.answer (record { state = k.result.state; step = c.wrapping_add_u64.result })
-    (ap (λ (r : Stepped). r.answer) k.ensures.value) k.ensures.room next in
+    (ap (λ (r : Stepped Supervisor). r.answer) k.ensures.value) k.ensures.room next in
     let said = says made _ _ whole c.put_line-place.ensures.put c.put_line-place.ensures.room_len_bound in
     record { value = said.0; room_after = ap (λ (t : Turn Session). t.room) whole; out_after = said.1.0; room_len_bound = said.1.1 }
 
