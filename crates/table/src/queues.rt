@@ -11,7 +11,7 @@ use super::place::ticks_left;
 use super::tasks::{index_of, shown};
 use rules::{Core, Place, Task, Timer};
 
-// What picks a queue out of a line.
+// What picks a queue out of a line. It is data and no closure, since it is an argument of the definition `passes_of`, and `picked_once` holds of any test.
 #[derive(Clone, Copy)]
 pub enum Test {
     QueuedOn { target: u8, entry: u8 },
