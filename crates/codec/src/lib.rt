@@ -28,6 +28,7 @@ pub const DELAYS_AT: usize = HELD_AT + 31;
 pub const STATE_SIZE: usize = DELAYS_AT + 31;
 
 // The four bytes of a place: its tag; the called task, the holder or the open set; the called entry; the priority kept.
+// Functions and no `From`, here and for a time: none of these types is of this crate.
 fn place_bytes(p: Place) -> [u8; 4]
     ensures { result ≡ place_tag p ∷ place_first p ∷ entry_of p ∷ kept_of p ∷ [] }
 {
@@ -123,7 +124,8 @@ fn task_in(b: &[u8]) -> Option<Task>
     })
 }
 
-// Whether all bytes are 0.
+// Whether all bytes are 0. `fold` and no `all`: it reads them many at a time, and is seldom done early. `soundness` has the like of a line
+// from a place on; neither crate rests on the other.
 fn are_zero(b: &[u8]) -> bool
     ensures { result ≡ blanks b.now }
 {
@@ -223,6 +225,7 @@ pub fn state_in(b: &[u8]) -> Supervisor
 }
 
 // Puts a piece at an index of the room, or nothing where it has no room there.
+// Two tests and no `get_mut(at..at + n)`: the sum could be too large, so it would be no plainer.
 pub fn put_at(room: &mut [u8], at: usize, piece: &[u8])
     ensures { room.new ≡ placed_at room.old at piece.now }
 {

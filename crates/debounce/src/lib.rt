@@ -37,7 +37,7 @@ pub struct Card {
 }
 
 // What making a card gives: a refusal (0 if none), and the card; where the settings are refused no card is made, and the blank one stands
-// in its place, which every tick refuses.
+// in its place, which every tick refuses. No `Result`, here and of a tick: the theorems `bad_setting` and `damaged` tell of that card, too.
 #[derive(Clone, Copy)]
 pub struct Made {
     pub refusal: u8,

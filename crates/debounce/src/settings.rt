@@ -23,7 +23,7 @@ fn is_field(b: &[u8], i: usize) -> bool
     (usize::from(b[at]) == i + 1) & (b[at + 1] == 0) & (b[at + 2] == 3) & is_setting(b[at + 3], p)
 }
 
-// Whether the bytes are eight fields, and nothing behind.
+// Whether the bytes are eight fields, and nothing behind. By their index and not by `chunks_exact`: a field's tag is counted, too.
 pub fn is_good(b: &[u8]) -> bool
     ensures { result ≡ good_settings b.now }
 {
