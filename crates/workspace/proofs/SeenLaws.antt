@@ -1,7 +1,6 @@
 -- A lent table that is read and written place by place.
 -- Assumes nothing.
-use Rattle.std.proofs.Common.{◌≡◌, ℕ, zero, suc, ◌-◌, min, ◌≤◌, Bool, true, false, List, [], ◌∷◌, ◌++◌, length, take, drop, length-take-le, replicate, refl, ap, ◌∙◌, le_of_suc-le-suc, not-suc-le-zero, arith}
-use lib.ListN.{length-replicate}
+use Rattle.std.proofs.Common.{◌≡◌, ℕ, zero, suc, ◌-◌, min, ◌≤◌, Bool, true, false, List, [], ◌∷◌, ◌++◌, length, take, drop, length-take-le, replicate, ap, ◌∙◌, le_of_suc-le-suc, not-suc-le-zero, arith}
 use Rattle.std.specs.List.{list_all}
 use Rattle.workspace.specs.declared.Stretch.{Stretch}
 use Rattle.workspace.specs.declared.Table.{Table}
@@ -16,10 +15,6 @@ use Rattle.workspace.proofs.Padded.{pad, pad_nil, none_over}
 -- what lies below the 32 places
 abbrev pub under : Bool → List Stretch → List Stretch
 under clear l = when clear then replicate (length l) none else l
-
-pub under_length : (clear : Bool) (l : List Stretch) → length (under clear l) ≡ length l
-under_length true l = length-replicate (length l) none
-under_length false l = refl
 
 -- a table is written: first what lies below, then the 32 places as far as it has them
 pub laid_cut : (t : Table) (l m : List Stretch) (n : ℕ) {front : List Stretch} → length t.places ≡ 32 → m ≡ under t.clear l → n ≡ min (length m) 32 → front ≡ take n t.places → front ++ drop n m ≡ laid t l

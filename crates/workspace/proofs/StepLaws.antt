@@ -1,8 +1,8 @@
 -- The steps whose parts are put together by hand: each law has an equation for each call's result.
 -- Assumes nothing.
-use Rattle.std.proofs.Common.{◌≡◌, ℕ, zero, suc, ◌+◌, ◌-◌, ◌<◌, ◌≤◌, Bool, true, false, ◌&&◌, eqb, ltb, leb, List, [], ◌∷◌, get_or, take, drop, set, sym, refl, ap, ◌∙◌, zero-le, arith, ltb-true, le-ltb, lt-ltb, ne_eqb, leb-true}
+use Rattle.std.proofs.Common.{◌≡◌, ℕ, ◌+◌, ◌-◌, ◌<◌, ◌≤◌, Bool, true, false, ◌&&◌, ltb, leb, List, [], ◌∷◌, get_or, take, drop, sym, refl, ap, ◌∙◌, arith, ltb-true, le-ltb, lt-ltb, ne_eqb, leb-true}
 use mir.Val.{bool_byte}
-use Rattle.lists.specs.Lists.{when◌then◌else◌, bit, every}
+use Rattle.lists.specs.Lists.{bit, every}
 use Rattle.lists.proofs.Tests.{no, each, and_first, byte_bit}
 use Rattle.lists.proofs.ListLaws.{by_bool}
 use Rattle.workspace.specs.declared.Stretch.{Stretch}
@@ -11,10 +11,10 @@ use Rattle.workspace.specs.declared.Look.{Look}
 use Rattle.workspace.specs.declared.Done.{Done}
 use Rattle.workspace.specs.declared.Refusal.{Refusal}
 use Rattle.workspace.specs.declared.Refusal.TheVariants.{BadState, BadSize, BlocksFull, NoSpace, BadBlock}
-use Rattle.workspace.specs.Rules.{stretch, none, is_none, end}
+use Rattle.workspace.specs.Rules.{stretch, none, is_none}
 use Rattle.workspace.specs.Places.{place_of, is_behind, remove_at, insert_at}
 use Rattle.workspace.specs.Check.{tiled}
-use Rattle.workspace.specs.Steps.{number_of, is_counted, keeps_seen, refused_as, done_as, request_refusal, cut_at, grant_seen, request_seen, block_at, touches_low, touches_high, whole_at, give_at, give_back, count_back, free_seen, release_seen}
+use Rattle.workspace.specs.Steps.{number_of, is_counted, keeps_seen, refused_as, done_as, request_refusal, cut_at, grant_seen, request_seen, block_at, touches_low, touches_high, give_at, give_back, count_back, free_seen, release_seen}
 
 -- ── the check ──
 
@@ -82,23 +82,6 @@ request_refused s u n ek e z er =
     er ∙ ap (refused_as s u) f ∙ rw (ne_eqb (request_refusal (keeps_seen s u) u s.place n) 0 (λ q. z (f ∙ q))) refl
 
 -- ── a release ──
-
-pub low_law : (b : Stretch) (k : ℕ) (l : List Stretch) {j : ℕ} {x : Stretch} → j ≡ k - 1 → x ≡ get_or l j none → ltb 0 k && eqb (end x) b.start ≡ touches_low b k l
-low_law b k l ej ex = (λ i. ltb 0 k && eqb (end (ex i)) b.start) ∙ (λ i. ltb 0 k && eqb (end (get_or l (ej i) none)) b.start)
-
-pub give_low : (high : Bool) (b : Stretch) (k : ℕ) (l : List Stretch) {w : Stretch} {j : ℕ} {rest r : List Stretch} {low : Bool}
-    → w ≡ whole_at low high b k l → rest ≡ (when high then remove_at k l else l) → j ≡ k - 1 → r ≡ set rest j w → low ≡ true → r ≡ give_at low high b k l
-give_low high b k l ew er ej e el = e ∙ (λ i. set (er i) (ej i) (ew i)) ∙ rw el refl
-
-pub give_lone : (high : Bool) (b : Stretch) (k : ℕ) (l : List Stretch) {w : Stretch} {rest r : List Stretch} {low : Bool}
-    → w ≡ whole_at low high b k l → rest ≡ (when high then remove_at k l else l) → r ≡ insert_at k w rest → low ≡ false → r ≡ give_at low high b k l
-give_lone high b k l ew er e el = e ∙ (λ i. insert_at k (ew i) (er i)) ∙ rw el refl
-
--- a place is found among those used, or behind them
-place_most : (p : Stretch → Bool) (n : ℕ) (l : List Stretch) → place_of p (take n l) ≤ n
-place_most p zero l = zero-le
-place_most p (suc n) [] = zero-le
-place_most p (suc n) (x ∷ xs) = by_bool (p x) (λ e. rw e zero-le) (λ e. let ih : place_of p (take n xs) ≤ n = place_most p n xs in rw e (omega (arith, ih)))
 
 pub free_law : (s : Look) (u : Used) (p : ℕ) {b : Stretch} {k : ℕ} {low high : Bool} {bs fs : List Stretch} {d₁ d₂ : ℕ} {r : Done}
     → b ≡ get_or s.blocks p none → k ≡ place_of (is_behind b.start) (take u.free s.free) → low ≡ touches_low b k s.free → high ≡ touches_high b k s.free
