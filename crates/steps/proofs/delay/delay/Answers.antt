@@ -1,4 +1,4 @@
-use Rattle.std.proofs.Common.{◌≡◌, [], ap, ◌∙◌, to_z-of_z}
+use Rattle.std.proofs.Common.{◌≡◌, [], refl, ap, ◌∙◌, to_z-of_z}
 use Rattle.rules.specs.Step.{delay_for, ticks, item, ELAPSED}
 use Rattle.rules.specs.Whole.{view_core}
 use Rattle.steps.proofs.AnswerLaws.{no_runner, runner, by_outcome, move-answers}
@@ -25,5 +25,5 @@ returns c =
     let t = c.running-t.result in
     let n : c.ticks-n.result ≡ ticks a.d = c.ticks-n.ensures ∙ ap ticks (to_z-of_z c.ranges.d) in
     let runs = runner a.s t c.requires c.running-t.ensures c.if-t-eq0.false in
-    by_outcome a.s (delay_later (view_core a.s) t c.running-t.ensures c.if-t-eq0.false a.d c.ticks-n.result _ n c.if-n-eq0.false c.wrapping_add_u32.ensures.value)
+    by_outcome a.s (delay_later (view_core a.s) t c.running-t.ensures c.if-t-eq0.false a.d c.ticks-n.result _ n c.if-n-eq0.false refl)
     (move-answers a.s _ _ _ _ _ [] c.requires runs.high c.answered-2.ensures c.moved-left-2.ensures)
