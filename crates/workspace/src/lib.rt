@@ -24,7 +24,7 @@ pub struct Stretch {
 }
 
 // An unused place of a table.
-const UNUSED: Stretch = Stretch {
+pub const UNUSED: Stretch = Stretch {
     start: 0,
     length: 0,
 };
