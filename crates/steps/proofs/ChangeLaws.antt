@@ -41,10 +41,6 @@ bytes_on k room m next n i t h et en =
 pub bytes_end : (k : ℕ) (room m : List ℕ) (n i : ℕ) → n ≤ i → marked one (bytes_in k (n - i) (drop (i * 4) room)) m ≡ m
 bytes_end k room m n i h = let q : n - i ≡ 0 = omega arith in ap (λ (z : ℕ). marked one (bytes_in k z (drop (i * 4) room)) m) q
 
--- one that was accepted, and behind it those of the items
-pub marks_join : (k n : ℕ) (a room m : List ℕ) {r : List ℕ} → m ≡ marked one a no_marks → r ≡ marked one (bytes_in k n room) m → r ≡ marked one (a ++ bytes_in k n room) no_marks
-marks_join k n a room m em er = er ∙ ap (marked one (bytes_in k n room)) em ∙ sym (marked_append a (bytes_in k n room) no_marks)
-
 pub line_joins : (m : List ℕ) (b : Bool) (t : ℕ) (l kept : List ℕ) {r : List ℕ} → length l ≡ 31 → kept ≡ pad (with_mark m 0 (line l)) → r ≡ pad (line kept ++ (t ∷ [])) → b ≡ true → r ≡ line_by m b t l
 line_joins m b t l kept h ek er y = er ∙ ap (λ (k : List ℕ). pad (k ++ (t ∷ []))) (ap line ek ∙ line_picked (λ x. eqb (mark_of m x) 0) l h) ∙ sym (rw y)
 

@@ -1,7 +1,7 @@
 -- FINISH.
 -- Assumes nothing.
-use Rattle.std.proofs.Common.{◌≡◌, ℕ, zero, suc, ◌+◌, ◌-◌, ◌<◌, ◌≤◌, true, eqb, ltb, List, [], ◌∷◌, ◌++◌, map, length, get_or, drop, Ok, sym, refl, ap, ◌∙◌, subst, append_assoc, append-nil, add-one, arith, drop_of_length-le, drop-cons, ltb-false, ltb-true, le-ltb, lt-ltb, eq-eqb, ne_eqb, eqb-true}
-use mir.Val.{bool_byte}
+use Rattle.std.proofs.Common.{◌≡◌, ℕ, zero, suc, ◌+◌, ◌-◌, ◌<◌, ◌≤◌, true, eqb, ltb, List, [], ◌∷◌, ◌++◌, map, length, get_or, Ok, sym, refl, ap, ◌∙◌, subst, append_assoc, append-nil, add-one, arith, ltb-false, ltb-true, le-ltb, lt-ltb, eq-eqb, ne_eqb, eqb-true, Bool, false, not, true≢false, zero-add}
+use Rattle.std.specs.List.{list_any}
 use mathlib.Core.List.{tail-eq_of_cons-eq}
 use lib.ListN.{length-map, get_or-eq_default}
 use Rattle.lists.proofs.LineLaws.{line_line, line_append, line_pad}
@@ -22,7 +22,7 @@ use Rattle.rules.specs.Callers.{with_callers, callers_of, core_of}
 use Rattle.rules.proofs.Apart.{core_wakes, core_move, same_queued}
 use Rattle.rules.proofs.Invariant.{Sound}
 use Rattle.rules.proofs.Members.{queued_there, nth_beyond}
-use Rattle.lists.proofs.Tests.{no, byte_bit}
+use Rattle.lists.proofs.Tests.{no}
 use Rattle.lists.proofs.ListLaws.{by_bool, by_test, not_in, at_most}
 use Rattle.rules.proofs.StepSound.{of_queued_from, wake_all_sound, wake_all_length}
 use Rattle.rules.proofs.WholeLaws.{no_zero}
@@ -53,16 +53,16 @@ pad_none xs = ap pad (append-nil xs)
 
 -- ---- how many have a mark
 
--- the mark at place i, and the rest
-pub times_turn : (k : ℕ) (m : List ℕ) (i : ℕ) → i < length m → count k (drop i m) ≡ bool_byte (eqb (get_or m i 0) k) + count k (drop (i + 1) m)
-times_turn k m i h = rw (drop-cons m i 0 h, add-one i, byte_bit (eqb (get_or m i 0) k))
+-- whether somebody has the mark k
+any_count : (k : ℕ) (m : List ℕ) → list_any (λ x. eqb x k) m ≡ not (eqb (count k m) 0)
+any_count k [] = refl
+any_count k (x ∷ m) = by_bool (eqb x k) (λ e. rw (e, ne_eqb (1 + count k m) 0 (λ q. absurd (omega (arith, q)))) refl) (λ e. rw (e, zero-add (count k m)) (any_count k m))
 
-pub times_done : (k : ℕ) (m : List ℕ) (i : ℕ) → length m ≤ i → count k (drop i m) ≡ 0
-times_done k m i h = rw (drop_of_length-le m h)
+pub nobody_has : (k : ℕ) (m : List ℕ) {b : Bool} → b ≡ list_any (λ x. eqb x k) m → b ≡ false → eqb (count k m) 0 ≡ true
+nobody_has k m eb e = let q : not (eqb (count k m) 0) ≡ false = sym (eb ∙ any_count k m) ∙ e in by_bool (eqb (count k m) 0) (λ t. t) (λ f. absurd (true≢false (let z : true ≡ false = rw f at q in z)))
 
-pub times_short : (k : ℕ) (m : List ℕ) → count k m ≤ length m
-times_short k [] = omega arith
-times_short k (x ∷ m) = by_bool (eqb x k) (λ e. rw e (omega (arith, times_short k m))) (λ e. rw e (omega (arith, times_short k m)))
+pub some_has : (k : ℕ) (m : List ℕ) {b : Bool} → b ≡ list_any (λ x. eqb x k) m → b ≡ true → eqb (count k m) 0 ≡ false
+some_has k m eb e = let q : not (eqb (count k m) 0) ≡ true = sym (eb ∙ any_count k m) ∙ e in by_bool (eqb (count k m) 0) (λ t. absurd (true≢false (sym (let z : false ≡ true = rw t at q in z)))) (λ f. f)
 
 -- a mark stands among the marks
 times_at : (m : List ℕ) (i : ℕ) → i < length m → 0 < count (get_or m i 0) m

@@ -36,14 +36,13 @@ fn moments_of(s: Core, l: [u8; 31]) -> u8
 {
     let mut n: u8 = 0;
     let mut before: u32 = 0;
-    for i in 0..31 {
-        let t = l[i];
+    for t in l {
         if t == 0 {
             return n;
         }
         let at = index_of(t);
         let left = left_of(s.clock, s.created, t, s.tasks[at]);
-        n += (left != before) as u8;
+        n += u8::from(left != before);
         before = left;
     }
     n
@@ -55,7 +54,7 @@ fn passed(s: Core, l: [u8; 31], n: u32, entry: u8, room: &mut [u8]) -> Taken
     ensures value { Ok result ≡ taken_of (passing (view_core s) n entry) }
     ensures room { room.new ≡ room_after room.old (ended_by (passing (view_core s) n entry)) }
 {
-    let reading = std::num::wrapping_add_u32(s.clock, n);
+    let reading = s.clock.wrapping_add(n);
     let w = wake_all(s, l, false, room);
     let mut m = w.state;
     m.clock = reading;

@@ -44,7 +44,7 @@ fn call_busy(s: Core, t: u8, g: u8, e: u8, m: CallMode) -> Taken
             if n == 0 {
                 return answered(s, t, CALL_EXPIRED, e, g, 0);
             }
-            let w = Timer::Due(std::num::wrapping_add_u32(s.clock, n));
+            let w = Timer::Due(s.clock.wrapping_add(n));
             enqueued(s, t, g, e, w)
         }
         CallMode::Conditional => answered(s, t, NOT_NOW, e, g, 0),

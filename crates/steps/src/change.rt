@@ -18,7 +18,7 @@ const PARTNER_AT: u8 = 3;
 fn byte_at(room: &[u8], at: usize) -> u8
     ensures { result ≡ byte room.now at }
 {
-    if at < room.len() { room[at] } else { 0 }
+    room.get(at).copied().unwrap_or(0)
 }
 
 // The marks with a 1 for t; as they were where t has none.
@@ -27,7 +27,7 @@ fn with_mark(marks: [u8; 32], t: u8) -> [u8; 32]
 {
     let mut m = marks;
     if t < 32 {
-        m[t as usize] = 1;
+        m[usize::from(t)] = 1;
     }
     m
 }
@@ -48,13 +48,11 @@ fn marks_in(room: &[u8], n: u8, field: u8, first: [u8; 32]) -> [u8; 32]
     ensures { result ≡ marked one (bytes_in field n room.now) first }
 {
     let mut marks = first;
-    let mut i: u8 = 0;
-    while i < n {
-        let at = (i as usize) * 4 + (field as usize);
+    for i in 0..n {
+        let at = usize::from(i) * 4 + usize::from(field);
         let t = byte_at(room, at);
         let next = with_mark(marks, t);
         marks = next;
-        i += 1;
     }
     marks
 }
@@ -79,32 +77,14 @@ pub fn left_marks(room: &[u8], n: u8, res: u8, t: u8) -> [u8; 32]
 pub fn looks(c: Call) -> bool
     ensures { result ≡ asks c }
 {
-    match c {
-        Call::Create { .. } => false,
-        Call::Delay(_) => false,
-        Call::Call { .. } => false,
-        Call::Select { .. } => true,
-        Call::End => false,
-        Call::Finish => true,
-        Call::Tick => false,
-        Call::Advance(_) => false,
-    }
+    matches!(c, Call::Select { .. } | Call::Finish)
 }
 
 // Whether it is a CALL.
 fn is_call(c: Call) -> bool
     ensures { result ≡ is_call c }
 {
-    match c {
-        Call::Create { .. } => false,
-        Call::Delay(_) => false,
-        Call::Call { .. } => true,
-        Call::Select { .. } => false,
-        Call::End => false,
-        Call::Finish => false,
-        Call::Tick => false,
-        Call::Advance(_) => false,
-    }
+    matches!(c, Call::Call { .. })
 }
 
 // Whether the task of a call that was taken waits in a queue now: a CALL that waits, and has woken nobody.
@@ -119,14 +99,8 @@ fn target_of(c: Call) -> u8
     ensures { result ≡ target c }
 {
     match c {
-        Call::Create { .. } => 0,
-        Call::Delay(_) => 0,
         Call::Call { target, .. } => target,
-        Call::Select { .. } => 0,
-        Call::End => 0,
-        Call::Finish => 0,
-        Call::Tick => 0,
-        Call::Advance(_) => 0,
+        _ => 0,
     }
 }
 

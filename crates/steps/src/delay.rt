@@ -23,7 +23,7 @@ pub fn delay(s: Core, d: i32) -> Result<Taken, Refusal>
         let left = moved(s, t, Place::Ready, Timer::Off);
         return Ok(answered(left, t, ELAPSED, 0, 0, 0));
     }
-    let w = Timer::Due(std::num::wrapping_add_u32(s.clock, n));
+    let w = Timer::Due(s.clock.wrapping_add(n));
     let left = moved(s, t, Place::Delayed, w);
     Ok(answered(left, t, WAITS, 0, 0, 0))
 }

@@ -34,19 +34,17 @@ fn select_none(s: Core, t: u8, o: u8, m: SelectMode) -> Taken
             if o == 0 {
                 return answered(s, t, PROGRAM_ERROR, 0, 0, 0);
             }
-            return accepting(s, t, o, Timer::Off);
+            accepting(s, t, o, Timer::Off)
         }
         SelectMode::Delay(d) => {
             let k = ticks(d);
             if k == 0 {
                 return answered(s, t, DELAY_TAKEN, 0, 0, 0);
             }
-            let w = Timer::Due(std::num::wrapping_add_u32(s.clock, k));
-            return accepting(s, t, o, w);
+            let w = Timer::Due(s.clock.wrapping_add(k));
+            accepting(s, t, o, w)
         }
-        SelectMode::Else => {
-            return answered(s, t, ELSE_TAKEN, 0, 0, 0);
-        }
+        SelectMode::Else => answered(s, t, ELSE_TAKEN, 0, 0, 0),
     }
 }
 

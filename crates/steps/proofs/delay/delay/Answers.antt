@@ -1,4 +1,4 @@
-use Rattle.std.proofs.Common.{◌≡◌, [], ap, ◌∙◌, to_z-of_z}
+use Rattle.std.proofs.Common.{◌≡◌, [], refl, ap, ◌∙◌, to_z-of_z}
 use Rattle.rules.specs.Step.{delay_for, ticks, item, ELAPSED}
 use Rattle.rules.specs.Whole.{view_core}
 use Rattle.steps.proofs.AnswerLaws.{no_runner, runner, unrun, by_outcome, move-answers}
@@ -26,5 +26,5 @@ returns c =
     let t = c.in_ok-t.t in
     let n : c.ticks-n.result ≡ ticks a.d = c.ticks-n.ensures ∙ ap ticks (to_z-of_z c.ranges.d) in
     let runs = runner a.s t c.requires c.in_ok-t.ensures.0 c.in_ok-t.ensures.1 in
-    by_outcome (delay_later (view_core a.s) t c.in_ok-t.ensures.0 c.in_ok-t.ensures.1 a.d c.ticks-n.result _ n c.if-n-eq0.false c.wrapping_add_u32.ensures.value)
+    by_outcome (delay_later (view_core a.s) t c.in_ok-t.ensures.0 c.in_ok-t.ensures.1 a.d c.ticks-n.result _ n c.if-n-eq0.false refl)
     (move-answers a.s _ _ _ _ _ [] c.requires runs.high c.answered-2.ensures c.moved-left-2.ensures)
