@@ -3,10 +3,6 @@
 
 pub mod numbers;
 
-ghost use Rattle.std.specs.Prelude.{◌≡◌};
-
-use numbers::BAD_STATE;
-
 #[derive(Clone, Copy)]
 pub enum Timer {
     Off,
@@ -118,12 +114,3 @@ pub struct Stepped<S> {
 // The refusal of a question: the state is not sound.
 #[derive(Clone, Copy, Debug, PartialEq, Eq)]
 pub struct BadState;
-
-// Its number, for those who are answered in bytes.
-impl From<BadState> for u8 {
-    ghost from_gives = { λ _ n. n ≡ 2 };
-
-    fn from(_refusal: BadState) -> u8 {
-        BAD_STATE
-    }
-}

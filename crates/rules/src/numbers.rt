@@ -1,4 +1,8 @@
 // The numbers of the refusals of a step and of its results. SHORT_ROOM, which is the writer's too, stands in `calls`; 10 is retired.
+ghost use Rattle.std.specs.Prelude.{◌≡◌};
+
+use super::BadState;
+
 pub const BAD_STATE: u8 = 2;
 
 pub const BAD_FIELD: u8 = 3;
@@ -36,3 +40,11 @@ pub const NOT_NOW: u8 = 8;
 pub const PROGRAM_ERROR: u8 = 9;
 
 pub const DONE: u8 = 10;
+
+impl From<BadState> for u8 {
+    ghost from_gives = { λ _ n. n ≡ 2 };
+
+    fn from(_refusal: BadState) -> u8 {
+        BAD_STATE
+    }
+}
