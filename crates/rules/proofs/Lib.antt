@@ -43,3 +43,4 @@ pub mod Leaving
 pub mod SecondLaws
 pub mod Twins
 pub mod QuestionLaws
+pub mod Unique

@@ -8,10 +8,12 @@ use Rattle.calls.specs.declared.ReadError.{ReadError}
 use Rattle.std.specs.Prelude.{Result, Ok, Err}
 use Rattle.calls.proofs.Round.{accepted_as}
 use Rattle.calls.proofs.Behind.{accepted_ahead, ten_ahead}
-use Rattle.session.specs.Turn.{Engine, turn_of, turn_by, took, leaves}
+use Rattle.session.specs.Engines.{Rules}
+use Rattle.session.specs.Turn.{turn_of, turn_by, took, leaves}
+use Rattle.session.specs.declared.turns.Session.{Session}
 use Rattle.session.specs.declared.turns.Next.TheVariants.{More}
 
-module _ {S : Type 0} (g : Engine S) (s : S) (room : List ℕ) where
+module _ {E : Type 0} (g : Rules E) (s : Session E) (room : List ℕ) where
   -- where nothing is taken, and no more bytes are asked for, ten bytes are there
   ten_there : (n many : ℕ) → ((leaves g s n many false room).next ≡ More → ⊥) → 10 ≤ many
   unfolding leaves

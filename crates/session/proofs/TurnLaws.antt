@@ -11,12 +11,15 @@ use Rattle.std.specs.Prelude.{Result, Ok, Err}
 use Rattle.calls.specs.Reading.{read_of, number_of}
 use Rattle.lists.proofs.ListLaws.{by_bool}
 use Rattle.rules.specs.Step.{room_after}
-use Rattle.rules.specs.Whole.{refused_answer}
-use Rattle.rules.specs.declared.Answer.{Answer}
+use Rattle.rules.specs.Questions.{number_in}
+use Rattle.rules.specs.Whole.{refused_answer, stepped_of}
+use Rattle.rules.specs.declared.Stepped.{Stepped}
 use Rattle.report.specs.Lines.{line_text, longest_line}
-use Rattle.text.specs.Text.{Put, put_at}
-use Rattle.session.specs.Turn.{Engine, Turn, took, left, leaves, turn_by, turn_of, turned_by}
-use Rattle.session.specs.declared.turns.Next.{Next}
+use Rattle.text.specs.Text.{Put, put_at, number_after}
+use Rattle.session.specs.Engines.{Rules}
+use Rattle.session.specs.Turn.{Turn, took, left, leaves, turn_by, turn_of, turned_of}
+use Rattle.session.specs.declared.turns.Session.{Session}
+use Rattle.session.specs.declared.turns.Turned.{Turned}
 use Rattle.session.specs.declared.turns.Next.TheVariants.{Again, More, Stop}
 
 -- `==` with the end of the log is the test of the number
@@ -25,26 +28,28 @@ is_over BadRecord = refl
 is_over EndOfLog = refl
 
 -- what a turn prints, and that it is no longer than a line
-abbrev pub Prints : {S : Type 0} → Turn S → List ℕ → ℕ → List ℕ → Type 0
+abbrev pub Prints : {E : Type 0} → Turn E → List ℕ → ℕ → List ℕ → Type 0
 Prints t out at after = (after ≡ put_at out at t.text) × (length t.text ≤ longest_line)
 
 -- what it answers and prints
-module _ {S R : Type 0} (make : S → ℕ → ℕ → Next → R) where
-  abbrev pub Says : Turn S → List ℕ → ℕ → R → List ℕ → Type 0
-  Says t out at r after = (r ≡ turned_by make t out at) × Prints t out at after
+abbrev pub Says : {E : Type 0} → Turn E → List ℕ → ℕ → Turned E → List ℕ → Type 0
+Says t out at r after = (r ≡ turned_of t out at) × Prints t out at after
 
-  pub says : {out after : List ℕ} {at k : ℕ} (t u : Turn S) → u ≡ t → Put out at u.text after k → length u.text ≤ longest_line → Says t out at (make u.session u.count k u.next) after
-  says {out} {after} {at} {k} t u e p h =
-      subst (λ (x : Turn S). Says x out at (make u.session u.count k u.next) after) e
-      (λ i. make u.session u.count (p.placed i) u.next, (p.written, h))
+module _ {E : Type 0} where
+  abbrev made : Turn E → ℕ → Turned E
+  made u k = record { session = u.session; count = u.count; place = k; next = u.next }
+
+  pub says : {out after : List ℕ} {at k : ℕ} (t u : Turn E) → u ≡ t → Put out at u.text after k → length u.text ≤ longest_line
+      → Says t out at (record { session = u.session; count = u.count; place = k; next = u.next }) after
+  says {out} {after} {at} {k} t u e p h = subst (λ (x : Turn E). Says x out at (made u k) after) e (λ i. made u (p.placed i), (p.written, h))
 
   -- the promise of one turn is that of another under the same name
-  pub same_turn : (out : List ℕ) (at : ℕ) {after room : List ℕ} {r : R} (t u : Turn S) → t ≡ u → r ≡ turned_by make t out at → room ≡ t.room → Prints t out at after
-      → (r ≡ turned_by make u out at) × ((room ≡ u.room) × Prints u out at after)
+  pub same_turn : (out : List ℕ) (at : ℕ) {after room : List ℕ} {r : Turned E} (t u : Turn E) → t ≡ u → r ≡ turned_of t out at → room ≡ t.room → Prints t out at after
+      → (r ≡ turned_of u out at) × ((room ≡ u.room) × Prints u out at after)
   same_turn out at {after} {room} {r} t u e a b c =
-      subst (λ (x : Turn S). (r ≡ turned_by make x out at) × ((room ≡ x.room) × Prints x out at after)) e (a, (b, c))
+      subst (λ (x : Turn E). (r ≡ turned_of x out at) × ((room ≡ x.room) × Prints x out at after)) e (a, (b, c))
 
-module _ {S : Type 0} (g : Engine S) (s : S) where
+module _ {E : Type 0} (g : Rules E) (s : Session E) where
   module _ (n many : ℕ) (last : Bool) (room : List ℕ) where
     pub asks_more : (not last && ltb many 10) ≡ true → left s More [] room ≡ leaves g s n many last room
     unfolding leaves
@@ -54,24 +59,25 @@ module _ {S : Type 0} (g : Engine S) (s : S) where
     unfolding leaves
     ends e f = rw (e, f) refl
 
-    pub says_bad : (not last && ltb many 10) ≡ false → eqb n 12 ≡ false → left s Stop (line_text (g.number s) (refused_answer n (g.runs s)) room) room ≡ leaves g s n many last room
+    pub says_bad : (not last && ltb many 10) ≡ false → eqb n 12 ≡ false → left s Stop (line_text s.step (refused_answer n (number_in (g.running s.state))) room) room ≡ leaves g s n many last room
     unfolding leaves
     says_bad e f = rw (e, f) refl
 
     -- a record that was refused leaves the room as it was
     pub leaves_room : room ≡ (leaves g s n many last room).room
     leaves_room = by_bool (not last && ltb many 10)
-        (λ e. ap (λ (t : Turn S). t.room) (asks_more e))
+        (λ e. ap (λ (t : Turn E). t.room) (asks_more e))
         (λ e. by_bool (eqb n 12)
-        (λ f. ap (λ (t : Turn S). t.room) (ends e f))
-        (λ f. ap (λ (t : Turn S). t.room) (says_bad e f)))
+        (λ f. ap (λ (t : Turn E). t.room) (ends e f))
+        (λ f. ap (λ (t : Turn E). t.room) (says_bad e f)))
 
   -- a call that was taken
-  pub took_is : (c : C.Call) (k : ℕ) (room after : List ℕ) (a : Answer) (next : S)
-      → a ≡ g.answer s c (length room) → after ≡ room_after room (g.ended s c (length room)) → next ≡ g.after s c (length room)
-      → ◌≡◌ {A = Turn S} (record { session = next; count = k; next = Again; text = line_text (g.number s) a after; room = after }) (took g s c k room)
+  pub took_is : (c : C.Call) (k : ℕ) (room after : List ℕ) (r : Stepped E) (number : ℕ)
+      → r ≡ stepped_of (g.step s.state c (length room)) → after ≡ room_after room (g.step s.state c (length room)).ended → number ≡ number_after s.step
+      → ◌≡◌ {A = Turn E} (record { session = record { state = r.state; step = number }; count = k; next = Again; text = line_text s.step r.answer after; room = after }) (took g s c k room)
   unfolding took
-  took_is c k room after a next e f h = λ i. record { session = h i; count = k; next = Again; text = line_text (g.number s) (e i) (f i); room = f i }
+  took_is c k room after r number e f h =
+      λ i. record { session = record { state = (e i).state; step = h i }; count = k; next = Again; text = line_text s.step (e i).answer (f i); room = f i }
 
   -- what was read decides the turn
   module _ (input : List ℕ) (last : Bool) (room : List ℕ) (got : Result Record ReadError) (e : got ≡ read_of input) where

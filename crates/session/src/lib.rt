@@ -1,5 +1,5 @@
-// A log on its way through the supervisor, turn by turn: with the first engine, and with the second.
+// A log on its way through the supervisor, turn by turn, with the first engine or the second.
 #![tactic(auto)]
 
-pub mod seconds;
+pub mod engines;
 pub mod turns;

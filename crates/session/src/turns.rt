@@ -3,16 +3,16 @@ ghost use Rattle.std.specs.Prelude.{◌≡◌, ◌≤◌, length};
 ghost use Rattle.calls.specs.Reading.{number_of};
 ghost use Rattle.report.specs.Lines.{longest_line};
 ghost use Rattle.text.specs.Text.{put_at};
-ghost use Rattle.session.specs.Turn.{first, turn_of, turned_of, took, leaves};
+ghost use Rattle.session.specs.Turn.{turn_of, turned_of, took, leaves};
 
+use crate::engines::Engine;
 use calls::{Call, ReadError, Record};
 use report::put_line;
-use rules::Supervisor;
 
-// A log on its way: the supervisor, and the number of the next line.
+// A log on its way: the supervisor of an engine, and the number of the next line.
 #[derive(Clone, Copy)]
-pub struct Session {
-    pub state: Supervisor,
+pub struct Session<E> {
+    pub state: E,
     pub step: u64,
 }
 
@@ -26,21 +26,28 @@ pub enum Next {
 
 // What a turn gave: the session, the bytes of the input that it took, the place behind what it printed, and how it goes on.
 #[derive(Clone, Copy)]
-pub struct Turned {
-    pub session: Session,
+pub struct Turned<E> {
+    pub session: Session<E>,
     pub count: usize,
     pub place: usize,
     pub next: Next,
 }
 
 // A call is taken, and its line printed.
-fn taken(s: Session, call: Call, count: usize, room: &mut [u8], out: &mut [u8], at: usize) -> Turned
-    ensures value { result ≡ turned_of (took first s call count room.old) out.old at }
-    ensures room_after { room.new ≡ (took first s call count room.old).room }
-    ensures out_after { out.new ≡ put_at out.old at (took first s call count room.old).text }
-    ensures room_len_bound { length (took first s call count room.old).text ≤ longest_line }
+fn taken<E: Engine>(
+    s: Session<E>,
+    call: Call,
+    count: usize,
+    room: &mut [u8],
+    out: &mut [u8],
+    at: usize,
+) -> Turned<E>
+    ensures value { result ≡ turned_of (took E.ruled s call count room.old) out.old at }
+    ensures room_after { room.new ≡ (took E.ruled s call count room.old).room }
+    ensures out_after { out.new ≡ put_at out.old at (took E.ruled s call count room.old).text }
+    ensures room_len_bound { length (took E.ruled s call count room.old).text ≤ longest_line }
 {
-    let stepped = supervisor::step(s.state, call, room);
+    let stepped = s.state.step(call, room);
     let answer = stepped.answer;
     let place = put_line(s.step, answer, room, out, at);
     let after = stepped.state;
@@ -57,18 +64,18 @@ fn taken(s: Session, call: Call, count: usize, room: &mut [u8], out: &mut [u8], 
 }
 
 // No record: more bytes are asked for, the log is over, or a last line says what is wrong.
-fn refused(
-    s: Session,
+fn refused<E: Engine>(
+    s: Session<E>,
     error: ReadError,
     many: usize,
     last: bool,
     room: &[u8],
     out: &mut [u8],
     at: usize,
-) -> Turned
-    ensures value { result ≡ turned_of (leaves first s (number_of error) many last room.now) out.old at }
-    ensures out_after { out.new ≡ put_at out.old at (leaves first s (number_of error) many last room.now).text }
-    ensures room_len_bound { length (leaves first s (number_of error) many last room.now).text ≤ longest_line }
+) -> Turned<E>
+    ensures value { result ≡ turned_of (leaves E.ruled s (number_of error) many last room.now) out.old at }
+    ensures out_after { out.new ≡ put_at out.old at (leaves E.ruled s (number_of error) many last room.now).text }
+    ensures room_len_bound { length (leaves E.ruled s (number_of error) many last room.now).text ≤ longest_line }
 {
     if !last & (many < 10) {
         return Turned {
@@ -86,7 +93,7 @@ fn refused(
             next: Next::Stop,
         };
     }
-    let runs = supervisor::running(s.state).unwrap_or(0);
+    let runs = s.state.running().unwrap_or(0);
     let answer = steps::answers::refused_answer(error.into(), runs);
     let place = put_line(s.step, answer, room, out, at);
     Turned {
@@ -98,18 +105,18 @@ fn refused(
 }
 
 // One turn on the input, of which more bytes may come unless `last`. A bad record gets a line with refusal 11, and stops it.
-pub fn turn(
-    s: Session,
+pub fn turn<E: Engine>(
+    s: Session<E>,
     input: &[u8],
     last: bool,
     room: &mut [u8],
     out: &mut [u8],
     at: usize,
-) -> Turned
-    ensures value { result ≡ turned_of (turn_of first s input.now last room.old) out.old at }
-    ensures room_after { room.new ≡ (turn_of first s input.now last room.old).room }
-    ensures out_after { out.new ≡ put_at out.old at (turn_of first s input.now last room.old).text }
-    ensures room_len_bound { length (turn_of first s input.now last room.old).text ≤ longest_line }
+) -> Turned<E>
+    ensures value { result ≡ turned_of (turn_of E.ruled s input.now last room.old) out.old at }
+    ensures room_after { room.new ≡ (turn_of E.ruled s input.now last room.old).room }
+    ensures out_after { out.new ≡ put_at out.old at (turn_of E.ruled s input.now last room.old).text }
+    ensures room_len_bound { length (turn_of E.ruled s input.now last room.old).text ≤ longest_line }
 {
     let got = calls::read_record(input);
     let Ok(Record { call, count }) = got else {
