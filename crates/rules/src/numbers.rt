@@ -20,11 +20,3 @@ pub const NOT_NOW: u8 = 8;
 pub const PROGRAM_ERROR: u8 = 9;
 
 pub const DONE: u8 = 10;
-
-impl From<BadState> for u8 {
-    ghost from_gives = { λ _ n. n ≡ 2 };
-
-    fn from(_refusal: BadState) -> u8 {
-        BAD_STATE
-    }
-}
