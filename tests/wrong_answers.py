@@ -27,8 +27,8 @@ CLAUSE = re.compile(r"^\s*(?:requires|ensures)\b")
 CONTRACT = " (contract)"
 # Public functions that only put parts together: one wrong answer is enough there, and each has two more in the parts that it rests on.
 PARTS = {
-    "workspace::fresh": ["lent::place_after", "steps::made"],
-    "workspace::request": ["lent::first_fit", "steps::cut_at", "steps::request_refusal"],
+    "workspace::fresh": ["lent::stored", "steps::made"],
+    "workspace::request": ["places::first_fit", "steps::cut_at", "steps::request_refusal"],
     "workspace::release": ["steps::touches_low", "steps::freed"],
 }
 # what the prover says of two sides that are not equal, or of a goal that does not follow

@@ -17,11 +17,11 @@
 mod operation; // operation.rt: what a line says
 mod print; // print.rt: a line is put together
 
-use operation::{Operation, is_operation, read_operation};
+use operation::{Operation, read_operation};
 use print::put_line;
 use stream::errors::tell_line;
 use stream::line::{Kind, Lines, Piece, behind, first, front};
-use workspace::{Answer, Stretch, Tables, Used};
+use workspace::{Answer, Stretch, Tables, UNUSED, Used};
 
 // The tables, and the lines on their way.
 #[derive(Clone, Copy)]
@@ -32,11 +32,7 @@ struct State {
 
 // Two tables with no place used: every operation but a fresh area is refused on them.
 fn start() -> State {
-    let none = Stretch {
-        start: 0,
-        length: 0,
-    };
-    let places = [none; 32];
+    let places = [UNUSED; 32];
     let used = Used { blocks: 0, free: 0 };
     let answer = Answer {
         refusal: 0,
@@ -52,58 +48,49 @@ fn start() -> State {
     State { tables, lines }
 }
 
-// The numbers of places used: those of the operation, where it tells them.
-fn counted(used: Used, o: Operation) -> Used {
-    if o.letter == b'u' {
-        Used {
-            blocks: o.y as usize,
-            free: o.z as usize,
-        }
-    } else {
-        used
-    }
-}
-
-// The tables with a place or the numbers of places used changed.
-fn damaged(t: Tables, o: Operation) -> Tables {
-    let used = counted(t.answer.used, o);
-    let answer = Answer {
+// The tables with so many places used. Damage answers nothing: 0 and 0.
+fn counted(t: Tables, used: Used) -> Tables {
+    let mut r = t;
+    r.answer = Answer {
         refusal: 0,
         value: 0,
         used,
     };
-    let x = Stretch {
-        start: o.y,
-        length: o.z,
-    };
-    let mut r = t;
-    r.answer = answer;
-    if 32 <= o.x {
-        return r;
-    }
-    let i = o.x as usize;
-    if o.letter == b'b' {
-        r.blocks[i] = x;
-        return r;
-    }
-    if o.letter == b'e' {
-        r.free[i] = x;
+    r
+}
+
+// The places with x at i, if there is such a place.
+fn damaged(a: [Stretch; 32], i: usize, x: Stretch) -> [Stretch; 32] {
+    let mut r = a;
+    if i < 32 {
+        r[i] = x;
     }
     r
 }
 
 // The tables after an operation.
 fn applied(t: Tables, o: Operation) -> Tables {
-    if o.letter == b'f' {
-        return workspace::owned::fresh(t);
+    let used = t.answer.used;
+    match o {
+        Operation::Fresh => workspace::owned::fresh(t),
+        Operation::Request(size) => workspace::owned::request(t, size),
+        Operation::Release(start) => workspace::owned::release(t, start),
+        Operation::Block(i, x) => {
+            let blocks = damaged(t.blocks, i, x);
+            Tables {
+                blocks,
+                ..counted(t, used)
+            }
+        }
+        Operation::Free(i, x) => {
+            let free = damaged(t.free, i, x);
+            Tables {
+                free,
+                ..counted(t, used)
+            }
+        }
+        Operation::Used(used) => counted(t, used),
     }
-    if o.letter == b'a' {
-        return workspace::owned::request(t, o.z);
-    }
-    if o.letter == b'r' {
-        return workspace::owned::release(t, o.z);
-    }
-    damaged(t, o)
 }
 
 // The tables unchanged, behind what stands at the front of the window.
@@ -143,8 +130,7 @@ fn turn<R: Input + Print + Eprint>(rt: &R, s: State, buf: &mut [u8], out: &mut [
     };
     let from = p.from;
     let to = p.to;
-    let o = read_operation(&buf[from..to]);
-    if is_operation(o) {
+    if let Some(o) = read_operation(&buf[from..to]) {
         return carried(rt, s, o, p, buf, out);
     }
     tell_line(
@@ -159,9 +145,10 @@ fn main(rt: HostRuntime) {
     let mut buf = [0u8; 65536];
     let mut out = [0u8; 65536];
     let mut s = start();
-    let mut turns = u64::MAX;
-    while turns > 0 && s.lines.flow.goes {
+    for _ in 0..u64::MAX {
+        if !s.lines.flow.goes {
+            break;
+        }
         s = turn(&rt, s, &mut buf, &mut out);
-        turns -= 1;
     }
 }

@@ -118,6 +118,16 @@ at_from zero i j b h = absurd (omega arith)
 at_from (suc k) i zero b h = ap (contact_at b) (omega arith)
 at_from (suc k) i (suc j) b h = at_from k (i + 1) j b (omega arith) ∙ ap (contact_at b) (omega arith)
 
+-- contacts each of which is the one of its place are those from index i on
+pub contacts_are : (b : List ℕ) (k i : ℕ) (cs : List Contact) → length cs ≡ k → ((j : ℕ) → j < k → get_or cs j no_contact ≡ contact_at b (i + j)) → cs ≡ contacts_from k i b
+contacts_are b zero i [] e h = refl
+contacts_are b zero i (c ∷ cs) e h = absurd (omega arith)
+contacts_are b (suc k) i [] e h = absurd (omega arith)
+contacts_are b (suc k) i (c ∷ cs) e h =
+    let first : c ≡ contact_at b i = h 0 (omega arith) ∙ ap (contact_at b) (omega arith) in
+    let rest : cs ≡ contacts_from k (i + 1) b = contacts_are b k (i + 1) cs (omega arith) (λ j l. h (suc j) (omega arith) ∙ ap (contact_at b) (omega arith)) in
+    λ j. first j ∷ rest j
+
 -- a contact that is not there is a damaged card
 lacking : (b : List ℕ) (i : ℕ) → i < 8 → contact_at b i ≡ no_contact → whole (card_in b) ≡ false
 unfolding card_in

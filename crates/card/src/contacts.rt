@@ -1,7 +1,7 @@
 // The contact debouncer, its card in lent bytes: the supervisor's bytes, then five for each contact.
 ghost use Rattle.std.specs.Prelude.{◌<◌, ◌≤◌, ◌≡◌, length};
 ghost use Rattle.codec.specs.Layout.{state_size, put_at};
-ghost use Rattle.debounce.specs.Card.{no_contact, tick_of};
+ghost use Rattle.debounce.specs.Card.{tick_of};
 ghost use Rattle.debounce.specs.Settings.{fresh_of};
 ghost use Rattle.card.specs.Answers.{if_room, one_after};
 ghost use Rattle.card.specs.Contacts.{card_size, contact_bytes, contacts_bytes, stored_card, contact_from, contact_at, contacts_from, card_in, card_after};
@@ -20,25 +20,8 @@ const CARD_SIZE: usize = STATE_SIZE + 8 * CONTACT_SIZE;
 fn contact_bytes(c: Contact) -> [u8; 5]
     ensures { result ≡ contact_bytes c }
 {
-    [
-        c.n,
-        (c.p / 256) as u8,
-        (c.p % 256) as u8,
-        flag(c.closed),
-        c.against,
-    ]
-}
-
-// A contact that is not there.
-fn no_contact() -> Contact
-    ensures { result ≡ no_contact }
-{
-    Contact {
-        n: 0,
-        p: 0,
-        closed: false,
-        against: 0,
-    }
+    let [high, low] = c.p.to_be_bytes();
+    [c.n, high, low, flag(c.closed), c.against]
 }
 
 // The contact of five bytes; no contact where closed is neither 0 nor 1.
@@ -48,12 +31,12 @@ fn contact_from(n: u8, high: u8, low: u8, closed: u8, against: u8) -> Contact
     if closed <= 1 {
         return Contact {
             n,
-            p: high as u16 * 256 + low as u16,
+            p: u16::from_be_bytes([high, low]),
             closed: closed == 1,
             against,
         };
     }
-    no_contact()
+    Contact::default()
 }
 
 // The contact at index i; no contact where the bytes are too few.
@@ -66,23 +49,14 @@ fn contact_at(b: &[u8], i: usize) -> Contact
     if end <= b.len() {
         return contact_from(b[at], b[at + 1], b[at + 2], b[at + 3], b[at + 4]);
     }
-    no_contact()
+    Contact::default()
 }
 
 // The contacts of lent bytes.
 fn contacts_in(b: &[u8]) -> [Contact; 8]
     ensures { result ≡ contacts_from 8 0 b.now }
 {
-    [
-        contact_at(b, 0),
-        contact_at(b, 1),
-        contact_at(b, 2),
-        contact_at(b, 3),
-        contact_at(b, 4),
-        contact_at(b, 5),
-        contact_at(b, 6),
-        contact_at(b, 7),
-    ]
+    std::array::from_fn(|i| contact_at(b, i))
 }
 
 // The card of lent bytes; one that is damaged where they are no card.
@@ -102,12 +76,8 @@ fn put_contacts(room: &mut [u8], cs: [Contact; 8])
     requires { card_size ≤ length room.old }
     ensures { room.new ≡ put_at room.old state_size (contacts_bytes cs) }
 {
-    let mut i: usize = 0;
-    while i < 8 {
-        let at = STATE_SIZE + i * CONTACT_SIZE;
-        let x = contact_bytes(cs[i]);
-        put_at(room, at, &x);
-        i += 1;
+    for (i, &c) in cs.iter().enumerate() {
+        put_at(room, STATE_SIZE + i * CONTACT_SIZE, &contact_bytes(c));
     }
 }
 

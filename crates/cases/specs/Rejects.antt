@@ -7,7 +7,8 @@ use Rattle.calls.specs.declared.Call.TheVariants.{Create, Delay, Call, Select, E
 use Rattle.calls.specs.declared.CallMode.{CallMode}
 use Rattle.calls.specs.declared.CallMode.TheVariants.{Simple, Timed, Conditional}
 use Rattle.rules.specs.State.{empty, running}
-use Rattle.rules.specs.Step.{item, BAD_STATE, CALL_EXPIRED}
+use Rattle.rules.specs.Step.{item, CALL_EXPIRED}
+use Rattle.rules.specs.declared.Refusal.TheVariants.{BadState}
 use Rattle.rules.specs.Whole.{Whole, view, pack, decline}
 use Rattle.rules.specs.declared.Item.{Item}
 use Rattle.rules.specs.declared.Supervisor.{Supervisor}
@@ -19,7 +20,7 @@ rejected step = not (every (holds step) cases)
 
 -- "a supervisor that refuses everything"
 abbrev pub refuses_all : Supervisor → C.Call → Whole
-refuses_all s c = decline s BAD_STATE 0
+refuses_all s c = decline s BadState 0
 
 -- "one that always answers alike"
 abbrev pub answers_alike : Supervisor → C.Call → Whole

@@ -1,14 +1,13 @@
 -- The second engine's bytes: its rows one behind the other, and what is put is read back, whatever bytes follow. Assumes nothing.
-use Prim.Native.Nat.{ℕ, suc, ◌+◌, ◌-◌, ◌*◌, ◌<◌, ◌≤◌}
+use Prim.Native.Nat.{ℕ, zero, suc, ◌+◌, ◌-◌, ◌*◌, ◌<◌, ◌≤◌}
 use mathlib.Core.Path.{◌≡◌, refl, sym, ap, ◌∙◌}
 use mathlib.Core.Bool.{false}
-use mathlib.Core.List.{List, [], ◌∷◌, ◌++◌, append_assoc, append-nil}
-use native.Mathlib.Numerals.{add-one}
+use mathlib.Core.List.{List, [], ◌∷◌, ◌++◌, append_assoc}
 use native.Mathlib.Omega.{arith}
 use borrow.Author.Tests.{lt-ltb, le-ltb, ltb-true}
 use lib.Dec.{ltb}
-use lib.ListN.{length, replicate, set, take, drop, take-append-drop, length-append, length-take, drop_of_length-le}
-use lib.Seq.{take_at, drop_at, drop-drop, take_all, take-suc-set, append_snoc}
+use lib.ListN.{length, replicate, get_or, take, drop, take-append-drop, length-append, length-take, drop_of_length-le}
+use lib.Seq.{take_at, drop_at, drop-drop}
 use Rattle.lists.proofs.ListLaws.{by_bool}
 use Rattle.lists.proofs.Tests.{if-true, if-false}
 use Rattle.rules.specs.Second.{sound_second}
@@ -18,7 +17,7 @@ use Rattle.rules.specs.declared.Second.{Second}
 use Rattle.rules.specs.declared.Supervisor.{Supervisor}
 use Rattle.codec.specs.Layout.{state_size, encode, is_encoding, decode, lost, state_in, put_at, stored}
 use Rattle.codec.specs.Rows.{rows_at, row_place, second_size, core_bytes, rows_bytes, encode_second, rows_in, core_from, as_first, lost_second, second_in, put_rows, stored_second}
-use Rattle.codec.proofs.CodecLaws.{turns, tasks_long}
+use Rattle.codec.proofs.CodecLaws.{tasks_long}
 use Rattle.codec.proofs.Kept.{Sized, kept}
 
 -- ── the rows are read ──
@@ -28,21 +27,23 @@ rows_turn : (n k : ℕ) (b : List ℕ) → rows_in (suc n) (drop k b) ≡ record
 unfolding rows_in
 rows_turn n k b = rw (drop-drop 31 k b)
 
-next_row : (i : ℕ) → row_place (i + 1) ≡ row_place i + 31
-next_row i = omega arith
+no_line : Row
+no_line = record { line = [] }
 
-pub rows_next : (b : List ℕ) (i : ℕ) → i < 31 → (rows : List Row) (l : List ℕ) → i < length rows → l ≡ take 31 (drop (row_place i) b)
-    → take i rows ++ rows_in (31 - i) (drop (row_place i) b) ≡ take (i + 1) (set rows i (record { line = l })) ++ rows_in (31 - (i + 1)) (drop (row_place (i + 1)) b)
-rows_next b i h rows l fits e =
-    let x : Row = record { line = l } in
-    rw (turns 31 i h, next_row i, rows_turn (31 - (i + 1)) (row_place i) b, ← e, add-one i, take-suc-set rows i x fits)
-    (sym (append_snoc (take i rows) x (rows_in (31 - suc i) (drop (row_place i + 31) b))))
-
-pub rows_read : (b : List ℕ) (i : ℕ) → 31 ≤ i → i ≤ 31 → (rows : List Row) → length rows ≡ 31 → take i rows ++ rows_in (31 - i) (drop (row_place i) b) ≡ rows
+-- rows of which each is the one of its bytes are those of all
+rows_each_from : (b : List ℕ) (n k : ℕ) (rows : List Row) → length rows ≡ n → ((i : ℕ) → i < n → get_or rows i no_line ≡ record { line = take 31 (drop (k + i * 31) b) }) → rows ≡ rows_in n (drop k b)
 unfolding rows_in
-rows_read b i h k rows long =
-    let z : 31 - i ≡ 0 = omega arith in
-    rw z (append-nil (take i rows) ∙ take_all i rows (omega arith))
+rows_each_from b zero k [] e h = refl
+rows_each_from b (suc n) k [] e h = absurd (omega arith)
+rows_each_from b zero k (r ∷ rs) e h = absurd (omega arith)
+rows_each_from b (suc n) k (r ∷ rs) e h =
+    let at : (m m' : ℕ) → m ≡ m' → ◌≡◌ {A = Row} (record { line = take 31 (drop m b) }) (record { line = take 31 (drop m' b) }) = λ m m' q i. record { line = take 31 (drop (q i) b) } in
+    let first : r ≡ record { line = take 31 (drop k b) } = h 0 (omega arith) ∙ at (k + 0 * 31) k (omega arith) in
+    let rest : rs ≡ rows_in n (drop (k + 31) b) = rows_each_from b n (k + 31) rs (omega arith) (λ i l. h (suc i) (omega arith) ∙ at (k + suc i * 31) (k + 31 + i * 31) (omega arith)) in
+    (λ i. first i ∷ rest i) ∙ sym (rows_turn n k b)
+
+pub rows_each : (b : List ℕ) (rows : List Row) → length rows ≡ 31 → ((i : ℕ) (d : Row) → i < 31 → get_or rows i d ≡ record { line = take 31 (drop (row_place i) b) }) → rows ≡ rows_in 31 (drop rows_at b)
+rows_each b rows e h = rows_each_from b 31 rows_at rows e (λ i l. h i no_line l)
 
 pub second_short : (b : List ℕ) → length b < second_size → lost_second ≡ second_in b
 unfolding second_in

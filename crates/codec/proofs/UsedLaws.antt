@@ -1,19 +1,20 @@
 -- The tasks of the table that are not read are blank: their bytes are 0. So a loop over the others reads the state. Assumes nothing.
 use Prim.Native.Nat.{ℕ, zero, suc, ◌+◌, ◌-◌, ◌*◌, ◌<◌, ◌≤◌}
 use mathlib.Core.Path.{◌≡◌, refl, sym, ap, subst, ◌∙◌}
-use mathlib.Core.Bool.{Bool, true, false, ◌&&◌, and-true, and_assoc}
+use mathlib.Core.Bool.{Bool, true, false, ◌&&◌}
+use Rattle.std.specs.Bool.{then_some}
+use Rattle.std.specs.Prelude.{Option, None, Some}
 use mathlib.Core.List.{List, [], ◌∷◌, ◌++◌, append-nil}
 use native.Mathlib.Nat.{sub-zero}
 use native.Mathlib.Omega.{arith}
 use borrow.Author.Tests.{ltb-true, ltb-false, lt-ltb, le-ltb}
 use lib.ListN.{length, replicate, set, take, drop, take-append-drop, length-set}
 use lib.Seq.{get_or-take, get_or-drop, drop-drop, drop-set-lt}
-use lib.Dec.{eqb, ltb}
+use lib.Dec.{ltb}
 use Rattle.lists.specs.Lists.{when◌then◌else◌}
 use Rattle.lists.specs.Line.{blanks}
 use Rattle.lists.proofs.ListLaws.{by_bool, by_test}
 use Rattle.lists.proofs.LineLaws.{blanks_at}
-use Rattle.lists.proofs.Turns.{rest_cons}
 use Rattle.calls.specs.Record.{byte}
 use Rattle.rules.specs.State.{blank}
 use Rattle.rules.specs.declared.Task.{Task}
@@ -23,15 +24,6 @@ use Rattle.codec.specs.Used.{with_table, table_from, used_tasks, bare_in}
 use Rattle.codec.proofs.CodecLaws.{turns, are_turn, from_turn, are_next, from_next, state_short, state_tested}
 
 -- ── bytes that are 0 ──
-
--- one turn further over the table, and its end
-pub zero_next : (b : List ℕ) (i : ℕ) (all : Bool) → i < ready_at → ready_at ≤ length b
-    → (all && blanks (table_from b i)) ≡ ((all && eqb (byte b i) 0) && blanks (table_from b (i + 1)))
-zero_next b i true h long = rw (turns ready_at i h, rest_cons b i 0 (omega arith))
-zero_next b i false h long = refl
-
-pub zero_end : (b : List ℕ) (i : ℕ) (all : Bool) → ready_at ≤ i → (all && blanks (table_from b i)) ≡ all
-zero_end b i all h = let z : ready_at - i ≡ 0 = omega arith in rw z (and-true all)
 
 zero_at : (b : List ℕ) (from : ℕ) → blanks (table_from b from) ≡ true → (j : ℕ) → from ≤ j → j < ready_at → byte b j ≡ 0
 zero_at b from e j h k =
@@ -171,9 +163,9 @@ filled_end b tasks long f =
 
 -- ── the state, by what a loop over the used tasks has read ──
 
--- of n tasks the first i are read: whether they and the rest are tasks, and a state with those of them that are made
-abbrev pub Reading : List ℕ → ℕ → ℕ → Supervisor → Bool → Type 0
-Reading b n i s good = ((good && are_tasks (n - i) (drop (5 + i * task_size) b)) ≡ are_tasks n (drop 5 b)) × (s ≡ with_table (bare_in b) s.core.tasks) × Filled b n i s.core.tasks
+-- of n tasks the first i are read: all n are tasks where the rest are; and a state with those of them that are made
+abbrev pub Reading : List ℕ → ℕ → ℕ → Supervisor → Type 0
+Reading b n i s = (are_tasks (n - i) (drop (5 + i * task_size) b) ≡ are_tasks n (drop 5 b)) × (s ≡ with_table (bare_in b) s.core.tasks) × Filled b n i s.core.tasks
 
 pub bare_short : (b : List ℕ) → length b < state_size → bare_in b ≡ lost
 unfolding bare_in
@@ -190,25 +182,40 @@ bare_tasks : (b : List ℕ) → (bare_in b).core.tasks ≡ lost.core.tasks
 unfolding bare_in
 bare_tasks b = by_test (λ (s : Supervisor). s.core.tasks ≡ lost.core.tasks) (ltb (length b) state_size) (λ e. refl) (λ e. refl)
 
-pub reading_start : (b : List ℕ) (n : ℕ) (s : Supervisor) → s ≡ bare_in b → Reading b n 0 s true
+pub reading_start : (b : List ℕ) (n : ℕ) (s : Supervisor) → s ≡ bare_in b → Reading b n 0 s
 reading_start b n s e =
     let filled = subst (Filled b n 0) (sym (bare_tasks b)) (filled_start b n) in
-    subst (λ (s : Supervisor). Reading b n 0 s true) (sym e) (ap (λ (k : ℕ). are_tasks k (drop 5 b)) (sub-zero n), refl, filled)
+    subst (λ (s : Supervisor). Reading b n 0 s) (sym e) (ap (λ (k : ℕ). are_tasks k (drop 5 b)) (sub-zero n), refl, filled)
 
-pub reading_next : (b : List ℕ) (n i : ℕ) (s : Supervisor) (good right : Bool) (x : Task) → i < n → n ≤ 31 → right ≡ is_task (drop (5 + i * task_size) b) → x ≡ task_from (drop (5 + i * task_size) b)
-    → Reading b n i s good → Reading b n (i + 1) (with_table s (set s.core.tasks i x)) (good && right)
-reading_next b n i s good right x h k e q r =
-    let more = are_tasks (n - (i + 1)) (drop (5 + (i + 1) * task_size) b) in
-    let one = are_next b n i h ∙ ap (λ (t : Bool). t && more) (sym e) in
-    let all = and_assoc good right more ∙ ap (λ (t : Bool). good && t) (sym one) ∙ r.0 in
-    (all, ap (λ (s' : Supervisor). with_table s' (set s.core.tasks i x)) r.1, filled_next b n i s.core.tasks x h k q r.2)
+-- what was read is no task, and is one
+pub no_task : (good : Bool) (x : Task) {k : Option Task} → k ≡ then_some good x → k ≡ None → good ≡ false
+no_task true x e q = absurd (cc)
+no_task false x e q = refl
 
-module _ (b : List ℕ) (s : Supervisor) (good : Bool) (r : Reading b (used_tasks b) (used_tasks b) s good) where
-  read_tasks : are_tasks (used_tasks b) (drop 5 b) ≡ good
+pub some_task : (good : Bool) (x y : Task) {k : Option Task} → k ≡ then_some good x → k ≡ Some y → (good ≡ true) × (y ≡ x)
+some_task true x y e q = (refl, cc)
+some_task false x y e q = absurd (cc)
+
+module _ (b : List ℕ) (n i : ℕ) (s : Supervisor) (h : i < n) (r : Reading b n i s) where
+  abbrev more : Bool
+  more = are_tasks (n - (i + 1)) (drop (5 + (i + 1) * task_size) b)
+
+  -- the next is a task, and it is none
+  pub reading_next : (x : Task) → n ≤ 31 → is_task (drop (5 + i * task_size) b) ≡ true → x ≡ task_from (drop (5 + i * task_size) b) → Reading b n (i + 1) (with_table s (set s.core.tasks i x))
+  reading_next x k e q =
+      (sym (are_next b n i h ∙ ap (λ (t : Bool). t && more) e) ∙ r.0, ap (λ (s' : Supervisor). with_table s' (set s.core.tasks i x)) r.1, filled_next b n i s.core.tasks x h k q r.2)
+
+  pub reading_none : is_task (drop (5 + i * task_size) b) ≡ false → n ≡ used_tasks b → lost ≡ state_in b
+  reading_none e u =
+      let long = used_long b (omega arith) in
+      state_tested b lost false long ((used_front b long).0 ∙ ap (λ (m : ℕ). are_tasks m (drop 5 b)) (sym u) ∙ sym r.0 ∙ are_next b n i h ∙ ap (λ (t : Bool). t && more) e) refl
+
+module _ (b : List ℕ) (s : Supervisor) (r : Reading b (used_tasks b) (used_tasks b) s) where
+  read_tasks : are_tasks (used_tasks b) (drop 5 b) ≡ true
   read_tasks =
       let n = used_tasks b in
       let none : n - n ≡ 0 = omega arith in
-      sym r.0 ∙ ap (λ (k : ℕ). good && are_tasks k (drop (5 + n * task_size) b)) none ∙ ap (λ (t : Bool). good && t) (are_none (drop (5 + n * task_size) b)) ∙ and-true good
+      sym r.0 ∙ ap (λ (k : ℕ). are_tasks k (drop (5 + n * task_size) b)) none ∙ are_none (drop (5 + n * task_size) b)
 
   read_short : length b < state_size → s ≡ lost
   unfolding lost
@@ -220,14 +227,8 @@ module _ (b : List ℕ) (s : Supervisor) (good : Bool) (r : Reading b (used_task
   unfolding decode
   read_long h = r.1 ∙ (λ i. with_table (bare_long b h i) (filled_end b s.core.tasks h r.2 i))
 
-  pub read_good : good ≡ true → s ≡ state_in b
-  read_good e =
+  pub read_all : s ≡ state_in b
+  read_all =
       by_bool (ltb (length b) state_size)
       (λ h. let short = ltb-true (length b) state_size h in state_short b s short (read_short short))
-      (λ h. let long = ltb-false (length b) state_size h in state_tested b s true long ((used_front b long).0 ∙ read_tasks ∙ e) (read_long long))
-
-  pub read_bad : good ≡ false → lost ≡ state_in b
-  read_bad e =
-      by_bool (ltb (length b) state_size)
-      (λ h. state_short b lost (ltb-true (length b) state_size h) refl)
-      (λ h. let long = ltb-false (length b) state_size h in state_tested b lost false long ((used_front b long).0 ∙ read_tasks ∙ e) refl)
+      (λ h. let long = ltb-false (length b) state_size h in state_tested b s true long ((used_front b long).0 ∙ read_tasks) (read_long long))

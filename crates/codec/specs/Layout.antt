@@ -11,7 +11,6 @@ use Rattle.rules.specs.declared.Timer.TheVariants.{Off, Due}
 use Rattle.rules.specs.declared.Place.{Place}
 use Rattle.rules.specs.declared.Place.TheVariants.{Blank, Ready, Delayed, Queued, Held, Accepting, Completed}
 use Rattle.rules.specs.declared.Supervisor.{Supervisor}
-use Rattle.codec.specs.declared.Fields.{Fields}
 
 -- ── the sizes ──
 
@@ -111,41 +110,19 @@ place_from tag a b k =
 abbrev pub timer_from : ℕ → ℕ → Timer
 timer_from tag due = when eqb tag 0 then Off else Due due
 
--- the numbers that stand in the bytes of a task
-abbrev pub fields_of : List ℕ → Fields
-fields_of b = record {
-  priority = byte b 0;
-  current = byte b 1;
-  entries = byte b 2;
-  tag = byte b 3;
-  first = byte b 4;
-  second = byte b 5;
-  kept = byte b 6;
-  timed = byte b 7;
-  due = four_from b 8;
-}
-
--- the numbers are those of a task
-abbrev pub fields_good : Fields → Bool
-fields_good f = is_place f.tag f.first f.second f.kept && is_timer f.timed f.due
-
--- the task of the numbers
-abbrev pub fields_task : Fields → Task
-fields_task f = record {
-  priority = f.priority;
-  current = f.current;
-  entries = f.entries;
-  place = place_from f.tag f.first f.second f.kept;
-  timer = timer_from f.timed f.due;
-}
-
 -- the bytes are those of a task
 abbrev pub is_task : List ℕ → Bool
-is_task b = fields_good (fields_of b)
+is_task b = is_place (byte b 3) (byte b 4) (byte b 5) (byte b 6) && is_timer (byte b 7) (four_from b 8)
 
 -- the task of the bytes
 abbrev pub task_from : List ℕ → Task
-task_from b = fields_task (fields_of b)
+task_from b = record {
+  priority = byte b 0;
+  current = byte b 1;
+  entries = byte b 2;
+  place = place_from (byte b 3) (byte b 4) (byte b 5) (byte b 6);
+  timer = timer_from (byte b 7) (four_from b 8);
+}
 
 -- the bytes of n tasks
 unfoldable pub are_tasks : ℕ → List ℕ → Bool

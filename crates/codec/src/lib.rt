@@ -4,10 +4,11 @@
 pub mod rows;
 
 ghost use Rattle.std.specs.Prelude.{◌≡◌, ◌+◌, ◌≤◌, [], ◌∷◌, length, take, drop};
+ghost use Rattle.std.specs.Bool.{then_some};
 ghost use Rattle.lists.specs.Line.{blanks};
 ghost use Rattle.rules.specs.State.{entry_of, kept_of};
-ghost use Rattle.codec.specs.Layout.{state_size, task_size, place_tag, place_first, timer_tag, timer_due, task_bytes, tasks_bytes, is_place, is_timer, place_from, timer_from, fields_of, fields_good, fields_task, lost, state_in, put_at, placed_at, placed_lines, stored};
-ghost use Rattle.codec.specs.Used.{table_from, used_tasks, bare_in};
+ghost use Rattle.codec.specs.Layout.{state_size, task_size, place_tag, place_first, timer_tag, timer_due, task_bytes, tasks_bytes, is_place, is_timer, place_from, timer_from, is_task, task_from, lost, state_in, put_at, placed_at, placed_lines, stored};
+ghost use Rattle.codec.specs.Used.{used_tasks, bare_in};
 
 use calls::{bytes_of, word};
 use rules::{Core, Meeting, Offer, Place, Supervisor, Task, Timer, Waiting};
@@ -27,6 +28,7 @@ pub const DELAYS_AT: usize = HELD_AT + 31;
 pub const STATE_SIZE: usize = DELAYS_AT + 31;
 
 // The four bytes of a place: its tag; the called task, the holder or the open set; the called entry; the priority kept.
+// Functions and no `From`, here and for a time: none of these types is of this crate.
 fn place_bytes(p: Place) -> [u8; 4]
     ensures { result ≡ place_tag p ∷ place_first p ∷ entry_of p ∷ kept_of p ∷ [] }
 {
@@ -75,123 +77,59 @@ fn task_bytes(x: Task) -> [u8; 12]
     ]
 }
 
-// Whether bytes are a place: a tag up to 6, and 0 in each byte that its place does not use.
-fn is_place(tag: u8, a: u8, b: u8, k: u8) -> bool
-    ensures { result ≡ is_place tag a b k }
+// The place of a tag and its three bytes, if they are one: each byte that its place does not use is 0.
+fn place_from(tag: u8, a: u8, b: u8, k: u8) -> Option<Place>
+    ensures { result ≡ then_some (is_place tag a b k) (place_from tag a b k) }
 {
-    (tag <= 6)
-        & (((3 <= tag) & (tag <= 5)) | (a == 0))
-        & (((3 <= tag) & (tag <= 4)) | (b == 0))
-        & ((tag == 4) | (k == 0))
-}
-
-// Whether bytes are a time: off with 0, or due at a reading.
-fn is_timer(tag: u8, due: u32) -> bool
-    ensures { result ≡ is_timer tag due }
-{
-    ((tag == 0) & (due == 0)) | (tag == 1)
-}
-
-// The place of a tag and its three bytes.
-fn place_from(tag: u8, a: u8, b: u8, k: u8) -> Place
-    ensures { result ≡ place_from tag a b k }
-{
-    match tag {
-        0 => Place::Blank,
-        1 => Place::Ready,
-        2 => Place::Delayed,
-        3 => Place::Queued(Waiting {
-            target: a,
-            entry: b,
-        }),
-        4 => Place::Held(Meeting {
-            holder: a,
-            entry: b,
-            kept: k,
-        }),
-        5 => Place::Accepting(Offer { opens: a }),
-        _ => Place::Completed,
+    match (tag, a, b, k) {
+        (0, 0, 0, 0) => Some(Place::Blank),
+        (1, 0, 0, 0) => Some(Place::Ready),
+        (2, 0, 0, 0) => Some(Place::Delayed),
+        (3, target, entry, 0) => Some(Place::Queued(Waiting { target, entry })),
+        (4, holder, entry, kept) => Some(Place::Held(Meeting {
+            holder,
+            entry,
+            kept,
+        })),
+        (5, opens, 0, 0) => Some(Place::Accepting(Offer { opens })),
+        (6, 0, 0, 0) => Some(Place::Completed),
+        _ => None,
     }
 }
 
-// The time of a tag and a reading.
-fn timer_from(tag: u8, due: u32) -> Timer
-    ensures { result ≡ timer_from tag due }
+// The time of a tag and a reading, if they are one: off with 0, or due at the reading.
+fn timer_from(tag: u8, due: u32) -> Option<Timer>
+    ensures { result ≡ then_some (is_timer tag due) (timer_from tag due) }
 {
-    if tag == 0 {
-        Timer::Off
-    } else {
-        Timer::Due(due)
+    match (tag, due) {
+        (0, 0) => Some(Timer::Off),
+        (1, due) => Some(Timer::Due(due)),
+        _ => None,
     }
 }
 
-// The numbers that stand in the bytes of a task.
-#[derive(Clone, Copy)]
-struct Fields {
-    priority: u8,
-    current: u8,
-    entries: u8,
-    tag: u8,
-    first: u8,
-    second: u8,
-    kept: u8,
-    timed: u8,
-    due: u32,
-}
-
-// The numbers of the bytes of a task.
-fn fields_of(b: &[u8]) -> Fields
+// The task of bytes, if they are one.
+fn task_in(b: &[u8]) -> Option<Task>
     requires { task_size ≤ length b.now }
-    ensures { result ≡ fields_of b.now }
+    ensures { result ≡ then_some (is_task b.now) (task_from b.now) }
 {
-    let due = word(b[8], b[9], b[10], b[11]);
-    Fields {
+    let place = place_from(b[3], b[4], b[5], b[6])?;
+    let timer = timer_from(b[7], word(b[8], b[9], b[10], b[11]))?;
+    Some(Task {
         priority: b[0],
         current: b[1],
         entries: b[2],
-        tag: b[3],
-        first: b[4],
-        second: b[5],
-        kept: b[6],
-        timed: b[7],
-        due,
-    }
-}
-
-// Whether numbers are those of a task.
-fn is_task(f: Fields) -> bool
-    ensures { result ≡ fields_good f }
-{
-    is_place(f.tag, f.first, f.second, f.kept) & is_timer(f.timed, f.due)
-}
-
-// The task of numbers.
-fn task_from(f: Fields) -> Task
-    ensures { result ≡ fields_task f }
-{
-    let place = place_from(f.tag, f.first, f.second, f.kept);
-    let timer = timer_from(f.timed, f.due);
-    Task {
-        priority: f.priority,
-        current: f.current,
-        entries: f.entries,
         place,
         timer,
-    }
+    })
 }
 
-// Whether the bytes of the table of tasks are 0 from an index on.
-fn are_zero(b: &[u8], from: usize) -> bool
-    requires { state_size ≤ length b.now }
-    ensures { result ≡ blanks (table_from b.now from) }
+// Whether all bytes are 0. `fold` and no `all`: it reads them many at a time, and is seldom done early. `soundness` has the like of a line
+// from a place on; neither crate rests on the other.
+fn are_zero(b: &[u8]) -> bool
+    ensures { result ≡ blanks b.now }
 {
-    let mut all = true;
-    let mut i = from;
-    while i < READY_AT {
-        all = all & (b[i] == 0);
-        i += 1;
-    }
-    all
+    b.iter().fold(0, |seen, x| seen | *x) == 0
 }
 
 // How many tasks of the table have to be read: the bytes behind them are 0, which is blank tasks.
@@ -201,12 +139,16 @@ fn used_tasks(b: &[u8]) -> usize
     if b.len() < STATE_SIZE {
         return 0;
     }
-    let n = b[4] as usize;
+    let n = usize::from(b[4]);
     if 31 < n {
         return 31;
     }
     let behind = 5 + n * TASK_SIZE;
-    if are_zero(b, behind) { n } else { 31 }
+    if are_zero(&b[behind..READY_AT]) {
+        n
+    } else {
+        31
+    }
 }
 
 // The line at an index.
@@ -272,22 +214,18 @@ pub fn state_in(b: &[u8]) -> Supervisor
     let callers = bare.callers;
     let mut core = bare.core;
     let n = used_tasks(b);
-    let mut good = true;
-    let mut i: usize = 0;
-    while i < n {
-        let at = 5 + i * TASK_SIZE;
-        let f = fields_of(&b[at..]);
-        core.tasks[i] = task_from(f);
-        good = good & is_task(f);
-        i += 1;
+    // by the index: after a loop over `core.tasks[..n].iter_mut()` the proof knows nothing of the table
+    for i in 0..n {
+        let Some(task) = task_in(&b[5 + i * TASK_SIZE..]) else {
+            return lost_state();
+        };
+        core.tasks[i] = task;
     }
-    if good {
-        return Supervisor { core, callers };
-    }
-    lost_state()
+    Supervisor { core, callers }
 }
 
 // Puts a piece at an index of the room, or nothing where it has no room there.
+// Two tests and no `get_mut(at..at + n)`: the sum could be too large, so it would be no plainer.
 pub fn put_at(room: &mut [u8], at: usize, piece: &[u8])
     ensures { room.new ≡ placed_at room.old at piece.now }
 {
@@ -307,12 +245,8 @@ fn put_tasks(room: &mut [u8], tasks: [Task; 31])
     requires { state_size ≤ length room.old }
     ensures { room.new ≡ put_at room.old 5 (tasks_bytes tasks) }
 {
-    let mut i: usize = 0;
-    while i < 31 {
-        let at = 5 + i * TASK_SIZE;
-        let x = task_bytes(tasks[i]);
-        put_at(room, at, &x);
-        i += 1;
+    for (i, &task) in tasks.iter().enumerate() {
+        put_at(room, 5 + i * TASK_SIZE, &task_bytes(task));
     }
 }
 

@@ -16,10 +16,8 @@ fn core_from(s: Supervisor) -> Core
 {
     let held = s.callers;
     let delays = s.core.held;
-    let mut k = s.core;
-    k.held = held;
-    k.delays = delays;
-    k
+    let k = s.core;
+    Core { held, delays, ..k }
 }
 
 // A state of the first engine whose bytes begin with those of the core.
@@ -28,9 +26,8 @@ fn as_first(k: Core) -> Supervisor
 {
     let callers = k.held;
     let held = k.delays;
-    let mut core = k;
-    core.held = held;
-    core.delays = [0u8; 31];
+    let delays = [0u8; 31];
+    let core = Core { held, delays, ..k };
     Supervisor { core, callers }
 }
 
@@ -46,8 +43,7 @@ fn no_rows() -> [Row; 31]
 fn lost_second() -> Second
     ensures { result ≡ lost_second }
 {
-    let s = lost_state();
-    let core = s.core;
+    let core = lost_state().core;
     let rows = no_rows();
     Second { core, rows }
 }
@@ -57,15 +53,9 @@ fn rows_in(b: &[u8]) -> [Row; 31]
     requires { second_size ≤ length b.now }
     ensures { result ≡ rows_in 31 (drop rows_at b.now) }
 {
-    let mut rows = no_rows();
-    let mut i: usize = 0;
-    while i < 31 {
-        let at = ROWS_AT + i * 31;
-        let line = line_from(b, at);
-        rows[i] = Row { line };
-        i += 1;
-    }
-    rows
+    std::array::from_fn(|i| Row {
+        line: line_from(b, ROWS_AT + i * 31),
+    })
 }
 
 // The state of lent bytes; one that is not sound where they are no encoding.
@@ -81,24 +71,13 @@ pub fn second_in(b: &[u8]) -> Second
     Second { core, rows }
 }
 
-// The line of a row.
-fn line_of(r: Row) -> [u8; 31]
-    ensures { result ≡ r.line }
-{
-    r.line
-}
-
 // Puts the rows behind the core.
 fn put_rows(room: &mut [u8], rows: [Row; 31])
     requires { second_size ≤ length room.old }
     ensures { room.new ≡ put_rows 0 room.old rows }
 {
-    let mut i: usize = 0;
-    while i < 31 {
-        let at = ROWS_AT + i * 31;
-        let line = line_of(rows[i]);
-        put_at(room, at, &line);
-        i += 1;
+    for (i, row) in rows.iter().enumerate() {
+        put_at(room, ROWS_AT + i * 31, &row.line);
     }
 }
 

@@ -1,21 +1,22 @@
 -- What the code's branches and turns of loops know.
 -- Assumes nothing.
-use Rattle.std.proofs.Common.{◌≡◌, ℕ, zero, suc, ◌+◌, ◌-◌, ◌*◌, ◌^◌, ◌<◌, ◌≤◌, Bool, true, false, ◌&&◌, eqb, ltb, leb, List, [], ◌∷◌, map, length, get_or, drop, sym, ap, ◌∙◌, arith, length-drop, drop_of_length-le, pow_pos, eq-eqb, ne_eqb, eqb-true}
+use Rattle.std.proofs.Common.{◌≡◌, ℕ, zero, suc, ◌+◌, ◌-◌, ◌*◌, ◌^◌, ◌<◌, ◌≤◌, Bool, true, false, not, ◌&&◌, eqb, ltb, leb, List, [], ◌∷◌, map, length, get_or, drop, sym, ap, ◌∙◌, arith, refl, length-drop, drop_of_length-le, pow_pos, eq-eqb, ne_eqb, eqb-true}
 use mir.Val.{bool_byte}
 use native.Mathlib.Nat.{two-pow-succ}
 use lib.ListN.{length-map}
+use Rattle.std.specs.List.{list_all, zip}
+use mathlib.Core.Bool.{beq}
 use Rattle.lists.specs.Lists.{when◌then◌else◌, bit}
 use Rattle.lists.proofs.Tests.{and_first, if-true, if-false, bit_le, byte_bit}
 use Rattle.lists.proofs.Turns.{rest_cons}
-use Rattle.rules.specs.State.{blank}
 use Rattle.rules.specs.declared.Supervisor.{Supervisor}
 use Rattle.rules.specs.declared.Task.{Task}
 use Rattle.debounce.specs.declared.Card.{Card}
 use Rattle.debounce.specs.declared.Contact.{Contact}
 use Rattle.debounce.specs.declared.Made.{Made}
-use Rattle.debounce.specs.Rule.{byte_of}
-use Rattle.debounce.specs.Card.{no_contact, is_closed, waits_for, all_wait, start_one, start_all, turn_of, serve, all_served, whole, ticked_card, answered, damaged, tick_of}
-use Rattle.debounce.specs.Settings.{good_field, good_from, good_settings, settings_in, fresh_card, no_card, fresh_of}
+use Rattle.debounce.specs.Rule.{differs, byte_of}
+use Rattle.debounce.specs.Card.{opened, no_contact, is_closed, waits_for, all_wait, start_one, start_all, turn_of, serve, all_served, whole, ticked_card, answered, damaged, tick_of}
+use Rattle.debounce.specs.Settings.{setting_at, settings_from, good_field, good_from, good_settings, settings_in, fresh_card, no_card, fresh_of}
 
 -- ── the fields of settings ──
 
@@ -37,20 +38,37 @@ pub wrong_length : (b : List ℕ) → (length b ≡ 48 → ⊥) → false ≡ go
 unfolding good_settings
 wrong_length b n = ap (λ (x : Bool). x && good_from 8 0 b) (sym (ne_eqb (length b) 48 n))
 
+-- contacts each of which is the one of its field are those of all settings
+contacts_from : (b : List ℕ) (n i : ℕ) (cs : List Contact) → length cs ≡ n → ((k : ℕ) → k < n → get_or cs k no_contact ≡ opened (setting_at b (i + k))) → cs ≡ map opened (settings_from n i b)
+contacts_from b zero i [] e h = refl
+contacts_from b zero i (c ∷ cs) e h = absurd (omega arith)
+contacts_from b (suc n) i [] e h = absurd (omega arith)
+contacts_from b (suc n) i (c ∷ cs) e h =
+    let first : c ≡ opened (setting_at b i) = h 0 (omega arith) ∙ ap (λ (j : ℕ). opened (setting_at b j)) (omega arith) in
+    let rest : cs ≡ map opened (settings_from n (i + 1) b) = contacts_from b n (i + 1) cs (omega arith) (λ k l. h (suc k) (omega arith) ∙ ap (λ (j : ℕ). opened (setting_at b j)) (omega arith)) in
+    λ j. first j ∷ rest j
+
+pub contacts_each : (b : List ℕ) (cs : List Contact) → length cs ≡ 8 → ((k : ℕ) (d : Contact) → k < 8 → get_or cs k d ≡ opened (setting_at b k)) → cs ≡ map opened (settings_in b)
+unfolding settings_in
+contacts_each b cs e h = contacts_from b 8 0 cs e (λ k l. h k no_contact l ∙ ap (λ (j : ℕ). opened (setting_at b j)) (omega arith))
+
+-- ── samples ──
+
+-- two samples differ where they are not equal
+pub differs_is : (x y : Bool) → differs x y ≡ not (beq x y)
+differs_is true true = refl
+differs_is true false = refl
+differs_is false true = refl
+differs_is false false = refl
+
 -- ── tasks and contacts ──
 
-module _ (now : ℕ) (xs : List Task) (cs : List Contact) (i : ℕ) (here : i < length xs) (too : i < length cs) where
-  opened : all_wait now (drop i xs) (drop i cs) ≡ (waits_for now (get_or xs i blank) (get_or cs i no_contact) && all_wait now (drop (i + 1) xs) (drop (i + 1) cs))
-  opened = λ k. all_wait now (rest_cons xs i blank here k) (rest_cons cs i no_contact too k)
-
-  pub waits_next : waits_for now (get_or xs i blank) (get_or cs i no_contact) ≡ true → all_wait now (drop i xs) (drop i cs) ≡ all_wait now (drop (i + 1) xs) (drop (i + 1) cs)
-  waits_next e = opened ∙ ap (λ (x : Bool). x && all_wait now (drop (i + 1) xs) (drop (i + 1) cs)) e
-
-  pub waits_stop : waits_for now (get_or xs i blank) (get_or cs i no_contact) ≡ false → all_wait now (drop i xs) (drop i cs) ≡ false
-  waits_stop e = opened ∙ ap (λ (x : Bool). x && all_wait now (drop (i + 1) xs) (drop (i + 1) cs)) e
-
-pub waits_done : (now : ℕ) (xs : List Task) (cs : List Contact) (i : ℕ) → length cs ≤ i → all_wait now (drop i xs) (drop i cs) ≡ true
-waits_done now xs cs i h = ap (all_wait now (drop i xs)) (drop_of_length-le cs h)
+-- each waits for its contact where all pairs do
+pub wait_list : (now : ℕ) (xs : List Task) (cs : List Contact) → length cs ≤ length xs → list_all (λ (p : Task × Contact). waits_for now p.0 p.1) (zip xs cs) ≡ all_wait now xs cs
+wait_list now [] [] h = refl
+wait_list now [] (c ∷ cs) h = absurd (omega arith)
+wait_list now (x ∷ xs) [] h = refl
+wait_list now (x ∷ xs) (c ∷ cs) h = ap (λ (b : Bool). waits_for now x c && b) (wait_list now xs cs (omega arith))
 
 -- ── the start ──
 

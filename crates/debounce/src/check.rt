@@ -10,16 +10,16 @@ use rules::{Core, Place, Task, Timer};
 pub fn is_setting(n: u8, p: u16) -> bool
     ensures { result ≡ good_setting n p }
 {
-    (1 <= n) & (n <= 16) & (1 <= p) & (p <= 65535)
+    (1..=16).contains(&n) & (1..=65535).contains(&p)
 }
 
-// The ticks left of a time; 0 of none.
+// The ticks left of a time; 0 of none. The supervisor's own function stays its own: this crate rests on its steps alone.
 fn left_of(now: u32, w: Timer) -> u32
     ensures { result ≡ ticks_left now w }
 {
     match w {
         Timer::Off => 0,
-        Timer::Due(d) => std::num::wrapping_sub_u32(d, now),
+        Timer::Due(d) => d.wrapping_sub(now),
     }
 }
 
@@ -27,15 +27,7 @@ fn left_of(now: u32, w: Timer) -> u32
 fn is_delayed(p: Place) -> bool
     ensures { result ≡ is_delayed p }
 {
-    match p {
-        Place::Blank => false,
-        Place::Ready => false,
-        Place::Delayed => true,
-        Place::Queued(_) => false,
-        Place::Held(_) => false,
-        Place::Accepting(_) => false,
-        Place::Completed => false,
-    }
+    matches!(p, Place::Delayed)
 }
 
 // Whether a task delays with 1 to p ticks left, where the contact's setting is in range.
@@ -45,7 +37,7 @@ fn waits_for(now: u32, x: Task, c: Contact) -> bool
     let timer = x.timer;
     let place = x.place;
     let left = left_of(now, timer);
-    is_setting(c.n, c.p) & is_delayed(place) & (1 <= left) & (left <= c.p as u32)
+    is_setting(c.n, c.p) & is_delayed(place) & (1 <= left) & (left <= u32::from(c.p))
 }
 
 // Whether each of eight tasks waits for its contact.
@@ -53,15 +45,7 @@ fn all_wait(s: Core, cs: [Contact; 8]) -> bool
     ensures { result ≡ all_wait s.clock s.tasks cs }
 {
     let now = s.clock;
-    let mut i: usize = 0;
-    while i < 8 {
-        if waits_for(now, s.tasks[i], cs[i]) {
-            i += 1;
-        } else {
-            return false;
-        }
-    }
-    true
+    s.tasks.iter().zip(&cs).all(|(x, c)| waits_for(now, *x, *c))
 }
 
 // Whether the card is not damaged.

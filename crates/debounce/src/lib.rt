@@ -11,9 +11,8 @@ ghost use Rattle.debounce.specs.Card.{tick_of};
 ghost use Rattle.debounce.specs.Settings.{fresh_of, no_card};
 
 use check::is_whole;
-use contacts::{no_contact, report_of};
-use rules::Supervisor;
-use rules::numbers::BAD_STATE;
+use contacts::report_of;
+use rules::{Refusal, Supervisor};
 use settings::{contacts_in, is_good};
 use turns::{no_tasks, started, ticked};
 
@@ -21,8 +20,8 @@ use turns::{no_tasks, started, ticked};
 pub const BAD_SETTING: u8 = 17;
 
 // A contact: its setting (n samples must agree, p ticks lie between two samples), whether it is reported closed, and how many of its
-// latest samples in a row say otherwise.
-#[derive(Clone, Copy)]
+// latest samples in a row say otherwise. The default is a contact that is not there.
+#[derive(Clone, Copy, Default)]
 pub struct Contact {
     pub n: u8,
     pub p: u16,
@@ -38,7 +37,7 @@ pub struct Card {
 }
 
 // What making a card gives: a refusal (0 if none), and the card; where the settings are refused no card is made, and the blank one stands
-// in its place, which every tick refuses.
+// in its place, which every tick refuses. No `Result`, here and of a tick: the theorems `bad_setting` and `damaged` tell of that card, too.
 #[derive(Clone, Copy)]
 pub struct Made {
     pub refusal: u8,
@@ -58,7 +57,7 @@ fn blank_card() -> Card
     ensures { result ≡ no_card }
 {
     let supervisor = no_tasks();
-    let contacts = [no_contact(); 8];
+    let contacts = [Contact::default(); 8];
     Card {
         supervisor,
         contacts,
@@ -101,7 +100,7 @@ pub fn tick(card: Card, bits: u8) -> Ticked
     }
     Ticked {
         card,
-        refusal: BAD_STATE,
+        refusal: Refusal::BadState as u8,
         reported: 0,
     }
 }

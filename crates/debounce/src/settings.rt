@@ -1,5 +1,5 @@
 // The settings: a field for each contact, laid out like a call record.
-ghost use Rattle.std.specs.Prelude.{◌≡◌, ◌+◌, ◌*◌, ◌<◌, ◌≤◌, map, length};
+ghost use Rattle.std.specs.Prelude.{◌≡◌, ◌+◌, ◌*◌, ◌≤◌, map, length};
 ghost use Rattle.debounce.specs.Card.{opened};
 ghost use Rattle.debounce.specs.Settings.{two, setting_at, good_field, good_settings, settings_in};
 
@@ -10,7 +10,7 @@ use super::check::is_setting;
 fn word(a: u8, b: u8) -> u16
     ensures { result ≡ two a b }
 {
-    a as u16 * 256 + b as u16
+    u16::from_be_bytes([a, b])
 }
 
 // Whether the field at index i is that of contact i + 1: its tag, the length 3, and a setting in range.
@@ -20,21 +20,18 @@ fn is_field(b: &[u8], i: usize) -> bool
 {
     let at = i * 6;
     let p = word(b[at + 4], b[at + 5]);
-    (b[at] as usize == i + 1) & (b[at + 1] == 0) & (b[at + 2] == 3) & is_setting(b[at + 3], p)
+    (usize::from(b[at]) == i + 1) & (b[at + 1] == 0) & (b[at + 2] == 3) & is_setting(b[at + 3], p)
 }
 
-// Whether the bytes are eight fields, and nothing behind.
+// Whether the bytes are eight fields, and nothing behind. By their index and not by `chunks_exact`: a field's tag is counted, too.
 pub fn is_good(b: &[u8]) -> bool
     ensures { result ≡ good_settings b.now }
 {
     if b.len() != 48 {
         return false;
     }
-    let mut i: usize = 0;
-    while i < 8 {
-        if is_field(b, i) {
-            i += 1;
-        } else {
+    for i in 0..8 {
+        if !is_field(b, i) {
             return false;
         }
     }
@@ -60,14 +57,5 @@ pub fn contacts_in(b: &[u8]) -> [Contact; 8]
     requires { length b.now ≡ 48 }
     ensures { result ≡ map opened (settings_in b.now) }
 {
-    [
-        contact_at(b, 0),
-        contact_at(b, 1),
-        contact_at(b, 2),
-        contact_at(b, 3),
-        contact_at(b, 4),
-        contact_at(b, 5),
-        contact_at(b, 6),
-        contact_at(b, 7),
-    ]
+    std::array::from_fn(|i| contact_at(b, i))
 }

@@ -31,7 +31,7 @@ fn stepped(s: Supervisor, call: Call) -> Stepped<Supervisor>
 fn delayed(s: Supervisor, p: u16) -> Stepped<Supervisor>
     ensures { result ≡ stepped_of (takes s (Delay (pos p))) }
 {
-    stepped(s, Call::Delay(p as i32))
+    stepped(s, Call::Delay(i32::from(p)))
 }
 
 // One more task, which delays p ticks.
@@ -62,11 +62,8 @@ pub fn started(cs: [Contact; 8]) -> Supervisor
     ensures { result ≡ start_all no_tasks cs }
 {
     let mut s = no_tasks();
-    let mut i: usize = 0;
-    while i < 8 {
-        let next = started_one(s, cs[i].p);
-        s = next;
-        i += 1;
+    for c in &cs {
+        s = started_one(s, c.p);
     }
     s
 }
@@ -98,7 +95,7 @@ fn turn(card: Card, t: u8, bits: u8) -> Turned
 fn is_contact(t: u8) -> bool
     ensures { result ≡ (nat_lt 0 t && nat_le t 8) }
 {
-    (0 < t) & (t <= 8)
+    (1..=8).contains(&t)
 }
 
 // Turn by turn, until nobody runs.
@@ -107,16 +104,13 @@ fn served(card: Card, next: u8, bits: u8) -> Card
 {
     let mut now = card;
     let mut t = next;
-    let mut i: usize = 0;
-    while i < 8 {
-        if is_contact(t) {
-            let k = turn(now, t, bits);
-            now = k.card;
-            t = k.next;
-            i += 1;
-        } else {
+    for _turn in 0..8u8 {
+        if !is_contact(t) {
             return now;
         }
+        let k = turn(now, t, bits);
+        now = k.card;
+        t = k.next;
     }
     now
 }

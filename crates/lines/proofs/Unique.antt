@@ -1,9 +1,14 @@
 -- Any two answers that the contract of a public function allows are equal.
 -- Assumes nothing.
-use mathlib.Core.Path.{sym, ◌∙◌}
+use Prim.Native.Nat.{ℕ, ◌<◌}
+use mathlib.Core.Bool.{Bool}
+use mathlib.Core.Path.{◌≡◌, sym, ◌∙◌}
+use denote.RattleType.{RattleType}
 use Rattle.lists.specs.Once.{Once}
+use Rattle.lines.specs.contracts.kept.F-Fn.{Ghosts}
 use Rattle.lines.proofs.len.Reads as len
 use Rattle.lines.proofs.joined.Reads as joined
+use Rattle.lines.proofs.kept.Reads as kept
 use Rattle.lines.proofs.without.Reads as without
 use Rattle.lines.proofs.rejoined.Reads as rejoined
 use Rattle.lines.proofs.to_head.Reads as to-head
@@ -11,6 +16,7 @@ use Rattle.lines.proofs.joined_all.Reads as joined-all
 use Rattle.lines.proofs.first_of.Reads as first_of
 use Rattle.lines.proofs.last_of.Reads as last_of
 use Rattle.lines.proofs.mark_of.Reads as mark_of
+use Rattle.lines.proofs.mark.Reads as mark
 use Rattle.lines.proofs.marks_of.Reads as marks-of
 use Rattle.lines.proofs.picked.Reads as picked
 use Rattle.lines.proofs.put_by.Reads as put-by
@@ -20,6 +26,11 @@ len_once κs x r r' y y' p q = p ∙ sym q
 
 pub joined_once : Once joined.Learnt
 joined_once κs x r r' y y' p q = p ∙ sym q
+
+-- where the closure is a test
+pub kept_once : (F : RattleType) (l : _) (f : Ghosts F) (a b c d : _) (κs : _) (x : _) (r r' : _) (y y' : _) → kept.Learnt F l f a b c d κs x r y → kept.Learnt F l f a b c d κs x r' y'
+    → (test : ℕ → Bool) → ((n : ℕ) (b : Bool) → n < 256 → f.post x.1.0 (n, tt) b → b ≡ test n) → r ≡ r'
+kept_once F l f a b c d κs x r r' y y' p q test h = p test h ∙ sym (q test h)
 
 pub without_once : Once without.Learnt
 without_once κs x r r' y y' p q = p ∙ sym q
@@ -41,6 +52,10 @@ last_of_once κs x r r' y y' p q = p ∙ sym q
 
 pub mark_of_once : Once mark_of.Learnt
 mark_of_once κs x r r' y y' p q = p ∙ sym q
+
+-- the marks may be of any type
+pub mark_once : (g : _) (l : _) (m : _) (n : _) (o : _) (κs : _) (x : _) (r r' : _) (y y' : _) → mark.Learnt g l m n o κs x r y → mark.Learnt g l m n o κs x r' y' → y.0.now ≡ y'.0.now
+mark_once g l m n o κs x r r' y y' p q = p ∙ sym q
 
 pub marks_of_once : Once marks-of.Learnt
 marks_of_once κs x r r' y y' p q = p ∙ sym q

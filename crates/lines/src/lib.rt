@@ -1,8 +1,8 @@
 // Lines: task numbers in order, and blanks (0) behind them, in an array of 31.
 #![tactic(auto)]
 
-ghost use Rattle.std.specs.Prelude.{◌≡◌, [], ◌∷◌, ◌++◌, length};
-ghost use Rattle.lists.specs.Lists.{remove, rejoin, to_head, first, last};
+ghost use Rattle.std.specs.Prelude.{◌≡◌, ℕ, ◌<◌, Bool, [], ◌∷◌, ◌++◌, length, slice_set};
+ghost use Rattle.lists.specs.Lists.{filter, remove, rejoin, to_head, first, last};
 ghost use Rattle.lists.specs.Line.{line, pad};
 ghost use Rattle.lists.specs.Marks.{no_marks, mark_of, marked, with_mark, insert_by};
 
@@ -10,12 +10,7 @@ ghost use Rattle.lists.specs.Marks.{no_marks, mark_of, marked, with_mark, insert
 pub fn len(a: [u8; 31]) -> usize
     ensures { result ≡ length (line a) }
 {
-    for i in 0..31 {
-        if a[i] == 0 {
-            return i;
-        }
-    }
-    31
+    a.iter().position(|t| *t == 0).unwrap_or(a.len())
 }
 
 // The line with t at its tail. A full line stays as it is.
@@ -23,8 +18,7 @@ pub fn joined(a: [u8; 31], t: u8) -> [u8; 31]
     ensures { result ≡ pad (line a ++ (t ∷ [])) }
 {
     let mut r = [0u8; 31];
-    for i in 0..31 {
-        let u = a[i];
+    for (i, &u) in a.iter().enumerate() {
         if u == 0 {
             r[i] = t;
             return r;
@@ -34,23 +28,30 @@ pub fn joined(a: [u8; 31], t: u8) -> [u8; 31]
     r
 }
 
-// The line without t: those behind it move up.
-pub fn without(a: [u8; 31], t: u8) -> [u8; 31]
-    ensures { result ≡ pad (remove t (line a)) }
+// Those of the line that stay; the others leave, and those behind them move up.
+pub fn kept<F: Fn(u8) -> bool>(a: [u8; 31], stays: F) -> [u8; 31]
+    requires { F.IsAlwaysCallable stays }
+    ensures { (test : ℕ → Bool) → ((x : ℕ) (b : Bool) → x < 256 → F.post stays x b → b ≡ test x) → result ≡ pad (filter test (line a)) }
 {
     let mut r = [0u8; 31];
     let mut j: usize = 0;
-    for i in 0..31 {
-        let y = a[i];
-        if y == 0 {
+    for &x in &a {
+        if x == 0 {
             return r;
         }
-        if y != t {
-            r[j] = y;
+        if stays(x) {
+            r[j] = x;
             j += 1;
         }
     }
     r
+}
+
+// The line without t: those behind it move up.
+pub fn without(a: [u8; 31], t: u8) -> [u8; 31]
+    ensures { result ≡ pad (remove t (line a)) }
+{
+    kept(a, |x| x != t)
 }
 
 // The line without t, and with t at its end if it belongs there now. What is left of the line has blanks behind it: it need not be laid out afresh.
@@ -73,8 +74,7 @@ fn in_front(a: [u8; 31], t: u8) -> [u8; 31]
 {
     let mut r = [0u8; 31];
     let mut carry = t;
-    for i in 0..31 {
-        let x = a[i];
+    for (i, &x) in a.iter().enumerate() {
         r[i] = carry;
         if x == 0 {
             return r;
@@ -104,17 +104,12 @@ pub fn joined_all(a: [u8; 31], b: [u8; 31]) -> [u8; 31]
     ensures { result ≡ pad (line a ++ line b) }
 {
     let mut r = tidied(a);
-    let mut j = len(a);
-    for i in 0..31 {
-        let x = b[i];
+    let n = len(a);
+    for (i, &x) in b[..31 - n].iter().enumerate() {
         if x == 0 {
             return r;
         }
-        if 31 <= j {
-            return r;
-        }
-        r[j] = x;
-        j += 1;
+        r[n + i] = x;
     }
     r
 }
@@ -141,7 +136,17 @@ pub fn last_of(a: [u8; 31]) -> u8
 pub fn mark_of(marks: [u8; 32], t: u8) -> u8
     ensures { result ≡ mark_of marks t }
 {
-    if t < 32 { marks[t as usize] } else { 0 }
+    marks.get(usize::from(t)).copied().unwrap_or(0)
+}
+
+// t gets the mark x; a number that has no mark gets none.
+pub fn mark<T: Copy>(marks: &mut [T; 32], t: u8, x: T)
+    ensures { marks.new ≡ slice_set marks.old t x }
+{
+    let at = usize::from(t);
+    if at < marks.len() {
+        marks[at] = x;
+    }
 }
 
 // Marks with a 1 for each of the line.
@@ -149,14 +154,11 @@ pub fn marks_of(a: [u8; 31]) -> [u8; 32]
     ensures { result ≡ marked (λ _. 1) (line a) no_marks }
 {
     let mut r = [0u8; 32];
-    for i in 0..31 {
-        let t = a[i];
+    for &t in &a {
         if t == 0 {
             return r;
         }
-        if t < 32 {
-            r[t as usize] = 1;
-        }
+        mark(&mut r, t, 1);
     }
     r
 }
@@ -165,26 +167,7 @@ pub fn marks_of(a: [u8; 31]) -> [u8; 32]
 pub fn picked(a: [u8; 31], marks: [u8; 32], k: u8) -> [u8; 31]
     ensures { result ≡ pad (with_mark marks k (line a)) }
 {
-    let mut r = [0u8; 31];
-    let mut j: usize = 0;
-    for i in 0..31 {
-        let x = a[i];
-        if x == 0 {
-            return r;
-        }
-        if mark_of(marks, x) == k {
-            r[j] = x;
-            j += 1;
-        }
-    }
-    r
-}
-
-// The key of t; 0 for a number that has none.
-fn key_of(keys: [u32; 32], t: u8) -> u32
-    ensures { result ≡ mark_of keys t }
-{
-    if t < 32 { keys[t as usize] } else { 0 }
+    kept(a, |x| mark_of(marks, x) == k)
 }
 
 // The line with t, whose key is k, in its order: before the first that has a larger key, so behind those that have an equal one. Of a full line the last falls off.
@@ -194,13 +177,12 @@ pub fn put_by(a: [u8; 31], t: u8, keys: [u32; 32], k: u32) -> [u8; 31]
     let mut r = [0u8; 31];
     let mut carry = t;
     let mut passed = false;
-    for i in 0..31 {
-        let x = a[i];
+    for (i, &x) in a.iter().enumerate() {
         if x == 0 {
             r[i] = carry;
             return r;
         }
-        passed = passed | (k < key_of(keys, x));
+        passed |= k < keys.get(usize::from(x)).copied().unwrap_or(0);
         if passed {
             r[i] = carry;
             carry = x;

@@ -8,3 +8,6 @@ pub mod MarkLaws
 pub mod AheadLaws
 pub mod OverLaws
 pub mod Parts
+pub mod Zeros
+pub mod FromFn
+pub mod Backwards

@@ -18,7 +18,6 @@ use stream::flow::{Flow, begun, fed, passed};
 use stream::output::flushed;
 use stream::window::{Window, headed, refilled};
 use stream::words;
-use text::least;
 
 // The bytes of a log that goes on to the end of the input.
 const ENDLESS: u64 = u64::MAX;
@@ -50,13 +49,12 @@ fn less(left: u64, n: usize) -> u64
 fn part(w: Window, left: u64, n: usize) -> Window
     ensures { (result ≡ part_of w left n) × (result.at ≤ result.end) × (result.end ≤ n) }
 {
-    let end = least(w.end, n);
-    let at = least(w.at, end);
-    let many = shorter(end - at, left);
+    let shown = w.within(n);
+    let many = shorter(shown.end - shown.at, left);
     Window {
-        at,
-        end: at + many,
+        end: shown.at + many,
         last: w.last | (left <= many as u64),
+        ..shown
     }
 }
 
@@ -67,26 +65,19 @@ fn started(l: Log, out: &mut [u8]) -> Log
     ensures uncut { Uncut out.old l.flow.waits header out.new }
     ensures free { Free longest_line out.new result.flow.waits }
 {
-    let window = l.flow.window;
     let flow = Flow {
-        window,
         waits: put_header(out, l.flow.waits),
-        goes: l.flow.goes,
+        ..l.flow
     };
-    Log {
-        flow,
-        clock: l.clock,
-        left: l.left,
-        goes: l.goes,
-    }
+    Log { flow, ..l }
 }
 
 // Where the window goes on behind `count` of its bytes: no further than its end.
 fn place_behind(w: Window, count: usize) -> usize
     ensures { result ≡ place_behind w count }
 {
-    let at = least(w.at, w.end);
-    at + least(count, w.end - at)
+    let at = w.at.min(w.end);
+    at + count.min(w.end - at)
 }
 
 // The log behind a turn that took `count` bytes and put output up to `place`.
@@ -104,9 +95,9 @@ fn advanced<R: Print + Eprint>(
     let flow = passed(rt, l.flow, at, place, out);
     Log {
         flow,
-        clock: l.clock,
         left: less(l.left, count),
         goes: goes & flow.goes,
+        ..l
     }
 }
 
@@ -117,9 +108,8 @@ fn supplied<R: Input + Print + Eprint>(rt: &R, l: Log, buf: &mut [u8], out: &[u8
     let flow = fed(rt, l.flow, buf, out);
     Log {
         flow,
-        clock: l.clock,
-        left: l.left,
         goes: flow.goes,
+        ..l
     }
 }
 
@@ -234,22 +224,11 @@ fn run_with<R: Input + Print + Eprint>(
     run_log(rt, l, buf, out)
 }
 
-// Whether the bytes are the word `second`.
-fn is_word(word: &[u8; 7], n: usize) -> bool {
-    (n == 6)
-        & (word[0] == b's')
-        & (word[1] == b'e')
-        & (word[2] == b'c')
-        & (word[3] == b'o')
-        & (word[4] == b'n')
-        & (word[5] == b'd')
-}
-
 // Whether the only word behind the program's name is `second`, of so many words with the name.
 fn is_second<R: Env>(rt: &R, count: usize) -> bool {
     let mut word = [0u8; 7];
     let n = words::arg(rt, 1, &mut word);
-    (count == 2) & is_word(&word, n)
+    (count == 2) & matches!(&word[..n], b"second")
 }
 
 // Tells which words there are.
@@ -296,13 +275,8 @@ fn dropped(w: Window, left: u64, n: usize) -> Rest
     ensures { result ≡ dropped_of w left n }
 {
     let p = part(w, left, n);
-    let window = Window {
-        at: p.end,
-        end: w.end,
-        last: w.last,
-    };
     Rest {
-        window,
+        window: Window { at: p.end, ..w },
         left: less(left, p.end - p.at),
         goes: !p.last,
     }
@@ -313,11 +287,12 @@ fn skipped<R: Input + Eprint>(rt: &R, w: Window, left: u64, buf: &mut [u8]) -> W
     ensures { Skipped w left buf.old result buf.new }
 {
     let mut s = dropped(w, left, buf.len());
-    let mut turns = u64::MAX;
-    while turns > 0 && s.goes {
+    for _ in 0..u64::MAX {
+        if !s.goes {
+            break;
+        }
         let more = refilled(rt, s.window, buf);
         s = dropped(more, s.left, buf.len());
-        turns -= 1;
     }
     s.window
 }
@@ -344,18 +319,9 @@ fn next_in(f: Flow, buf: &[u8]) -> Log
     let at = p.at;
     let end = p.end;
     let head = &buf[at..end];
-    let window = Window {
-        at: end,
-        end: w.end,
-        last: w.last,
-    };
-    let flow = Flow {
-        window,
-        waits: f.waits,
-        goes: f.goes,
-    };
+    let window = Window { at: end, ..w };
     Log {
-        flow,
+        flow: Flow { window, ..f },
         clock: number_at(head, 0),
         left: number_at(head, 4) as u64,
         goes: f.goes & (end - at == 8),
@@ -367,12 +333,7 @@ fn next_log<R: Input + Eprint>(rt: &R, w: Window, f: Flow, buf: &mut [u8]) -> Lo
     ensures { Headed w f buf.old result buf.new }
 {
     let window = headed(rt, w, buf);
-    let flow = Flow {
-        window,
-        waits: f.waits,
-        goes: f.goes,
-    };
-    next_in(flow, buf)
+    next_in(Flow { window, ..f }, buf)
 }
 
 // Runs a log, and gives the next one. The rest of a log that stopped is skipped.
@@ -400,10 +361,11 @@ fn run_logs_with<R: Input + Print + Eprint>(rt: &R, second: bool) {
     let mut out = [0u8; 65536];
     let f = begun();
     let mut l = next_log(rt, f.window, f, &mut buf);
-    let mut turns = u64::MAX;
-    while turns > 0 && l.goes {
+    for _ in 0..u64::MAX {
+        if !l.goes {
+            break;
+        }
         l = run_next(rt, l, second, &mut buf, &mut out);
-        turns -= 1;
     }
     flushed(rt, &out, l.flow.waits);
 }

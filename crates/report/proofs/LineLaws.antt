@@ -1,13 +1,14 @@
 -- What a turn over the ended waits of a room knows, and how long a line is.
 -- Assumes nothing.
 use Prim.Native.Nat.{ℕ, zero, suc, ◌+◌, ◌-◌, ◌*◌, ◌^◌, ◌≤◌, ◌<◌}
-use mathlib.Core.Path.{◌≡◌, refl, sym, subst, ◌∙◌}
+use mathlib.Core.Path.{◌≡◌, refl, sym, subst}
 use mathlib.Core.List.{List, [], ◌++◌}
 use native.Mathlib.Omega.{arith}
 use lib.Dec.{ltb}
-use lib.ListN.{length, get_or, drop, length-append, length-drop}
-use lib.Seq.{get_or-drop, drop-drop}
+use lib.ListN.{length, get_or, take, drop, length-append}
+use lib.Seq.{get_or-drop}
 use borrow.Author.Tests.{lt-ltb, le-ltb}
+use Rattle.std.proofs.lemmas.List.{take_rest}
 use Rattle.lists.proofs.ListLaws.{by_bool}
 use Rattle.calls.specs.Range.{Bytes}
 use Rattle.rules.specs.declared.Answer.{Answer}
@@ -22,25 +23,23 @@ no_more room zero h = refl
 no_more room (suc n) h = absurd (omega arith)
 
 -- the room has no whole item left
-pub none_left : (room : List ℕ) (from n : ℕ) → length room - from < 4 → waits n (drop from room) ≡ []
+pub none_left : (room : List ℕ) (n : ℕ) → length room < 4 → waits n room ≡ []
 unfolding waits
-none_left room from zero h = refl
-none_left room from (suc n) h = rw (length-drop from room, lt-ltb (length room - from) 4 h) refl
+none_left room zero h = refl
+none_left room (suc n) h = rw (lt-ltb (length room) 4 h) refl
 
--- the item at this place of the room, and those behind it
-one_more : (room : List ℕ) (from n : ℕ) → 4 ≤ length room - from
-    → waits (suc n) (drop from room) ≡ barred (get_or room (from + 0) 0) (get_or room (from + 1) 0) (get_or room (from + 2) 0) (get_or room (from + 3) 0) ++ waits n (drop (from + 4) room)
+-- the first item of the room, and those behind it
+one_more : (room : List ℕ) (n : ℕ) → 4 ≤ length room
+    → waits (suc n) room ≡ barred (get_or room 0 0) (get_or room 1 0) (get_or room 2 0) (get_or room 3 0) ++ waits n (drop 4 room)
 unfolding waits
-one_more room from n h =
-    rw (length-drop from room, le-ltb (length room - from) 4 h, get_or-drop from room 0 0, get_or-drop from room 1 0, get_or-drop from room 2 0, get_or-drop from room 3 0, drop-drop 4 from room) refl
+one_more room n h = rw (le-ltb (length room) 4 h) refl
 
-pub next_wait : (room : List ℕ) (from left : ℕ) → 0 < left → 4 ≤ length room - from
-    → waits left (drop from room) ≡ barred (get_or room from 0) (get_or room (from + 1) 0) (get_or room (from + 2) 0) (get_or room (from + 3) 0) ++ waits (left - 1) (drop (from + 4) room)
-next_wait room from zero l h = absurd (omega arith)
-next_wait room from (suc n) l h =
-    let z : suc n - 1 ≡ n = omega arith in
-    let f : from + 0 ≡ from = omega arith in
-    one_more room from n h ∙ rw (z, f) refl
+pub next_wait : (room : List ℕ) (k ended : ℕ) → k < ended → 4 ≤ length room
+    → waits (ended - k) room
+    ≡ barred (get_or room 0 0) (get_or room 1 0) (get_or room 2 0) (get_or room 3 0) ++ waits (ended - (k + 1)) (take (length room - 4) (drop 4 room))
+next_wait room k ended l h =
+    let z : ended - k ≡ suc (ended - (k + 1)) = omega arith in
+    rw (z, take_rest room 4) (one_more room (ended - (k + 1)) h)
 
 -- ── how long a line is ──
 

@@ -7,7 +7,7 @@ ghost use Rattle.text.specs.Text.{spaced, Put};
 ghost use Rattle.report.specs.Lines.{header, barred, waits, line_text, longest_line};
 
 use rules::Answer;
-use text::{least, put_byte, put_bytes, put_number};
+use text::{put_byte, put_bytes, put_number};
 
 // The header.
 #[tactic(auto, unfolding(crate::specs::Lines::header))]
@@ -22,7 +22,7 @@ fn put_spaced(n: u8, out: &mut [u8], at: usize) -> usize
     ensures { Put out.old at (spaced n) out.new result }
 {
     let k = put_byte(b' ', out, at);
-    put_number(n as u64, out, k)
+    put_number(u64::from(n), out, k)
 }
 
 // An ended wait behind a bar.
@@ -40,23 +40,14 @@ fn put_wait(task: u8, res: u8, entry: u8, partner: u8, out: &mut [u8], at: usize
 fn put_waits(ended: u8, room: &[u8], out: &mut [u8], at: usize) -> usize
     ensures { Put out.old at (waits ended room.now) out.new result }
 {
-    let mut place = least(at, out.len());
-    let mut from = 0;
-    let mut left = ended;
-    while 0 < left {
-        if room.len() - from < 4 {
-            return place;
-        }
-        place = put_wait(
-            room[from],
-            room[from + 1],
-            room[from + 2],
-            room[from + 3],
-            out,
-            place,
-        );
-        from += 4;
-        left -= 1;
+    let mut place = at.min(out.len());
+    let mut rest = room;
+    for _ in 0..ended {
+        let [task, result, entry, partner, more @ ..] = rest else {
+            break;
+        };
+        place = put_wait(*task, *result, *entry, *partner, out, place);
+        rest = more;
     }
     place
 }
@@ -74,5 +65,5 @@ pub fn put_line(step: u64, answer: Answer, room: &[u8], out: &mut [u8], at: usiz
     let f = put_spaced(answer.partner, out, e);
     let g = put_spaced(answer.next, out, f);
     let h = put_waits(answer.ended, room, out, g);
-    put_byte(10, out, h)
+    put_byte(b'\n', out, h)
 }

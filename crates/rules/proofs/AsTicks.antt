@@ -10,7 +10,8 @@ use lib.Dec.{eqb, ltb}
 use borrow.Author.Tests.{eq-eqb, ne_eqb}
 use Rattle.lists.specs.Lists.{when◌then◌else◌, bit, count}
 use Rattle.rules.specs.State.{State, left, after}
-use Rattle.rules.specs.Step.{Refusal, tick, tick_to, ends_at, advance, advanced, advance_ends, readings}
+use Rattle.rules.specs.Step.{tick, tick_to, ends_at, advance, advanced, advance_ends, readings}
+use Rattle.rules.specs.declared.Refusal.{Refusal}
 use Rattle.rules.specs.Whole.{Typed, pack, Whole, decline, step_whole}
 use Rattle.rules.specs.Runs.{Ask, after_step, entry_whole, log_whole, reach_whole, ticks_of, tick_count}
 use Rattle.rules.specs.Advance.{tick_asks, joined, moments, spread, expand, AsTicks, Expanded}

@@ -11,7 +11,9 @@ use lib.Dec.{ltb}
 use borrow.Author.Tests.{eqb-true, eq-eqb, le-ltb}
 use Rattle.lists.specs.Lists.{count, down_from}
 use Rattle.rules.specs.State.{State, place_of, created, is_ready, level, at_level, head_up_to, running, queue, waits_on, current_of}
-use Rattle.rules.specs.Step.{Outcome, refused, took, none, room_after, SHORT_ROOM, BAD_STATE, Refusal, take_call}
+use Rattle.rules.specs.Step.{Outcome, refused, took, none, room_after, take_call}
+use Rattle.rules.specs.declared.Refusal.{Refusal}
+use Rattle.rules.specs.declared.Refusal.TheVariants.{ShortRoom, BadState}
 use Rattle.rules.specs.Whole.{Typed, Whole, view, sound_whole, decline, done, step_whole}
 use Rattle.rules.specs.Questions.{number_in, count_whole}
 use Rattle.rules.specs.EachStep.{Dispatched, waiting_on}
@@ -41,8 +43,8 @@ declined s r n = record { state = refl; ended = refl; room = λ b. refl; answer 
 pub untouched : (s : Supervisor) (c : C.Call) (room : ℕ) → 0 < (step_whole s c room).refusal → Untouched s (step_whole s c room)
 unfolding step_whole
 untouched s c room =
-    by_test P (ltb room 124) (λ _ k. declined s SHORT_ROOM 0) λ _.
-    by_test P (not (sound_whole s)) (λ _ k. declined s BAD_STATE 0) λ _. go (take_call (view s) c)
+    by_test P (ltb room 124) (λ _ k. declined s ShortRoom 0) λ _.
+    by_test P (not (sound_whole s)) (λ _ k. declined s BadState 0) λ _. go (take_call (view s) c)
   where
     P : Whole → Type 0
     P w = 0 < w.refusal → Untouched s w

@@ -9,7 +9,9 @@ use lib.Dec.{ltb}
 use Rattle.lists.proofs.LineLaws.{length_pad}
 use Rattle.lists.proofs.ListLaws.{by_bool}
 use Rattle.rules.specs.State.{State, blank, created}
-use Rattle.rules.specs.Step.{Refusal, SHORT_ROOM, BAD_STATE, take_call}
+use Rattle.rules.specs.Step.{take_call}
+use Rattle.rules.specs.declared.Refusal.{Refusal}
+use Rattle.rules.specs.declared.Refusal.TheVariants.{ShortRoom, BadState}
 use Rattle.rules.specs.Whole.{TypedCore, Typed, view, pack_core, pack, sound_whole, Whole, decline, step_whole}
 use Rattle.rules.specs.declared.Supervisor.{Supervisor}
 use Rattle.calls.specs.declared.Call as C
@@ -40,10 +42,10 @@ pub by_struct {κ} : (P : Supervisor → Type κ) (s : Supervisor) (room : ℕ) 
     → P s
 unfolding step_whole
 by_struct P s room t f g =
-    by_bool (ltb room 124) (λ b. f SHORT_ROOM (λ c. rw b)) λ b.
+    by_bool (ltb room 124) (λ b. f ShortRoom (λ c. rw b)) λ b.
     by_bool (sound_whole s)
     (λ e. subst P (sym (whole_packed s t e)) (g (view s) (sound_view s t e) (tree_view s t e) b))
-    (λ e. f BAD_STATE (λ c. rw (b, e)))
+    (λ e. f BadState (λ c. rw (b, e)))
 
 -- a call that is taken
 pub step_taken : (v : State) (c : C.Call) (room : ℕ) → Sound v → Tree v → ltb room 124 ≡ false → step_whole (pack v) c room ≡ whole_of (stepped v (take_call v c))

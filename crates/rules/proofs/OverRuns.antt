@@ -12,7 +12,9 @@ use borrow.Author.Tests.{eq-eqb}
 use Rattle.lists.specs.Lists.{bit, every}
 use Rattle.rules.specs.State.{State, empty, nth, task_of, place_of, timer_of, blank, is_ready, is_queued, is_held, running, has_time, partner_of}
 use Rattle.rules.specs.Sound.{sound}
-use Rattle.rules.specs.Step.{Refusal, SHORT_ROOM, BAD_STATE, BAD_FIELD, NO_TASK, NO_TARGET, NO_ENTRY, NOT_SERVING, STILL_SERVING, FULL, number, Outcome, refused, took, take_call, expiry, WAITS}
+use Rattle.rules.specs.Step.{number, Outcome, refused, took, take_call, expiry, WAITS}
+use Rattle.rules.specs.declared.Refusal.{Refusal}
+use Rattle.rules.specs.declared.Refusal.TheVariants.{ShortRoom, BadState, BadField, NoTask, NoTarget, NoEntry, NotServing, StillServing, Full}
 use Rattle.rules.specs.declared.Item.{Item}
 use Rattle.rules.specs.Runs.{Ask, Given, duration, is_waiting, begins, begun, reasons, ended}
 use Rattle.rules.specs.OverRuns.{WaitsCounted, is_reason, SixReasons, Stays, Released}
@@ -57,8 +59,8 @@ pub by_step {κ} : (P : Given → Type κ) (s : State) (c : C.Call) (room : ℕ)
     → ((s' : State) (a : Item) (l : List Item) → take_call s c ≡ took s' a l → P (record { refusal = 0; answer = a; ended = l; next = running s'; state = s' }))
     → P (step s c room)
 by_step P s c room h f g =
-    by_test P (ltb room 124) (λ _. f SHORT_ROOM 0) λ _.
-    by_test P (not (sound s)) (λ _. f BAD_STATE 0) λ _. go (take_call s c) refl
+    by_test P (ltb room 124) (λ _. f ShortRoom 0) λ _.
+    by_test P (not (sound s)) (λ _. f BadState 0) λ _. go (take_call s c) refl
   where
     go : (o : Outcome) → take_call s c ≡ o → P (stepped s o)
     go (refused r) e = f r (running s)
@@ -102,15 +104,15 @@ step_fate s a u h =
     (λ s' b l e. was_taken s' b l e refl (rw e at (fate s a.call u h)))
 
 pub number_pos : (r : Refusal) → eqb (number r) 0 ≡ false
-number_pos SHORT_ROOM = refl
-number_pos BAD_STATE = refl
-number_pos BAD_FIELD = refl
-number_pos NO_TASK = refl
-number_pos NO_TARGET = refl
-number_pos NO_ENTRY = refl
-number_pos NOT_SERVING = refl
-number_pos STILL_SERVING = refl
-number_pos FULL = refl
+number_pos ShortRoom = refl
+number_pos BadState = refl
+number_pos BadField = refl
+number_pos NoTask = refl
+number_pos NoTarget = refl
+number_pos NoEntry = refl
+number_pos NotServing = refl
+number_pos StillServing = refl
+number_pos Full = refl
 
 -- nobody else has a time than those who wait in one of three places
 timed_place : (me g : Task) (p : Place) (w : Timer) → Fits me g p w → has_time w ≡ true → (is_waiting p ≡ true) × (is_reason (expiry p) ≡ true) × (is_held p ≡ false)

@@ -16,7 +16,9 @@ use Rattle.lists.proofs.ListLaws.{clash, by_bool, every_at, every_of, count_appe
 use Rattle.lists.proofs.MarkLaws.{filter_append, out, filter_none}
 use Rattle.rules.specs.State.{State, empty, task_of, place_of, is_queued, partner_of, running}
 use Rattle.rules.specs.Sound.{sound}
-use Rattle.rules.specs.Step.{Outcome, refused, took, Refusal, BAD_FIELD, SHORT_ROOM, none, take_call}
+use Rattle.rules.specs.Step.{Outcome, refused, took, none, take_call}
+use Rattle.rules.specs.declared.Refusal.{Refusal}
+use Rattle.rules.specs.declared.Refusal.TheVariants.{BadField, ShortRoom}
 use Rattle.rules.specs.Callers.{calling, callers_of, with_callers, core, queued_in, core_of, Alike, gone_by, comes_by, Told}
 use Rattle.rules.specs.Whole.{decline, done_by}
 use Rattle.rules.specs.Second.{gathered, rows_from, view_second, pack_second, rows_right, sound_second, step_second}
@@ -51,7 +53,7 @@ kind (took v a l) = 1
 
 why : Outcome → Refusal
 why (refused r) = r
-why (took v a l) = BAD_FIELD
+why (took v a l) = BadField
 
 next : Outcome → State
 next (refused r) = empty 0
@@ -259,7 +261,7 @@ module _ (u : State) (h : Sound u) where
       and_both (and_both (packed_core_lem u h) (ap (λ (z : State). rows_right z 1 (rows_from u 31 1)) (view_core_lem u h) ∙ rows_right_lem 31 1))
       (ap sound view_second_lem ∙ sound_test regrouped regrouped_sound (regrouped_tree g))
 
-  pub second_short : (c : C.Call) (room : ℕ) → ltb room 124 ≡ true → step_second (pack_second u) c room ≡ decline (pack_second u) SHORT_ROOM 0
+  pub second_short : (c : C.Call) (room : ℕ) → ltb room 124 ≡ true → step_second (pack_second u) c room ≡ decline (pack_second u) ShortRoom 0
   unfolding step_second
   second_short c room b = rw b
 

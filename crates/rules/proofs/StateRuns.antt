@@ -8,7 +8,9 @@ use lib.Dec.{ltb}
 use Rattle.lists.specs.Lists.{when◌then◌else◌}
 use Rattle.rules.specs.State.{State, running}
 use Rattle.rules.specs.Sound.{sound}
-use Rattle.rules.specs.Step.{none, Refusal, SHORT_ROOM, BAD_STATE, number, Outcome, refused, took, take_call}
+use Rattle.rules.specs.Step.{none, number, Outcome, refused, took, take_call}
+use Rattle.rules.specs.declared.Refusal.{Refusal}
+use Rattle.rules.specs.declared.Refusal.TheVariants.{ShortRoom, BadState}
 use Rattle.rules.specs.Runs.{Ask, Given, Entry}
 use Rattle.calls.specs.declared.Call as C
 
@@ -21,8 +23,8 @@ stepped s (took s' a l) = record { refusal = 0; answer = a; ended = l; next = ru
 
 abbrev pub step : State → C.Call → ℕ → Given
 step s c room =
-    when ltb room 124 then refuse s SHORT_ROOM 0
-    else when not (sound s) then refuse s BAD_STATE 0
+    when ltb room 124 then refuse s ShortRoom 0
+    else when not (sound s) then refuse s BadState 0
     else stepped s (take_call s c)
 
 abbrev pub entry : State → Ask → Entry

@@ -12,7 +12,8 @@ use borrow.Author.Tests.{eqb-true, eqb-false, eq-eqb, ne_eqb, ltb-true, ltb-fals
 use Rattle.lists.specs.Lists.{count, first, last}
 use Rattle.rules.specs.State.{State, task_of, place_of, timer_of, created, is_task, has_entry, is_completed, accepts, opens, has_time, ticks_left, left, after, wake, wake_all, set_clock, queue, held_by, running, waiting, offer}
 use Rattle.rules.specs.Sound.{in_range, is_priority}
-use Rattle.rules.specs.Step.{NO_TASK, Outcome, refused, took, create, delay_for, enqueue, timed_call, call_busy, call, open_from, open_entry, select_delay, select_none, select_at, select, end_last, end, queued_from, queued_on, finish, due_at, is_due, tick, tick_to, advanced, of_running, take_call, ticks}
+use Rattle.rules.specs.Step.{Outcome, refused, took, create, delay_for, enqueue, timed_call, call_busy, call, open_from, open_entry, select_delay, select_none, select_at, select, end_last, end, queued_from, queued_on, finish, due_at, is_due, tick, tick_to, advanced, of_running, take_call, ticks}
+use Rattle.rules.specs.declared.Refusal.TheVariants.{NoTask}
 use Rattle.rules.specs.declared.Task.{Task}
 use Rattle.rules.specs.declared.Timer.{Timer}
 use Rattle.rules.specs.declared.Timer.TheVariants.{Off, Due}
@@ -313,7 +314,7 @@ create_kept s p n h =
 
 -- ── a call ──
 
-pub by_runner {κ} : (P : Outcome → Type κ) (s : State) (f : ℕ → Outcome) → Sound s → P (refused NO_TASK) → ((t : ℕ) → running s ≡ t → Runs s t → P (f t)) → P (of_running (running s) f)
+pub by_runner {κ} : (P : Outcome → Type κ) (s : State) (f : ℕ → Outcome) → Sound s → P (refused NoTask) → ((t : ℕ) → running s ≡ t → Runs s t → P (f t)) → P (of_running (running s) f)
 by_runner P s f h a b = go (running s) refl
   where
     go : (t : ℕ) → running s ≡ t → P (of_running t f)

@@ -9,7 +9,9 @@ use lib.Dec.{ltb}
 use Rattle.lists.specs.Lists.{filter}
 use Rattle.lists.proofs.ListLaws.{by_bool}
 use Rattle.rules.specs.State.{State, empty, waits_on, queue, running}
-use Rattle.rules.specs.Step.{Outcome, refused, took, Refusal, SHORT_ROOM, take_call}
+use Rattle.rules.specs.Step.{Outcome, refused, took, take_call}
+use Rattle.rules.specs.declared.Refusal.{Refusal}
+use Rattle.rules.specs.declared.Refusal.TheVariants.{ShortRoom}
 use Rattle.rules.specs.Callers.{Alike}
 use Rattle.rules.specs.Whole.{view, pack, sound_whole, StepOf, Whole, decline, done_by, answer_of, step_whole}
 use Rattle.rules.specs.Questions.{asked_by, count_by, callable_by, running_by, count_whole, callable_whole, running_whole, priority_by, priority_whole}
@@ -57,7 +59,7 @@ pub record SameStep (w : Whole) (q : StepOf Second) : Type 0 where
   pub ended : q.ended ≡ w.ended
   pub next : Twins w.state q.state
 
-first_short : (s : State) (c : C.Call) (room : ℕ) → ltb room 124 ≡ true → step_whole (pack s) c room ≡ decline (pack s) SHORT_ROOM 0
+first_short : (s : State) (c : C.Call) (room : ℕ) → ltb room 124 ≡ true → step_whole (pack s) c room ≡ decline (pack s) ShortRoom 0
 unfolding step_whole
 first_short s c room b = rw b
 
@@ -98,7 +100,7 @@ module _ (s u : State) (h : Sound s) (f : Tree s) (k : Sound u) (g : Tree u) (a 
   packed_same : (c : C.Call) (room : ℕ) → SameStep (step_whole (pack s) c room) (step_second (pack_second u) c room)
   packed_same c room =
       by_bool (ltb room 124)
-      (λ b. both (sym (first_short s c room b)) (sym (second_short u k c room b)) (refused_same SHORT_ROOM SHORT_ROOM 0 0 refl refl))
+      (λ b. both (sym (first_short s c room b)) (sym (second_short u k c room b)) (refused_same ShortRoom ShortRoom 0 0 refl refl))
       (λ b. both (sym (first_takes s c room h f b)) (sym (second_takes u k g c room b))
       (done_same (take_call s c) (take_call w c) (alike_steps s w c h (regrouped_sound u k) across) (call_sound s c h) (keeps_tree s c h f) (call_sound w c (regrouped_sound u k)) (keeps_tree w c (regrouped_sound u k) (regrouped_tree u k g))))
     where

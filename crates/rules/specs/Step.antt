@@ -6,6 +6,8 @@ use Rattle.lists.specs.Lists.{when◌then◌else◌, bit, filter, first, last}
 use Rattle.rules.specs.State.{State, task_of, place_of, timer_of, created, is_task, has_entry, is_completed, partner_of, entry_of, accepts, opens, queue, held_by, running, after, move, wake, meet, part, wake_all, add, set_clock, waiting, offer}
 use Rattle.rules.specs.Sound.{in_range}
 use Rattle.rules.specs.declared.Item.{Item}
+use Rattle.rules.specs.declared.Refusal.{Refusal}
+use Rattle.rules.specs.declared.Refusal.TheVariants.{ShortRoom, BadState, BadField, NoTask, NoTarget, NoEntry, NotServing, StillServing, Full}
 use Rattle.rules.specs.declared.Timer.{Timer}
 use Rattle.rules.specs.declared.Timer.TheVariants.{Off, Due}
 use Rattle.rules.specs.declared.Place.{Place}
@@ -28,21 +30,17 @@ item t r e g = record { task = t; result = r; entry = e; partner = g }
 abbrev pub none : Item
 none = item 0 0 0 0
 
--- the refusals of a step, in order of checking
-pub data Refusal : Type 0 where
-  SHORT_ROOM BAD_STATE BAD_FIELD NO_TASK NO_TARGET NO_ENTRY NOT_SERVING STILL_SERVING FULL : Refusal
-
--- their numbers in document 01 (10 is retired and given to nothing)
+-- the numbers of the refusals in document 01 (10 is retired and given to nothing)
 abbrev pub number : Refusal → ℕ
-number SHORT_ROOM = 1
-number BAD_STATE = 2
-number BAD_FIELD = 3
-number NO_TASK = 4
-number NO_TARGET = 5
-number NO_ENTRY = 6
-number NOT_SERVING = 7
-number STILL_SERVING = 8
-number FULL = 9
+number ShortRoom = 1
+number BadState = 2
+number BadField = 3
+number NoTask = 4
+number NoTarget = 5
+number NoEntry = 6
+number NotServing = 7
+number StillServing = 8
+number Full = 9
 
 -- a call is refused, or taken: the next state, the answer and the ended waits in order
 pub data Outcome : Type 0 where
@@ -98,8 +96,8 @@ DONE = 10
 -- CREATE priority, entry count: a new ready task
 abbrev pub create : State → ℕ → ℕ → Outcome
 create s p n =
-    when not (in_range p n) then refused BAD_FIELD
-    else when leb 31 (created s) then refused FULL
+    when not (in_range p n) then refused BadField
+    else when leb 31 (created s) then refused Full
     else took (add s p n) (item (suc (created s)) DONE 0 0) []
 
 -- ── DELAY ──
@@ -129,8 +127,8 @@ call_busy s t g e Conditional = took s (item t NOT_NOW e g) []
 -- CALL target, entry, mode
 abbrev pub call : State → ℕ → ℕ → ℕ → CallMode → Outcome
 call s t g e m =
-    when not (is_task s g) then refused NO_TARGET
-    else when not (has_entry (task_of s g) e) then refused NO_ENTRY
+    when not (is_task s g) then refused NoTarget
+    else when not (has_entry (task_of s g) e) then refused NoEntry
     else when is_completed (place_of s g) then took s (item t TASKING_ERROR e g) []
     else when accepts (place_of s g) e then took (meet (wake s g) g t e) (item t WAITS 0 0) (item g ACCEPTED e t ∷ [])
     else call_busy s t g e m
@@ -169,14 +167,14 @@ select_at s t o m (suc e) =
 -- SELECT open set, mode
 abbrev pub select : State → ℕ → ℕ → SelectMode → Outcome
 select s t o m =
-    when leb (2 ^ (task_of s t).entries) o then refused NO_ENTRY
+    when leb (2 ^ (task_of s t).entries) o then refused NoEntry
     else select_at s t o m (open_entry s t o)
 
 -- ── END, FINISH, TICK ──
 
 -- c, if it is not 0, becomes ready with SERVED, and t's current priority is what it was before
 abbrev pub end_last : State → ℕ → ℕ → Outcome
-end_last s t zero = refused NOT_SERVING
+end_last s t zero = refused NotServing
 end_last s t (suc c) = took (part s t (suc c)) (item t DONE 0 0) (item (suc c) SERVED (entry_of (place_of s (suc c))) t ∷ [])
 
 -- END: the caller held last becomes ready with SERVED
@@ -199,7 +197,7 @@ failed s c = item c TASKING_ERROR (entry_of (place_of s c)) (partner_of (place_o
 -- FINISH: the task completes; all callers queued on it become ready with TASKING_ERROR, entry 1 first, each queue from its head
 abbrev pub finish : State → ℕ → Outcome
 finish s t =
-    when ltb 0 (length (held_by s t)) then refused STILL_SERVING
+    when ltb 0 (length (held_by s t)) then refused StillServing
     else took (move (wake_all s (queued_on s t)) t Completed Off) (item t DONE 0 0) (map (failed s) (queued_on s t))
 
 -- how a wait in this place ends by time
@@ -262,7 +260,7 @@ advance s n = took (advanced n s) (item 0 DONE (readings n s) 0) (advance_ends n
 
 -- a call of the running task t, or of nobody
 abbrev pub of_running : ℕ → (ℕ → Outcome) → Outcome
-of_running zero f = refused NO_TASK
+of_running zero f = refused NoTask
 of_running (suc t) f = f (suc t)
 
 -- each call, in a sound state and with room enough

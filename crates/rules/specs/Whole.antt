@@ -5,7 +5,9 @@ use Rattle.lists.specs.Line.{line, pad, tidy}
 use Rattle.lists.specs.Lists.{when◌then◌else◌, every}
 use Rattle.rules.specs.State.{State, blank, created, has_time}
 use Rattle.rules.specs.Sound.{sound}
-use Rattle.rules.specs.Step.{Outcome, refused, took, Refusal, SHORT_ROOM, BAD_STATE, number, none, take_call}
+use Rattle.rules.specs.Step.{Outcome, refused, took, number, none, take_call}
+use Rattle.rules.specs.declared.Refusal.{Refusal}
+use Rattle.rules.specs.declared.Refusal.TheVariants.{ShortRoom, BadState}
 use Rattle.rules.specs.declared.Item.{Item}
 use Rattle.rules.specs.State.{running}
 use Rattle.calls.specs.declared.Call as C
@@ -106,8 +108,8 @@ done_by pack s v (took st a l) = record { refusal = 0; answer = a; ended = l; ne
 -- the whole step of an engine, with a room of so many bytes: SHORT_ROOM first, then BAD_STATE by its own rule, then what the call itself gives
 abbrev pub step_by : {S : Type 0} → (State → S) → Bool → S → State → C.Call → ℕ → StepOf S
 step_by pack is_sound s v c room =
-    when ltb room 124 then decline s SHORT_ROOM 0
-    else when not is_sound then decline s BAD_STATE 0
+    when ltb room 124 then decline s ShortRoom 0
+    else when not is_sound then decline s BadState 0
     else done_by pack s v (take_call v c)
 
 -- of the first engine

@@ -3,6 +3,8 @@
 
 pub mod numbers;
 
+ghost use Rattle.std.specs.Prelude.{◌≡◌};
+
 #[derive(Clone, Copy)]
 pub enum Timer {
     Off,
@@ -91,6 +93,31 @@ pub struct Item {
     pub partner: u8,
 }
 
+// Why a step is refused, in order of checking, with the numbers that those who asked are told: 10 is retired. SHORT_ROOM is the
+// writer's too, so its number stands in `calls` as well.
+#[derive(Clone, Copy, Debug, PartialEq, Eq)]
+pub enum Refusal {
+    ShortRoom = 1,
+    BadState = 2,
+    BadField = 3,
+    NoTask = 4,
+    NoTarget = 5,
+    NoEntry = 6,
+    NotServing = 7,
+    StillServing = 8,
+    Full = 9,
+}
+
+impl From<Refusal> for u8 {
+    ghost use Rattle.rules.specs.Step.{number};
+
+    ghost from_gives = { λ r n. n ≡ number r };
+
+    fn from(refusal: Refusal) -> u8 {
+        refusal as u8
+    }
+}
+
 // What a step answers: a refusal (0 if none), the result with its task, entry and partner, the number of ended waits, and
 // the dispatched task afterwards (0 if none).
 #[derive(Clone, Copy)]
@@ -114,3 +141,12 @@ pub struct Stepped<S> {
 // The refusal of a question: the state is not sound.
 #[derive(Clone, Copy, Debug, PartialEq, Eq)]
 pub struct BadState;
+
+// Its number, for those who are answered in bytes.
+impl From<BadState> for u8 {
+    ghost from_gives = { λ _ n. n ≡ 2 };
+
+    fn from(_refusal: BadState) -> u8 {
+        Refusal::BadState.into()
+    }
+}

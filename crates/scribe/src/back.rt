@@ -3,7 +3,7 @@ use calls::{Call, Record};
 use script::put_call;
 use stream::errors::tell_record;
 use stream::flow::{Flow, begun, done, fed, passed};
-use text::{least, put_byte};
+use text::put_byte;
 
 // The flow of input and output, and the number of the record that comes next.
 #[derive(Clone, Copy)]
@@ -24,7 +24,7 @@ fn taken<R: Print + Eprint>(rt: &R, r: Records, call: Call, at: usize, out: &mut
     let flow = passed(rt, r.flow, at, place, out);
     Records {
         flow,
-        number: std::num::wrapping_add_u64(r.number, 1),
+        number: r.number.wrapping_add(1),
     }
 }
 
@@ -34,10 +34,7 @@ fn over<R: Print + Eprint>(rt: &R, r: Records, bad: bool, out: &[u8]) -> Records
     if bad {
         tell_record(rt, r.number);
     }
-    Records {
-        flow,
-        number: r.number,
-    }
+    Records { flow, ..r }
 }
 
 // Where n bytes are no record: it is over, unless they are fewer than the longest has and more may come.
@@ -52,30 +49,30 @@ fn without<R: Input + Print + Eprint>(
         return over(rt, r, 0 < n, out);
     }
     let flow = fed(rt, r.flow, buf, out);
-    Records {
-        flow,
-        number: r.number,
-    }
+    Records { flow, ..r }
 }
 
 // One turn, on what stands in the window.
 fn turn<R: Input + Print + Eprint>(rt: &R, r: Records, buf: &mut [u8], out: &mut [u8]) -> Records {
-    let end = least(r.flow.window.end, buf.len());
-    let at = least(r.flow.window.at, end);
-    let got = calls::read_record(&buf[at..end]);
+    let shown = r.flow.window.within(buf.len());
+    let unread = &buf[shown.at..shown.end];
+    let got = calls::read_record(unread);
     let Ok(Record { call, count }) = got else {
-        return without(rt, r, end - at, buf, out);
+        return without(rt, r, shown.end - shown.at, buf, out);
     };
-    taken(rt, r, call, std::num::wrapping_add_usize(at, count), out)
+    taken(rt, r, call, shown.at.wrapping_add(count), out)
 }
 
 // All records of standard input.
 pub fn run<R: Input + Print + Eprint>(rt: &R, buf: &mut [u8], out: &mut [u8]) {
-    let flow = begun();
-    let mut r = Records { flow, number: 1 };
-    let mut turns = u64::MAX;
-    while turns > 0 && r.flow.goes {
+    let mut r = Records {
+        flow: begun(),
+        number: 1,
+    };
+    for _ in 0..u64::MAX {
+        if !r.flow.goes {
+            break;
+        }
         r = turn(rt, r, buf, out);
-        turns -= 1;
     }
 }

@@ -15,22 +15,20 @@ fn put_line<R: Eprint>(rt: &R, number: u64, line: &[u8], out: &mut [u8], at: usi
 // One turn, on what stands at the front of the window.
 fn turn<R: Input + Print + Eprint>(rt: &R, l: Lines, buf: &mut [u8], out: &mut [u8]) -> Lines {
     let p = front(l, buf);
-    let kind = p.kind;
-    let Kind::Line = kind else {
+    let Kind::Line = p.kind else {
         return behind(rt, l, p, l.flow.waits, buf, out);
     };
-    let from = p.from;
-    let to = p.to;
-    let place = put_line(rt, l.number, &buf[from..to], out, l.flow.waits);
+    let place = put_line(rt, l.number, &buf[p.from..p.to], out, l.flow.waits);
     behind(rt, l, p, place, buf, out)
 }
 
 // All lines of standard input.
 pub fn run<R: Input + Print + Eprint>(rt: &R, buf: &mut [u8], out: &mut [u8]) {
     let mut l = first();
-    let mut turns = u64::MAX;
-    while turns > 0 && l.flow.goes {
+    for _ in 0..u64::MAX {
+        if !l.flow.goes {
+            break;
+        }
         l = turn(rt, l, buf, out);
-        turns -= 1;
     }
 }

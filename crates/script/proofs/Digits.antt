@@ -4,8 +4,7 @@ use Prim.Native.Nat.{ℕ, zero, suc, ◌+◌, ◌*◌, ◌/◌, ◌%◌, ◌≤�
 use mathlib.Core.Path.{◌≡◌, refl, sym, ap, subst, ◌∙◌}
 use mathlib.Core.List.{List, [], ◌∷◌, ◌++◌}
 use native.Mathlib.Omega.{arith}
-use mathlib.Core.Bool.{true, ◌&&◌}
-use lib.Dec.{leb, ltb}
+use lib.Dec.{ltb}
 use lib.ListN.{length, length-append}
 use borrow.Author.Tests.{le-leb, ltb-true, ltb-false}
 use Rattle.lists.proofs.ListLaws.{by_bool}
@@ -81,11 +80,6 @@ spelled_back m read z c (suc k) n h b = by_bool (ltb n 10)
     ∙ ap read (grow_append fresh (spelled k (n / 10)) ((48 + n % 10) ∷ []))
     ∙ c w (n % 10) (omega arith) (omega (arith, ih))
     ∙ (omega (arith, ih)))
-
--- a digit counts, given its bit
-pub digit_counts : (w : Word) (b bit : ℕ) → (leb 48 b && leb b 57) ≡ true → bit ≡ bit_of (b % 16)
-    → record { byte = (w.byte * 10 + b % 16) % 256; set = (w.set + bit) % 256; number = (w.number * 10 + b % 16) % 4294967296 } ≡ grown_of w b
-digit_counts w b bit e q = rw (e, q) refl
 
 digit_taken : (w : Word) (d : ℕ) → d < 10
     → grown_of w (48 + d) ≡ record { byte = (w.byte * 10 + d) % 256; set = (w.set + bit_of d) % 256; number = (w.number * 10 + d) % 4294967296 }

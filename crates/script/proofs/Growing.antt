@@ -1,6 +1,6 @@
 -- Laws of text in a row: one text behind the other is both at once, and what is cut off stays off.
 -- Assumes nothing.
-use Prim.Native.Nat.{ℕ, zero, suc, ◌-◌, ◌≤◌, min}
+use Prim.Native.Nat.{ℕ, zero, suc, ◌≤◌, min}
 use mathlib.Core.Path.{◌≡◌, refl, sym, ap, subst, ◌∙◌}
 use mathlib.Core.List.{List, [], ◌∷◌, ◌++◌, append_assoc, append-nil}
 use native.Mathlib.Omega.{arith}
@@ -18,13 +18,6 @@ take_again : (n : ℕ) (a b : List ℕ) → take n (take n a ++ b) ≡ take n (a
 take_again zero a b = refl
 take_again (suc n) [] b = refl
 take_again (suc n) (x ∷ a) b = ap (λ (l : List ℕ). x ∷ l) (take_again n a b)
-
-take_least : (n : ℕ) (l : List ℕ) → take (min n (length l)) l ≡ take n l
-take_least zero l = let z : min 0 (length l) ≡ 0 = omega arith in ap (λ (k : ℕ). take k l) z
-take_least (suc n) [] = let z : min (suc n) 0 ≡ 0 = omega arith in ap (λ (k : ℕ). take k []) z
-take_least (suc n) (x ∷ l) =
-    let z : min (suc n) (suc (length l)) ≡ suc (min n (length l)) = omega arith in
-    ap (λ (k : ℕ). take k (x ∷ l)) z ∙ ap (λ (l : List ℕ). x ∷ l) (take_least n l)
 
 -- ── what is put into bytes ──
 
@@ -87,9 +80,6 @@ growing_done row whole rest h e w = all_fits row h ∙ sym (w ∙ ap (λ (t : Li
 pub alone : {row r : Row} {more : List ℕ} → text_in row ≡ [] → Grown row more r → text_in r ≡ cut more
 alone {more = more} e p = p.text ∙ ap (λ (t : List ℕ). cut (t ++ more)) e
 
--- the text in a row, as the code takes it from the row's bytes
-pub text_taken : (row : Row) (n : ℕ) (text : List ℕ) → length row.bytes ≡ 64 → n ≡ min row.place 64 → text_in row ≡ cut text → length text ≤ 64
-    → take (n - 0) row.bytes ≡ text
-text_taken row n text h e t s =
-    let k : n - 0 ≡ min row.place (length row.bytes) = omega (arith, h, e) in
-    ap (λ (n : ℕ). take n row.bytes) k ∙ take_least row.place row.bytes ∙ t ∙ take_all 64 text s
+-- a text that fits is all there
+pub fits_whole : (row : Row) {text : List ℕ} → text_in row ≡ cut text → length text ≤ 64 → text_in row ≡ text
+fits_whole row {text} e h = e ∙ take_all 64 text h

@@ -1,11 +1,9 @@
 pub mod Loops
 pub mod Growing
-pub mod Modes
 pub mod Times
 pub mod Typed
 pub mod Digits
 pub mod Sets
-pub mod Table
 pub mod Back
 pub mod Shape
 pub mod Reading

@@ -2,19 +2,15 @@
 -- Assumes nothing.
 use Prim.Native.Nat.{ℕ, ◌-◌, ◌≤◌, ◌<◌}
 use mathlib.Core.Path.{◌≡◌, refl, sym, ap, ◌∙◌}
-use mathlib.Core.Bool.{true, false, false≢true}
 use mathlib.Core.List.{List, [], ◌∷◌}
 use native.Mathlib.Omega.{arith}
-use lib.Dec.{eqb}
 use lib.ListN.{length, length-take}
 use lib.Seq.{take_all}
-use borrow.Author.Tests.{eqb-true, eq-eqb}
-use Rattle.lists.proofs.Tests.{and_first, and_second}
 use Rattle.calls.specs.declared.Call as C
 use Rattle.script.specs.CallText.{text_of}
 use Rattle.script.specs.Rows.{text_in, cut, Grown}
 use Rattle.script.specs.Says.{Fits, Says}
-use Rattle.script.specs.Guess.{alike, hear, unseen, guess_by, guess_of}
+use Rattle.script.specs.Guess.{hear, unseen, guess_by, guess_of}
 use Rattle.script.specs.declared.guess.Seen.{Seen}
 use Rattle.script.specs.declared.row.Row.{Row}
 use Rattle.script.specs.declared.Line.TheVariants as L
@@ -30,34 +26,26 @@ guess_is words s r p e = e ∙ ap guess_by p
 
 -- ── what words say ──
 
-alike_same : (a b : List ℕ) → alike a b ≡ true → a ≡ b
-alike_same [] [] e = refl
-alike_same [] (y ∷ b) e = absurd (false≢true e)
-alike_same (x ∷ a) [] e = absurd (false≢true e)
-alike_same (x ∷ a) (y ∷ b) e =
-    ap (λ (z : ℕ). z ∷ a) (eqb-true x y (and_first (eqb x y) (alike a b) e)) ∙ ap (λ (l : List ℕ). y ∷ l) (alike_same a b (and_second (eqb x y) (alike a b) e))
-
-alike_self : (a : List ℕ) → alike a a ≡ true
-alike_self [] = refl
-alike_self (x ∷ a) = rw (eq-eqb x x refl) (alike_self a)
+pub row_long : (row : Row) → length row.bytes ≡ 64 → row.place ≤ 64 → length (text_in row) ≡ row.place
+row_long row g h = omega (arith, length-take row.place row.bytes, g)
 
 -- the text of a call behind a blank is what was printed
 pub printed : (c : C.Call) (e b row : Row) → Fits c → text_in e ≡ [] → Grown e (32 ∷ []) b → Grown b (text_of c) row → text_in row ≡ 32 ∷ text_of c
 printed c e b row f p q r = let s = text_short c f in alone p (then_grown q r) ∙ take_all 64 (32 ∷ text_of c) (omega arith)
 
 -- the print is what the words are
-pub said : (words text : List ℕ) (c : C.Call) → Fits c → text ≡ 32 ∷ text_of c → alike words text ≡ true → Says words (L.Says c)
-said words text c f p e = (f, alike_same words text e ∙ p)
+pub said : (words text : List ℕ) (c : C.Call) → Fits c → text ≡ 32 ∷ text_of c → words ≡ text → Says words (L.Says c)
+said words text c f p e = (f, e ∙ p)
 
 -- the print is not what the words are, so no call's text is
-pub unsaid : (words text : List ℕ) (c : C.Call) → c ≡ guess_of words → text ≡ 32 ∷ text_of c → alike words text ≡ false → (length words ≡ 0 → ⊥)
+pub unsaid : (words text : List ℕ) (c : C.Call) → c ≡ guess_of words → text ≡ 32 ∷ text_of c → (words ≡ text → ⊥) → (length words ≡ 0 → ⊥)
     → Says words L.Unread
 unsaid words text c g p e n = (
   λ z. n (ap length z),
   λ d f z.
       let same : c ≡ d = g ∙ ap guess_of z ∙ guess_back d f in
       let t : text ≡ words = p ∙ ap (λ (c : C.Call). 32 ∷ text_of c) same ∙ sym z in
-      false≢true (sym e ∙ ap (alike words) t ∙ alike_self words),
+      e (sym t),
 )
 
 -- words that fill the row are too long for a call

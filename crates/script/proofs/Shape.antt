@@ -1,7 +1,7 @@
 -- The text of a call is its words with one blank between them, and it is short.
 -- Assumes nothing.
 use Prim.Native.Nat.{ℕ, zero, suc, ◌^◌, ◌≤◌, ◌<◌}
-use mathlib.Core.Path.{◌≡◌, refl, sym, ap, subst, ◌∙◌}
+use mathlib.Core.Path.{◌≡◌, refl, sym, ap, ◌∙◌}
 use mathlib.Core.Bool.{true, false}
 use mathlib.Core.List.{List, [], ◌∷◌, ◌++◌, append-nil, append_assoc}
 use native.Mathlib.Omega.{arith}
@@ -11,20 +11,20 @@ use lib.ListN.{length, length-append}
 use borrow.Author.Tests.{ne_eqb}
 use mir.Syntax.{w32}
 use mir.Val.{SFits}
-use Rattle.lists.proofs.ListLaws.{by_bool}
-use Rattle.calls.specs.Record.{call_mode, call_time, select_mode, select_time}
+use Rattle.calls.specs.Record.{call_time, select_time}
 use Rattle.calls.specs.declared.CallMode.{CallMode}
+use Rattle.calls.specs.declared.CallMode.TheVariants.{Simple, Timed, Conditional}
 use Rattle.calls.specs.declared.SelectMode.{SelectMode}
+use Rattle.calls.specs.declared.SelectMode.TheVariants as S
+use Rattle.calls.specs.declared.SelectMode.TheVariants.{Plain, Else}
 use Rattle.calls.specs.declared.Call as C
 use Rattle.calls.specs.declared.Call.TheVariants.{Create, Delay, Call, Select, End, Finish, Tick, Advance}
 use Rattle.text.specs.Text.{decimal, spaced}
 use Rattle.text.proofs.Decimals.{decimal_short}
 use Rattle.script.specs.CallText.{spaced_time, entries, open_text, call_mode_text, select_mode_text, text_of}
-use Rattle.script.specs.WordTable.{mode_text}
 use Rattle.script.specs.Words.{is_blank, words_from, words_of}
 use Rattle.script.specs.Says.{Fits}
 use Rattle.script.proofs.Digits.{AllPlain, decimal_plain, decimal_some}
-use Rattle.script.proofs.Modes.{call_mode_text_lem, select_mode_text_lem}
 use Rattle.script.proofs.Sets.{tail, set_text}
 
 -- ── words ──
@@ -71,17 +71,17 @@ tidy_open (suc n) h r =
     let e : eqb (suc n) 0 ≡ false = ne_eqb (suc n) 0 (λ z. omega arith) in
     rw (e, t.blank) (tidy_word (tail (entries 8 49 32 (suc n))) t.plain t.some r)
 
-tidy_mode : (timed other : List ℕ) (m : ℕ) (d : ℤ) → Tidy timed → Tidy other → Tidy (mode_text timed other m d)
-unfolding mode_text
-tidy_mode timed other m d p q r = by_bool (eqb m 0)
-    (λ e. rw e refl)
-    (λ e. by_bool (eqb m 1) (λ f. rw (e, f) (tidy_append timed (spaced_time d) p (tidy_time d) r)) (λ f. rw (e, f) (q r)))
-
 tidy_call_mode : (m : CallMode) → Tidy (call_mode_text m)
-tidy_call_mode m = subst Tidy (call_mode_text_lem m) (tidy_mode _ _ (call_mode m) (call_time m) (λ r. refl) (λ r. refl))
+unfolding call_mode_text
+tidy_call_mode Simple r = refl
+tidy_call_mode (Timed d) r = tidy_append (32 ∷ 116 ∷ 105 ∷ 109 ∷ 101 ∷ 100 ∷ []) (spaced_time d) (λ r. refl) (tidy_time d) r
+tidy_call_mode Conditional r = refl
 
 tidy_select_mode : (m : SelectMode) → Tidy (select_mode_text m)
-tidy_select_mode m = subst Tidy (select_mode_text_lem m) (tidy_mode _ _ (select_mode m) (select_time m) (λ r. refl) (λ r. refl))
+unfolding select_mode_text
+tidy_select_mode Plain r = refl
+tidy_select_mode (S.Delay d) r = tidy_append (32 ∷ 100 ∷ 101 ∷ 108 ∷ 97 ∷ 121 ∷ []) (spaced_time d) (λ r. refl) (tidy_time d) r
+tidy_select_mode Else r = refl
 
 whole : (l : List ℕ) → Tidy l → words_from true l ≡ l
 whole l p = ap (words_from true) (sym (append-nil l)) ∙ p [] ∙ append-nil l
@@ -121,19 +121,17 @@ short_open (suc n) h =
     let e : eqb (suc n) 0 ≡ false = ne_eqb (suc n) 0 (λ z. omega arith) in
     rw e t.short
 
-short_mode : (timed other : List ℕ) (m : ℕ) (d : ℤ) → length timed ≤ 6 → length other ≤ 12 → SFits w32 d → length (mode_text timed other m d) ≤ 19
-unfolding mode_text
-short_mode timed other m d p q f = by_bool (eqb m 0)
-    (λ e. rw e (omega arith))
-    (λ e. by_bool (eqb m 1)
-    (λ g. let s = short_time d f in rw (e, g) (omega (arith, length-append timed (spaced_time d))))
-    (λ g. rw (e, g) (omega arith)))
-
 short_call_mode : (m : CallMode) → SFits w32 (call_time m) → length (call_mode_text m) ≤ 19
-short_call_mode m f = subst (λ (t : List ℕ). length t ≤ 19) (call_mode_text_lem m) (short_mode _ _ (call_mode m) (call_time m) (omega arith) (omega arith) f)
+unfolding call_mode_text
+short_call_mode Simple f = omega arith
+short_call_mode (Timed d) f = let s = short_time d f in omega arith
+short_call_mode Conditional f = omega arith
 
 short_select_mode : (m : SelectMode) → SFits w32 (select_time m) → length (select_mode_text m) ≤ 19
-short_select_mode m f = subst (λ (t : List ℕ). length t ≤ 19) (select_mode_text_lem m) (short_mode _ _ (select_mode m) (select_time m) (omega arith) (omega arith) f)
+unfolding select_mode_text
+short_select_mode Plain f = omega arith
+short_select_mode (S.Delay d) f = let s = short_time d f in omega arith
+short_select_mode Else f = omega arith
 
 pub text_short : (c : C.Call) → Fits c → length (text_of c) ≤ 62
 unfolding text_of

@@ -1,7 +1,7 @@
 -- How a line is read: a guess at the call, which counts only where its text is the line's. So the guess has to be right for the texts of
 -- calls, and may be anything for other words.
 -- Assumes nothing.
-use Rattle.std.specs.Prelude.{ℕ, ◌+◌, ◌*◌, ◌%◌, Bool, true, false, ◌&&◌, ◌||◌, List, [], ◌∷◌, eqb, leb, ltb, get_or, ℤ, pos, negsuc}
+use Rattle.std.specs.Prelude.{ℕ, ◌+◌, ◌*◌, ◌%◌, Bool, false, ◌&&◌, ◌||◌, List, [], ◌∷◌, eqb, leb, ltb, get_or, ℤ, pos, negsuc}
 use Rattle.lists.specs.Lists.{when◌then◌else◌}
 use Rattle.calls.specs.declared.CallMode.TheVariants.{Simple, Timed, Conditional}
 use Rattle.calls.specs.declared.SelectMode.TheVariants as S
@@ -94,10 +94,3 @@ guess_by s = call_by (s.letters % 432) s (time_of s.minus s.last.number)
 -- the call that words look like
 unfoldable pub guess_of : List ℕ → C.Call
 guess_of words = guess_by (hear unseen words)
-
--- two texts are the same, as a test
-abbrev pub alike : List ℕ → List ℕ → Bool
-alike [] [] = true
-alike [] (y ∷ b) = false
-alike (x ∷ a) [] = false
-alike (x ∷ a) (y ∷ b) = eqb x y && alike a b

@@ -1,6 +1,5 @@
 -- Calls as lines of text: what a call's text is, and which call a line says.
 pub mod CallText
-pub mod WordTable
 pub mod Rows
 pub mod Words
 pub mod Says

@@ -1,17 +1,15 @@
 // A guess at the call that words look like. It is right where they are the text of a call, and may be anything where they are not: the reader
 // prints it and compares.
-ghost use Rattle.std.specs.Prelude.{◌≡◌, ◌%◌, ◌≤◌};
-ghost use Rattle.script.specs.Rows.{text_in};
+ghost use Rattle.std.specs.Prelude.{◌≡◌, ◌%◌};
 ghost use Rattle.script.specs.Guess.{bit_of, grown_of, added_of, heard_of, hear, unseen, time_of, guess_by};
 
-use crate::row::Row;
 use calls::{Call, CallMode, SelectMode};
 
 // The bit of an entry's digit in an open set.
 const BITS: [u8; 16] = [0, 1, 2, 4, 8, 16, 32, 64, 128, 0, 0, 0, 0, 0, 0, 0];
 
 // What a word is by its digits: a byte, an open set, and a number of 32 bits.
-#[derive(Clone, Copy)]
+#[derive(Clone, Copy, Default)]
 pub struct Word {
     pub byte: u8,
     pub set: u8,
@@ -20,7 +18,7 @@ pub struct Word {
 
 // What is seen of a line: the sum of its letters, whether there is a minus, and its four last words: of the fourth, the third and the second
 // the byte, of the third and the second the open set too (`far` and `near`), and the last.
-#[derive(Clone, Copy)]
+#[derive(Clone, Copy, Default)]
 pub struct Seen {
     pub letters: u64,
     pub minus: bool,
@@ -43,15 +41,14 @@ fn bit_of(d: u8) -> u8
 fn grown(w: Word, b: u8) -> Word
     ensures { result ≡ grown_of w b }
 {
-    if (48 <= b) & (b <= 57) {
-        let d = (b % 16) as u64;
-        Word {
-            byte: ((w.byte as u64 * 10 + d) % 256) as u8,
-            set: ((w.set as u64 + bit_of(b) as u64) % 256) as u8,
-            number: ((w.number as u64 * 10 + d) % 4294967296) as u32,
-        }
-    } else {
-        w
+    if !b.is_ascii_digit() {
+        return w;
+    }
+    let d = b % 16;
+    Word {
+        byte: w.byte.wrapping_mul(10).wrapping_add(d),
+        set: w.set.wrapping_add(bit_of(d)),
+        number: w.number.wrapping_mul(10).wrapping_add(u32::from(d)),
     }
 }
 
@@ -66,69 +63,33 @@ fn added(n: u64, b: u8) -> u64
 fn heard(s: Seen, b: u8) -> Seen
     ensures { result ≡ heard_of s b }
 {
-    let last = s.last;
-    if b == 32 {
-        let new = Word {
-            byte: 0,
-            set: 0,
-            number: 0,
-        };
+    if b == b' ' {
         Seen {
-            letters: s.letters,
-            minus: s.minus,
             fourth: s.third,
             third: s.second,
             far: s.near,
-            second: last.byte,
-            near: last.set,
-            last: new,
+            second: s.last.byte,
+            near: s.last.set,
+            last: Word::default(),
+            ..s
         }
     } else {
-        let more = grown(last, b);
         Seen {
             letters: added(s.letters, b),
-            minus: (b == 45) | s.minus,
-            fourth: s.fourth,
-            third: s.third,
-            far: s.far,
-            second: s.second,
-            near: s.near,
-            last: more,
+            minus: (b == b'-') | s.minus,
+            last: grown(s.last, b),
+            ..s
         }
-    }
-}
-
-// Nothing is seen yet.
-fn nothing() -> Seen
-    ensures { result ≡ unseen }
-{
-    let new = Word {
-        byte: 0,
-        set: 0,
-        number: 0,
-    };
-    Seen {
-        letters: 0,
-        minus: false,
-        fourth: 0,
-        third: 0,
-        far: 0,
-        second: 0,
-        near: 0,
-        last: new,
     }
 }
 
 // What is seen of words.
-pub fn seen_in(words: Row) -> Seen
-    requires { words.place ≤ 64 }
-    ensures { result ≡ hear unseen (text_in words) }
+pub fn seen_in(words: &[u8]) -> Seen
+    ensures { result ≡ hear unseen words.now }
 {
-    let mut s = nothing();
-    let mut i = 0;
-    while i < words.place {
-        s = heard(s, words.bytes[i]);
-        i += 1;
+    let mut s = Seen::default();
+    for &b in words {
+        s = heard(s, b);
     }
     s
 }

@@ -8,16 +8,16 @@ use native.Mathlib.Omega.{arith}
 use native.Mathlib.Numerals.{add-one, unary_clauses}
 use lib.Dec.{eqb, leb}
 use lib.ListN.{length, take, drop, get_or, set, drop_of_length-le}
-use lib.Seq.{drop-cons, take-suc-set, take_all, append_snoc, set-get_or}
+use lib.Seq.{drop-cons, take-suc-set, take_all, append_snoc}
 use denote.Array.{each}
 use denote.Shadow.{shadow}
 use mir.Val.{Val}
-use borrow.Author.Tests.{lt-ltb, leb-false, ne_eqb}
+use borrow.Author.Tests.{lt-ltb, leb-false}
 use Rattle.lists.specs.Line.{line, pad, pad_to, tidy}
 use Rattle.lists.specs.Lists.{filter, every}
-use Rattle.lists.specs.Marks.{no_marks, mark_of}
+use Rattle.lists.specs.Marks.{mark_of}
 use Rattle.lists.proofs.ListLaws.{by_bool}
-use Rattle.lists.proofs.MarkLaws.{filter_same, filter_filter, none_marked}
+use Rattle.lists.proofs.MarkLaws.{filter_same, filter_filter}
 use Rattle.lists.proofs.Tests.{and_first, and_second}
 use Rattle.rules.specs.State.{State}
 use Rattle.rules.specs.Callers.{calling}
@@ -67,21 +67,11 @@ module _ (left gone : List ℕ) (a t : ℕ) (n : List Row) (i : ℕ) where
   pub rows_touched : (k : List ℕ) → i < length n → touched ≡ true → k ≡ line_by gone (eqb (i + 1) a) t (get_or n i no_row).line → Turn (set n i (record { line = k }))
   rows_touched k h b e = rows_on (record { line = k }) h (e ∙ sym (rw b))
 
-  pub rows_skipped : i < length n → touched ≡ false → Turn n
-  rows_skipped h b =
-      rows_on (get_or n i no_row) h (sym (rw b))
-      ∙ ap (λ (m : List Row). take (i + 1) m ++ next_rows left gone a t (i + 1 + 1) (drop (i + 1) m)) (set-get_or n i no_row)
+  pub rows_skipped : i < length n → touched ≡ false → Turn (set n i (get_or n i no_row))
+  rows_skipped h b = rows_on (get_or n i no_row) h (sym (rw b))
 
 pub rows_end : (left gone : List ℕ) (a t : ℕ) (n : List Row) (i : ℕ) → length n ≤ i → take i n ++ next_rows left gone a t (i + 1) (drop i n) ≡ n
 rows_end left gone a t n i h = (λ j. take_all i n h j ++ next_rows left gone a t (i + 1) (drop_of_length-le n h j)) ∙ append-nil n
-
--- nobody has left or come
-pub rows_stay : (gone : List ℕ) (t g : ℕ) (rows : List Row) → 0 < g → next_rows no_marks gone 0 t g rows ≡ rows
-rows_stay gone t g [] h = refl
-rows_stay gone t g (r ∷ rs) h = λ i. record { line = row i } ∷ rows_stay gone t (suc g) rs (omega arith) i
-  where
-    row : next_row (not (eqb (mark_of no_marks g) 0)) (eqb g 0) gone t r.line ≡ r.line
-    row = rw (none_marked g, ne_eqb g 0 (λ z. omega arith))
 
 -- ── what is seen: the row of a task ──
 

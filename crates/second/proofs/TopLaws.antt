@@ -15,9 +15,13 @@ use Rattle.lists.specs.Marks.{no_marks, marked}
 use Rattle.lists.proofs.Tests.{and_first, and_second, if-true}
 use Rattle.rules.specs.State.{State, created, is_task, place_of, is_completed, queue, waits_on, running}
 use Rattle.rules.specs.Sound.{sound}
-use Rattle.rules.specs.Step.{Outcome, refused, took, SHORT_ROOM, BAD_STATE, take_call, room_after}
+use Rattle.std.specs.Prelude.{Result}
+use Rattle.rules.specs.Step.{took, take_call, room_after}
+use Rattle.rules.specs.declared.Item.{Item}
+use Rattle.rules.specs.declared.Refusal.{Refusal}
+use Rattle.rules.specs.declared.Refusal.TheVariants.{ShortRoom, BadState}
 use Rattle.rules.specs.Callers.{asks, calling, callers_of, accepted_in, gone_by, left_by, Told}
-use Rattle.rules.specs.Whole.{view_core, packed_core, StepOf, decline, done_by, stepped_of}
+use Rattle.rules.specs.Whole.{view_core, pack_core, packed_core, StepOf, decline, done_by, stepped_of}
 use Rattle.rules.specs.Second.{gathered, view_second, pack_second, rows_right, sound_second, step_second}
 use Rattle.rules.specs.declared.Row.{Row}
 use Rattle.rules.specs.declared.Second.{Second}
@@ -26,19 +30,18 @@ use Rattle.rules.proofs.Apart.{queue_of, running_core, same_step, tells}
 use Rattle.rules.proofs.Fate.{FateOf, fate}
 use Rattle.rules.proofs.Invariant.{Sound}
 use Rattle.rules.proofs.Leaving.{NamedIn, names}
-use Rattle.rules.proofs.OverRuns.{number_pos}
 use Rattle.rules.proofs.SecondLaws.{row_is}
 use Rattle.rules.proofs.SoundTest.{sound_props}
 use Rattle.rules.proofs.StepSound.{Kept, call_sound}
 use Rattle.rules.proofs.WholeLaws.{core_packed, core_parts}
 use Rattle.steps.specs.Change.{one, task_at, partner_at, bytes_in, joined_of}
 use Rattle.steps.specs.Engine.{callable_in}
-use Rattle.steps.specs.Taken.{SeesFor, seen, taken_of, ended_by}
+use Rattle.steps.specs.Taken.{SeesFor, seen, taken_as, taken_of, ended_by}
 use Rattle.steps.specs.declared.answers.Taken.{Taken}
 use Rattle.steps.proofs.AnswerLaws.{by_core, by_core_ended}
 use Rattle.steps.proofs.ChangeLaws.{tasks_written, partners_written}
 use Rattle.second.specs.Rows.{no_row, row_of, row_looked, next_rows, TypedSecond}
-use Rattle.second.proofs.RowLaws.{rows_stay, sees_row, row_get, row_tidy}
+use Rattle.second.proofs.RowLaws.{sees_row, row_get, row_tidy}
 use Rattle.second.proofs.NextLaws.{RowOf, rows_next}
 
 module _ (x : Second) (h : TypedSecond x) (ok : sound_second x ≡ true) where
@@ -73,14 +76,14 @@ module _ (x : Second) (h : TypedSecond x) (ok : sound_second x ≡ true) where
   }
 
   -- what the shared step gives is what the rules give on the state of the struct
-  pub taken_here : (c : C.Call) (mine : List ℕ) (k : Taken) (a b : List ℕ) → mine ≡ row_looked x.core x.rows c
-      → k ≡ taken_of x.core (take_call (seen x.core mine) c) → a ≡ room_after b (ended_by (take_call (seen x.core mine) c))
-      → (k ≡ taken_of x.core (take_call v c)) × (a ≡ room_after b (ended_by (take_call v c)))
+  pub taken_here : (c : C.Call) (mine : List ℕ) (k : Result Taken Refusal) (a b : List ℕ) → mine ≡ row_looked x.core x.rows c
+      → k ≡ taken_of (take_call (seen x.core mine) c) → a ≡ room_after b (ended_by (take_call (seen x.core mine) c))
+      → (k ≡ taken_of (take_call v c)) × (a ≡ room_after b (ended_by (take_call v c)))
   taken_here c mine k a b em ek ea =
       let o = take_call v c in
       let q = take_call (seen x.core mine) c in
       let same = same_step v (line mine) c (λ y. subst (λ (u : ℕ). callers_of v u ≡ callers_of (seen x.core mine) u) (sym (running_core (view_core x.core) (gathered x.rows))) (row_seen c mine em y)) in
-      (by_core x.core o q same ek, by_core_ended o q a b same ea)
+      (by_core o q same ek, by_core_ended o q a b same ea)
 
   -- ── CHANGE: the core and the rows afterwards are those of the next state ──
 
@@ -91,28 +94,23 @@ module _ (x : Second) (h : TypedSecond x) (ok : sound_second x ≡ true) where
     holds = row_get x.rows j ∙ sym (row_is (view_core x.core) x.rows 1 j right_here);
   }
 
-  pub second_state : (c : C.Call) (k : Taken) (room after left gone : List ℕ) (g : ℕ) (rs : List Row) → k ≡ taken_of x.core (take_call v c) → after ≡ room_after room (ended_by (take_call v c))
-      → gone ≡ marked one (accepted_in k.result k.partner ++ bytes_in task_at k.ended after) no_marks → left ≡ marked one (accepted_in k.result k.task ++ bytes_in partner_at k.ended after) no_marks
-      → g ≡ joined_of c k.refusal k.result k.ended → rs ≡ next_rows left gone g k.task 1 x.rows
-      → ◌≡◌ {A = Second} (record { core = k.state; rows = rs }) (done_by pack_second x v (take_call v c)).state
-  second_state c k room after left gone g rs ek ea eo el eg er = go (take_call v c) (tells v c sound_here) (call_sound v c sound_here) (λ u. fate v c u sound_here) (names v c) ek ea
-    where
-      go : (o : Outcome) → Told c v.callers o → Kept o → ((u : ℕ) → FateOf v c u o) → NamedIn v o → k ≡ taken_of x.core o → after ≡ room_after room (ended_by o)
-          → ◌≡◌ {A = Second} (record { core = k.state; rows = rs }) (done_by pack_second x v o).state
-      go (refused r) p q f n e ae =
-          let l : left ≡ no_marks = el ∙ ap (λ (z : Taken). marked one (accepted_in z.result z.task ++ bytes_in partner_at z.ended after) no_marks) e in
-          let t : g ≡ 0 = eg ∙ ap (λ (z : Taken). joined_of c z.refusal z.result z.ended) e ∙ rw (number_pos r) in
-          λ i. record { core = (e i).state; rows = (er ∙ (λ j. next_rows (l j) gone (t j) k.task 1 x.rows) ∙ rows_stay gone k.task 1 x.rows (omega arith)) i }
-      go (took st b y) p q f n e ae =
-          let G : gone ≡ marked one (gone_by b y) no_marks =
-          eo ∙ (λ i. marked one (accepted_in (e i).result (e i).partner ++ bytes_in task_at (e i).ended (ae i)) no_marks) ∙ ap (λ (m : List ℕ). marked one (accepted_in b.result b.partner ++ m) no_marks) (tasks_written room y) in
-          let L : left ≡ marked one (left_by b y) no_marks =
-          el ∙ (λ i. marked one (accepted_in (e i).result (e i).task ++ bytes_in partner_at (e i).ended (ae i)) no_marks) ∙ ap (λ (m : List ℕ). marked one (accepted_in b.result b.task ++ m) no_marks) (partners_written room y) in
-          let J : g ≡ joined_of c 0 b.result (length y) = eg ∙ ap (λ (z : Taken). joined_of c z.refusal z.result z.ended) e in
-          λ i. record {
-            core = (e i).state;
-            rows = (er ∙ (λ j. next_rows (L j) (G j) (J j) (e j).task 1 x.rows) ∙ rows_next v st c b y sound_here q p f n x.rows 31 1 (omega arith) (omega arith) h.rows row_here) i;
-          }
+  pub second_state : (c : C.Call) (st : State) (b : Item) (y : List Item) (k : Taken) (room after left gone : List ℕ) (g : ℕ) (rs : List Row) → take_call v c ≡ took st b y → k ≡ taken_as (pack_core st) b (length y)
+      → after ≡ room_after room y → gone ≡ marked one (accepted_in k.result k.partner ++ bytes_in task_at k.ended after) no_marks → left ≡ marked one (accepted_in k.result k.task ++ bytes_in partner_at k.ended after) no_marks
+      → g ≡ joined_of c k.result k.ended → rs ≡ next_rows left gone g k.task 1 x.rows → ◌≡◌ {A = Second} (record { core = k.state; rows = rs }) (pack_second st)
+  second_state c st b y k room after left gone g rs o e ae eo el eg er =
+      let p = subst (Told c v.callers) o (tells v c sound_here) in
+      let q = subst Kept o (call_sound v c sound_here) in
+      let f : (u : ℕ) → FateOf v c u (took st b y) = λ u. subst (FateOf v c u) o (fate v c u sound_here) in
+      let n = subst (NamedIn v) o (names v c) in
+      let G : gone ≡ marked one (gone_by b y) no_marks =
+      eo ∙ (λ i. marked one (accepted_in (e i).result (e i).partner ++ bytes_in task_at (e i).ended (ae i)) no_marks) ∙ ap (λ (m : List ℕ). marked one (accepted_in b.result b.partner ++ m) no_marks) (tasks_written room y) in
+      let L : left ≡ marked one (left_by b y) no_marks =
+      el ∙ (λ i. marked one (accepted_in (e i).result (e i).task ++ bytes_in partner_at (e i).ended (ae i)) no_marks) ∙ ap (λ (m : List ℕ). marked one (accepted_in b.result b.task ++ m) no_marks) (partners_written room y) in
+      let J : g ≡ joined_of c b.result (length y) = eg ∙ ap (λ (z : Taken). joined_of c z.result z.ended) e in
+      λ i. record {
+        core = (e i).state;
+        rows = (er ∙ (λ j. next_rows (L j) (G j) (J j) (e j).task 1 x.rows) ∙ rows_next v st c b y sound_here q p f n x.rows 31 1 (omega arith) (omega arith) h.rows row_here) i;
+      }
 
   -- ── the questions ──
 
@@ -131,11 +129,11 @@ callable_is x t h ok = rw (created_here x h ok)
 -- ── the whole step ──
 
 module _ (x : Second) (c : C.Call) (n : ℕ) where
-  pub step_short : ltb n 124 ≡ true → step_second x c n ≡ decline x SHORT_ROOM 0
+  pub step_short : ltb n 124 ≡ true → step_second x c n ≡ decline x ShortRoom 0
   unfolding step_second
   step_short e = rw e
 
-  pub step_unsound : ltb n 124 ≡ false → sound_second x ≡ false → step_second x c n ≡ decline x BAD_STATE 0
+  pub step_unsound : ltb n 124 ≡ false → sound_second x ≡ false → step_second x c n ≡ decline x BadState 0
   unfolding step_second
   step_unsound e q = rw (e, q)
 

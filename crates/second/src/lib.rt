@@ -9,10 +9,8 @@ ghost use Rattle.rules.specs.Step.{room_after};
 ghost use Rattle.rules.specs.Whole.{stepped_of};
 
 use calls::Call;
-use calls::numbers::SHORT_ROOM;
 use rows::{next_rows, row_looked_at, row_of};
-use rules::numbers::BAD_STATE;
-use rules::{BadState, Row, Second, Stepped};
+use rules::{BadState, Refusal, Row, Second, Stepped};
 use soundness::{is_sound_second, rows_sound};
 use steps::answers::{answer_by, is_short, refused_answer};
 use steps::change::{gone_marks, joined_queue, left_marks};
@@ -26,19 +24,26 @@ pub fn step(x: Second, c: Call, room: &mut [u8]) -> Stepped<Second>
     ensures room { room.new ≡ room_after room.old (step_second x c (length room.old)).ended }
 {
     if is_short(room.len()) {
-        let answer = refused_answer(SHORT_ROOM, 0);
+        let answer = refused_answer(u8::from(Refusal::ShortRoom), 0);
         return Stepped { state: x, answer };
     }
     let rows = x.rows;
     if !rows_sound(x.core, rows) {
-        let answer = refused_answer(BAD_STATE, 0);
+        let answer = refused_answer(u8::from(Refusal::BadState), 0);
         return Stepped { state: x, answer };
     }
     let mine = row_looked_at(x.core, rows, c);
-    let k = take_call(x.core, mine, c, room);
+    let k = match take_call(x.core, mine, c, room) {
+        Ok(k) => k,
+        Err(why) => {
+            let next = table::dispatch::running(x.core);
+            let answer = refused_answer(u8::from(why), next);
+            return Stepped { state: x, answer };
+        }
+    };
     let gone = gone_marks(room, k.ended, k.result, k.partner);
     let left = left_marks(room, k.ended, k.result, k.task);
-    let joined = joined_queue(c, k.refusal, k.result, k.ended);
+    let joined = joined_queue(c, k.result, k.ended);
     let rows_now = next_rows(rows, left, gone, joined, k.task);
     let after = k.state;
     let next = table::dispatch::running(after);

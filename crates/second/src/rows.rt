@@ -37,16 +37,12 @@ pub fn next_rows(rows: [Row; 31], left: [u8; 32], gone: [u8; 32], g: u8, t: u8) 
     ensures { result ≡ next_rows left gone g t 1 rows }
 {
     let mut n = rows;
-    let mut i: usize = 0;
-    while i < 31 {
-        let joins = (i + 1) as u8 == g;
+    for (i, row) in n.iter_mut().enumerate() {
+        let joins = i + 1 == usize::from(g);
         if joins | (left[i + 1] != 0) {
-            let r = n[i];
-            let l = r.line;
-            let k = next_line(l, gone, joins, t);
-            n[i] = Row { line: k };
+            let l = row.line;
+            row.line = next_line(l, gone, joins, t);
         }
-        i += 1;
     }
     n
 }

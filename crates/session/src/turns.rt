@@ -81,7 +81,7 @@ fn refused<E: Engine>(
         return Turned {
             session: s,
             count: 0,
-            place: text::least(at, out.len()),
+            place: at.min(out.len()),
             next: Next::More,
         };
     }
@@ -89,7 +89,7 @@ fn refused<E: Engine>(
         return Turned {
             session: s,
             count: 0,
-            place: text::least(at, out.len()),
+            place: at.min(out.len()),
             next: Next::Stop,
         };
     }

@@ -1,7 +1,7 @@
 -- A walk that meets each task of the line once, in order, has seen what the rules ask of the line.
 -- Assumes nothing.
-use Rattle.std.proofs.Common.{◌≡◌, ℕ, zero, suc, ◌+◌, ◌-◌, ◌^◌, ◌<◌, ◌≤◌, Bool, true, false, ◌&&◌, eqb, ltb, leb, List, [], ◌∷◌, sym, refl, ap, subst, ◌∙◌, arith, ltb-false, ltb-true, le-ltb, lt-ltb, eq-eqb, ne_eqb}
-use mathlib.Core.Bool.{and-true, and-false, and_assoc}
+use Rattle.std.proofs.Common.{◌≡◌, ℕ, zero, suc, ◌+◌, ◌-◌, ◌^◌, ◌<◌, ◌≤◌, Bool, true, false, ◌&&◌, eqb, ltb, List, [], ◌∷◌, sym, refl, ap, subst, ◌∙◌, arith, ltb-false, ltb-true, le-ltb, lt-ltb, eq-eqb, ne_eqb}
+use mathlib.Core.Bool.{and-false, and_assoc, and_comm}
 use Rattle.lists.specs.Line.{line, blanks, tidy}
 use Rattle.lists.specs.Lists.{when◌then◌else◌, bit, count, every, down_from}
 use Rattle.lists.proofs.ListLaws.{by_bool, by_eq, clash, every_of, down_at}
@@ -10,7 +10,7 @@ use Rattle.rules.specs.State.{task_of}
 use Rattle.rules.specs.Whole.{view_core}
 use Rattle.rules.specs.declared.Core.{Core}
 use Rattle.soundness.specs.Marks.{Marks, Whole, no_marks, has_mark, next_mark, without_mark, is_none}
-use Rattle.soundness.specs.Check.{Line, Ready, Callers, Held, Delays, belongs, marked, marked_in, walked, holds_in, any_order}
+use Rattle.soundness.specs.Check.{Line, Ready, Callers, Held, Delays, belongs, marked, marked_in, walked, holds_in}
 use Rattle.soundness.proofs.TaskLaws.{named, named_is}
 use Rattle.soundness.proofs.MarkLaws.{next_whole, next_low, below, without_whole, has_none, has_first, has_next, has_without, none_has, has_all}
 
@@ -30,11 +30,6 @@ line_has n f a = (tidy a && every (named n) (line a)) && every (λ t. eqb (count
 -- the line holds the created tasks that stand in it, each once, and nothing else
 abbrev pub stands_in : Core → Line → Bool
 stands_in s l = line_has s.created (λ t. belongs l (task_of (view_core s) t)) (array_of s l)
-
--- a is at most the first key, and each key at most the next
-abbrev pub ascending : (ℕ → ℕ) → ℕ → List ℕ → Bool
-ascending k a [] = true
-ascending k a (x ∷ xs) = leb a (k x) && ascending k (k x) xs
 
 -- ── tests that pass at each of 1..n ──
 
@@ -143,27 +138,17 @@ emptied_is n m (x ∷ xs) l w h =
 
 -- ── the walk ──
 
--- a walk looks at three things at once
-walked_is : (k : ℕ → ℕ) (m : Marks) (a : ℕ) (l : List ℕ) → walked k m a l ≡ ((tidy l && emptied m (line l)) && ascending k a (line l))
-walked_is k m a [] = sym (and-true (is_none m))
-walked_is k m a (zero ∷ xs) = turned (is_none m) (blanks xs)
-  where
-    turned : (x y : Bool) → (x && y) ≡ ((y && x) && true)
-    turned true true = refl
-    turned true false = refl
-    turned false true = refl
-    turned false false = refl
-walked_is k m a (suc n ∷ xs) =
-    together (has_mark m (suc n)) (leb a (k (suc n))) (tidy xs) _ _ (walked_is k (without_mark m (suc n)) (k (suc n)) xs)
-  where
-    together : (h o t e s : Bool) {w : Bool} → w ≡ ((t && e) && s) → ((h && o) && w) ≡ ((t && (h && e)) && (o && s))
-    together true true t e s q = q
-    together true false t e s q = sym (and-false (t && e))
-    together false o t e s q = ap (λ (b : Bool). b && (o && s)) (sym (and-false t))
+-- the first two of three tests change places: with this, `simp` sorts tests that are taken together
+pub and_swap : (a b c : Bool) → (a && (b && c)) ≡ (b && (a && c))
+and_swap true b c = refl
+and_swap false b c = sym (and-false b)
 
-in_any_order : (l : List ℕ) → ascending any_order 0 l ≡ true
-in_any_order [] = refl
-in_any_order (x ∷ xs) = in_any_order xs
+-- a walk looks at two things at once
+walked_is : (m : Marks) (l : List ℕ) → walked m l ≡ (tidy l && emptied m (line l))
+walked_is m [] = refl
+walked_is m (zero ∷ xs) = and_comm (is_none m) (blanks xs)
+walked_is m (suc n ∷ xs) =
+    ap (λ (b : Bool). has_mark m (suc n) && b) (walked_is (without_mark m (suc n)) xs) ∙ and_swap (has_mark m (suc n)) (tidy xs) (emptied (without_mark m (suc n)) (line xs))
 
 -- a tidy array where each is met has each of 1..n once that passes the test, and nothing else
 line_is : (n : ℕ) (f : ℕ → Bool) (a : List ℕ) → n ≤ 31 → (tidy a && emptied (wanted f n) (line a)) ≡ line_has n f a
@@ -186,17 +171,8 @@ emptied_wanted n f l h =
     (every_same _ _ n (λ t p q. ap (λ (b : Bool). eqb (count t l) (bit b)) (has_wanted f n t h ∙ ap (λ (b : Bool). b && f t) (named_is n t p q))))
 
 -- the same of any array and any test
-pub holds_any : (n : ℕ) (f : ℕ → Bool) (a : List ℕ) → n ≤ 31 → holds_in any_order (marked f no_marks (down_from n)) a ≡ line_has n f a
-holds_any n f a h =
-    walked_is any_order (next_mark (marked f no_marks (down_from n)) false) 0 a
-    ∙ ap (λ (b : Bool). b && ascending any_order 0 (line a)) (line_is n f a h)
-    ∙ ap (λ (b : Bool). line_has n f a && b) (in_any_order (line a)) ∙ and-true (line_has n f a)
+pub holds_any : (n : ℕ) (f : ℕ → Bool) (a : List ℕ) → n ≤ 31 → holds_in (marked f no_marks (down_from n)) a ≡ line_has n f a
+holds_any n f a h = walked_is (next_mark (marked f no_marks (down_from n)) false) a ∙ line_is n f a h
 
--- what the walk of line l tells: the line holds its tasks, and their keys are in order
-pub holds_is : (s : Core) (l : Line) (k : ℕ → ℕ) → s.created ≤ 31 → holds_in k (marked_in s l) (array_of s l) ≡ (stands_in s l && ascending k 0 (line (array_of s l)))
-holds_is s l k h =
-    walked_is k (next_mark (marked_in s l) false) 0 (array_of s l)
-    ∙ ap (λ (b : Bool). b && ascending k 0 (line (array_of s l))) (line_is s.created (λ t. belongs l (task_of (view_core s) t)) (array_of s l) h)
-
-pub stands_is : (s : Core) (l : Line) → s.created ≤ 31 → holds_in any_order (marked_in s l) (array_of s l) ≡ stands_in s l
-stands_is s l h = rw (in_any_order (line (array_of s l))) at (holds_is s l any_order h) ∙ and-true (stands_in s l)
+pub stands_is : (s : Core) (l : Line) → s.created ≤ 31 → holds_in (marked_in s l) (array_of s l) ≡ stands_in s l
+stands_is s l h = holds_any s.created (λ t. belongs l (task_of (view_core s) t)) (array_of s l) h

@@ -6,6 +6,7 @@ use lib.Bits.{bit_xor, differ, xor_shr, xor_step, xor_lt}
 use lib.Pow.{pow-lt}
 use lib.Dec.{eqb-suc-suc}
 use borrow.Author.Tests.{eqb-false}
+use mathlib.Core.Bool.{beq}
 use Rattle.lists.specs.Lists.{when◌then◌else◌, bit}
 use Rattle.lists.proofs.ListLaws.{by_bool, by_eq, by_test}
 use Rattle.soundness.specs.Marks.{Marks, Whole, no_marks, has_mark, next_mark, without_mark, put_mark, is_none}
@@ -156,13 +157,19 @@ has_high m t h l = rw (div-eq_of_lt (high l))
 -- ── the machine's forms ──
 
 -- the bit of t has to change, and has not to
-pub put_changed : (m : Marks) (t : ℕ) (here there : Bool) → there ≡ has_mark m t → ((there && not here) || (here && not there)) ≡ true → without_mark m t ≡ put_mark m t here
+pub put_changed : (m : Marks) (t : ℕ) (here there : Bool) → there ≡ has_mark m t → not (beq there here) ≡ true → without_mark m t ≡ put_mark m t here
 unfolding put_mark
-put_changed m t here there e q = rw (← e, q)
+put_changed m t true true e q = absurd (cc)
+put_changed m t true false e q = rw (← e)
+put_changed m t false true e q = rw (← e)
+put_changed m t false false e q = absurd (cc)
 
-pub put_same : (m : Marks) (t : ℕ) (here there : Bool) → there ≡ has_mark m t → ((there && not here) || (here && not there)) ≡ false → m ≡ put_mark m t here
+pub put_same : (m : Marks) (t : ℕ) (here there : Bool) → there ≡ has_mark m t → not (beq there here) ≡ false → m ≡ put_mark m t here
 unfolding put_mark
-put_same m t here there e q = rw (← e, q)
+put_same m t true true e q = rw (← e)
+put_same m t true false e q = absurd (cc)
+put_same m t false true e q = absurd (cc)
+put_same m t false false e q = rw (← e)
 
 pub shifted : (t : ℕ) → t < 32 → (1 * 2 ^ t) % 4294967296 ≡ 2 ^ t
 shifted t h = shl_exact {a = 1} 1 t 32 (omega arith) (omega arith) ∙ one-mul (2 ^ t)

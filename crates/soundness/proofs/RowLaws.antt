@@ -1,7 +1,8 @@
 -- The check of the rows, against what the rules ask of the callers of the second engine.
 -- Assumes nothing.
-use Rattle.std.proofs.Common.{◌≡◌, ℕ, zero, suc, ◌+◌, ◌<◌, ◌≤◌, Bool, true, false, ◌&&◌, eqb, ltb, leb, List, [], ◌∷◌, ◌++◌, length, get_or, take, drop, set, sym, refl, ap, ◌∙◌, add-one, arith, length-set, drop_of_length-le, length-take, drop-cons, get_or-set_other, get_or-set_same, ltb-false, ltb-true, ne_eqb, leb-true}
-use mathlib.Core.Bool.{and-true, and-false, and_assoc}
+use Rattle.std.proofs.Common.{◌≡◌, ℕ, zero, suc, ◌+◌, ◌<◌, ◌≤◌, Bool, true, false, ◌&&◌, eqb, ltb, leb, List, [], ◌∷◌, ◌++◌, Option, None, Some, length, get_or, take, drop, set, sym, refl, ap, ◌∙◌, add-one, arith, length-set, drop_of_length-le, length-take, drop-cons, get_or-set_other, get_or-set_same, ltb-false, ltb-true, ne_eqb, leb-true}
+use mathlib.Core.Bool.{and-false, and_assoc}
+use Rattle.std.specs.Bool.{then_some}
 use lib.ListN.{get_or-eq_default}
 use Rattle.lists.specs.Line.{line, tidy, blanks}
 use Rattle.lists.specs.Lists.{when◌then◌else◌, bit, count, every, down_from}
@@ -17,14 +18,12 @@ use Rattle.rules.specs.declared.Row.{Row}
 use Rattle.rules.specs.declared.Second.{Second}
 use Rattle.rules.specs.declared.Task.{Task}
 use Rattle.rules.proofs.Members.{nth_beyond}
-use Rattle.soundness.specs.Marks.{Marks, has_mark, next_mark, without_mark, is_none}
+use Rattle.soundness.specs.Marks.{Marks, has_mark, next_mark, without_mark, if_any, is_none}
 use Rattle.soundness.specs.Rows.{called_by, Targets, met_in, met_all}
-use Rattle.soundness.specs.declared.rows.Met.{Met}
-use Rattle.soundness.specs.Check.{Callers, belongs, marked_in, checked_of}
-use Rattle.soundness.specs.declared.Checked.{Checked}
+use Rattle.soundness.specs.Check.{Callers, belongs, marked_in, core_sound, checked_of}
 use Rattle.soundness.proofs.TaskLaws.{named}
-use Rattle.soundness.proofs.LineLaws.{emptied, emptied_wanted}
-use Rattle.soundness.proofs.WholeLaws.{and_swap, callers_right, core_is}
+use Rattle.soundness.proofs.LineLaws.{emptied, emptied_wanted, and_swap}
+use Rattle.soundness.proofs.WholeLaws.{callers_right, core_is, if_sound}
 
 -- the walk over a list, and what is asked of the word that is left
 abbrev along : Marks → List ℕ → (Marks → Bool) → Bool
@@ -48,73 +47,72 @@ module _ (T : List ℕ) where
   abbrev to : ℕ → ℕ → Bool
   to g x = eqb (mark_of T x) g
 
-  row_step : (g : ℕ) (C : Bool → Marks → Bool) → ((m : Marks) → C false m ≡ false) → (b : Bool) (l : List ℕ) (m : Marks)
-      → C (b && (met_in T g m l).ok) (met_in T g m l).rest ≡ ((tidy l && every (to g) (line l)) && along m (line l) (C b))
-  row_step g C f b [] m = ap (λ (x : Bool). C x m) (and-true b)
-  row_step g C f b (zero ∷ xs) m = by_bool (blanks xs) (λ e. rw e (ap (λ (x : Bool). C x m) (and-true b))) (λ e. rw e (ap (λ (x : Bool). C x m) (and-false b) ∙ f m))
-  row_step g C f b (suc n ∷ xs) m =
+  row_step : (g : ℕ) (C : Marks → Bool) (l : List ℕ) (m : Marks) → if_any (met_in T g m l) C ≡ ((tidy l && every (to g) (line l)) && along m (line l) C)
+  row_step g C [] m = refl
+  row_step g C (zero ∷ xs) m = by_bool (blanks xs) (λ e. rw e) (λ e. rw e)
+  row_step g C (suc n ∷ xs) m =
       by_bool (has_mark m (suc n))
       (λ h. by_bool (to g (suc n))
-      (λ c. rw (h, c) (row_step g C f b xs (without_mark m (suc n))))
-      (λ c. rw (h, c) (ap (λ (x : Bool). C x m) (and-false b) ∙ f m ∙ sym (ap (λ (x : Bool). x && along (without_mark m (suc n)) (line xs) (C b)) (and-false (tidy xs))))))
-      (λ h. rw h (ap (λ (x : Bool). C x m) (and-false b) ∙ f m ∙ sym (and-false (tidy xs && (to g (suc n) && every (to g) (line xs))))))
-
-  none : (g : ℕ) (m : Marks) (rs : List Row) → met_all T g false m rs ≡ false
-  none g m [] = refl
-  none g m (r ∷ rs) = none (suc g) (met_in T g m r.line).rest rs
+      (λ c. rw (h, c) (row_step g C xs (without_mark m (suc n))))
+      (λ c. rw (h, c) (sym (ap (λ (x : Bool). x && along (without_mark m (suc n)) (line xs) C) (and-false (tidy xs))))))
+      (λ h. rw h (sym (and-false (tidy xs && (to g (suc n) && every (to g) (line xs))))))
 
   -- each row is tidy, and has those alone who have called its task
   abbrev rows_to : ℕ → List Row → Bool
   rows_to g [] = true
   rows_to g (r ∷ rs) = (tidy r.line && every (to g) (line r.line)) && rows_to (suc g) rs
 
-  rows_step : (g : ℕ) (b : Bool) (m : Marks) (rs : List Row) → met_all T g b m rs ≡ (b && (rows_to g rs && emptied m (gathered rs)))
-  rows_step g b m [] = refl
-  rows_step g b m (r ∷ rs) =
+  rows_step : (g : ℕ) (m : Marks) (rs : List Row) → met_all T g m rs ≡ (rows_to g rs && emptied m (gathered rs))
+  rows_step g m [] = refl
+  rows_step g m (r ∷ rs) =
       let l = line r.line in
       let R = tidy r.line && every (to g) l in
-      row_step g (λ c n. met_all T (suc g) c n rs) (λ n. none (suc g) n rs) b r.line m
+      row_step g (λ n. met_all T (suc g) n rs) r.line m
       ∙ ap (λ (x : Bool). R && x)
-      (along_same m l (λ n. met_all T (suc g) b n rs) (λ n. b && (rows_to (suc g) rs && emptied n (gathered rs))) (λ n. rows_step (suc g) b n rs)
-      ∙ along_and b m l (λ n. rows_to (suc g) rs && emptied n (gathered rs))
-      ∙ ap (λ (x : Bool). b && x) (along_and (rows_to (suc g) rs) m l (λ n. emptied n (gathered rs)) ∙ ap (λ (x : Bool). rows_to (suc g) rs && x) (along_all m l (gathered rs))))
-      ∙ and_swap R b (rows_to (suc g) rs && emptied m (l ++ gathered rs))
-      ∙ ap (λ (x : Bool). b && x) (sym (and_assoc R (rows_to (suc g) rs) (emptied m (l ++ gathered rs))))
+      (along_same m l (λ n. met_all T (suc g) n rs) (λ n. rows_to (suc g) rs && emptied n (gathered rs)) (λ n. rows_step (suc g) n rs)
+      ∙ along_and (rows_to (suc g) rs) m l (λ n. emptied n (gathered rs))
+      ∙ ap (λ (x : Bool). rows_to (suc g) rs && x) (along_all m l (gathered rs)))
+      ∙ sym (and_assoc R (rows_to (suc g) rs) (emptied m (l ++ gathered rs)))
 
 -- ── the loops ──
 
 module _ (T : List ℕ) (g m : ℕ) (l : List ℕ) (i : ℕ) where
-  pub met_blank : i < length l → get_or l i 0 ≡ 0 → met_in T g m (drop i l) ≡ record { ok = blanks (drop i l); rest = m }
+  pub met_blank : i < length l → get_or l i 0 ≡ 0 → met_in T g m (drop i l) ≡ then_some (blanks (drop i l)) m
   met_blank h e = rw (drop-cons l i 0 h, e)
 
   pub met_on : i < length l → (get_or l i 0 ≡ 0 → ⊥) → (b : Bool) → b ≡ (has_mark m (get_or l i 0) && eqb (mark_of T (get_or l i 0)) g)
-      → met_in T g m (drop i l) ≡ (when b then met_in T g (without_mark m (get_or l i 0)) (drop (i + 1) l) else record { ok = false; rest = m })
+      → met_in T g m (drop i l) ≡ (when b then met_in T g (without_mark m (get_or l i 0)) (drop (i + 1) l) else None)
   met_on h n b e = rw (e, drop-cons l i 0 h, add-one i) (number (get_or l i 0) n)
     where
-      number : (x : ℕ) → (x ≡ 0 → ⊥) → met_in T g m (x ∷ drop (suc i) l) ≡ (when has_mark m x && eqb (mark_of T x) g then met_in T g (without_mark m x) (drop (suc i) l) else record { ok = false; rest = m })
+      number : (x : ℕ) → (x ≡ 0 → ⊥) → met_in T g m (x ∷ drop (suc i) l) ≡ (when has_mark m x && eqb (mark_of T x) g then met_in T g (without_mark m x) (drop (suc i) l) else None)
       number zero n = absurd (n refl)
       number (suc x) n = refl
 
-  pub met_end : length l ≤ i → met_in T g m (drop i l) ≡ record { ok = true; rest = m }
+  pub met_end : length l ≤ i → met_in T g m (drop i l) ≡ Some m
   met_end h = rw (drop_of_length-le l h)
 
 -- a row that is blank throughout
-pub blank_row : (T : List ℕ) (g m : ℕ) (l : List ℕ) → blanks l ≡ true → met_in T g m l ≡ record { ok = true; rest = m }
+pub blank_row : (T : List ℕ) (g m : ℕ) (l : List ℕ) → blanks l ≡ true → met_in T g m l ≡ Some m
 blank_row T g m [] e = refl
-blank_row T g m (zero ∷ xs) e = λ i. record { ok = e i; rest = m }
+blank_row T g m (zero ∷ xs) e = rw e
 blank_row T g m (suc n ∷ xs) e = clash (and_first (eqb (suc n) 0) (blanks xs) e) (ne_eqb (suc n) 0 (λ z. omega arith))
 
 abbrev pub no_row : Row
 no_row = record { line = [] }
 
-pub all_on : (T : List ℕ) (b : Bool) (m : ℕ) (rows : List Row) (i : ℕ) (k : Met) → i < length rows → k ≡ met_in T (i + 1) m (get_or rows i no_row).line
-    → met_all T (i + 1) b m (drop i rows) ≡ met_all T (i + 1 + 1) (b && k.ok) k.rest (drop (i + 1) rows)
-all_on T b m rows i k h e =
-    ap (met_all T (i + 1) b m) (drop-cons rows i no_row h)
-    ∙ (λ j. met_all T (sym (add-one (i + 1)) j) (b && (sym e j).ok) (sym e j).rest (drop (sym (add-one i) j) rows))
+-- the next row: somebody stands there who is not to be met there, and nobody does
+module _ (T : List ℕ) (m : ℕ) (rows : List Row) (i : ℕ) where
+  next_row : i < length rows → met_all T (i + 1) m (drop i rows) ≡ if_any (met_in T (i + 1) m (get_or rows i no_row).line) (λ n. met_all T (i + 1 + 1) n (drop (i + 1) rows))
+  next_row h = ap (met_all T (i + 1) m) (drop-cons rows i no_row h) ∙ λ j. if_any (met_in T (i + 1) m (get_or rows i no_row).line) (λ n. met_all T (sym (add-one (i + 1)) j) n (drop (sym (add-one i) j) rows))
 
-pub all_end : (T : List ℕ) (b : Bool) (m : ℕ) (rows : List Row) (i : ℕ) → length rows ≤ i → met_all T (i + 1) b m (drop i rows) ≡ (b && is_none m)
-all_end T b m rows i h = ap (met_all T (i + 1) b m) (drop_of_length-le rows h)
+  pub all_fail : (k : Option Marks) → i < length rows → k ≡ met_in T (i + 1) m (get_or rows i no_row).line → k ≡ None → met_all T (i + 1) m (drop i rows) ≡ false
+  all_fail k h e n = next_row h ∙ ap (λ (x : Option Marks). if_any x (λ n. met_all T (i + 1 + 1) n (drop (i + 1) rows))) (sym e ∙ n)
+
+  pub all_on : (k : Option Marks) (q : Marks) → i < length rows → k ≡ met_in T (i + 1) m (get_or rows i no_row).line → k ≡ Some q → met_all T (i + 1) m (drop i rows) ≡ met_all T (i + 1 + 1) q (drop (i + 1) rows)
+  all_on k q h e n = next_row h ∙ ap (λ (x : Option Marks). if_any x (λ n. met_all T (i + 1 + 1) n (drop (i + 1) rows))) (sym e ∙ n)
+
+  pub all_end : length rows ≤ i → met_all T (i + 1) m (drop i rows) ≡ is_none m
+  all_end h = ap (met_all T (i + 1) m) (drop_of_length-le rows h)
 
 -- the targets of the tasks up to i are told
 abbrev pub TargetsTo : Core → List ℕ → ℕ → Type 0
@@ -158,20 +156,27 @@ rows_to_lem s T (r ∷ rs) g p h l k =
     λ i. (tidy r.line && every_same_all (to T g) (calling (view_core s) g) (line r.line) (λ x. to_calling s T g x p h l k) i) && rows_to_lem s T rs (suc g) (omega arith) h l k i
 
 -- what the code finds, of the core and of the rows
-pub second_is : (x : Second) (c : Checked) (T : List ℕ) (b : Bool) → x.core.clock < 4294967296 → length x.core.tasks ≡ 31 → length T ≡ 32 → c ≡ checked_of x.core → Targets x.core T → b ≡ met_all T 1 true (next_mark c.callers false) x.rows
-    → (c.good && b) ≡ sound_second x
-second_is x c T b clock l n ec et eb =
+pub second_is : (x : Second) (T : List ℕ) → x.core.clock < 4294967296 → length x.core.tasks ≡ 31 → length T ≡ 32 → Targets x.core T
+    → if_any (checked_of x.core) (λ w. met_all T 1 (next_mark w false) x.rows) ≡ sound_second x
+second_is x T clock l n et =
     let s = x.core in
-    by_bool (leb s.created 31)
+    if_sound s (λ w. met_all T 1 (next_mark w false) x.rows)
+    ∙ by_bool (leb s.created 31)
     (λ p.
     let h : s.created ≤ 31 = leb-true s.created 31 p in
-    let w : c.callers ≡ marked_in s Callers = ap (λ (z : Checked). z.callers) ec ∙ rw p in
     let f : ℕ → Bool = λ t. belongs Callers (task_of (view_core s) t) in
     let q = gathered x.rows in
-    let e : b ≡ callers_right s q (rows_right (view_core s) 1 x.rows) =
-    eb ∙ ap (λ (z : ℕ). met_all T 1 true (next_mark z false) x.rows) w
-    ∙ rows_step T 1 true (next_mark (marked_in s Callers) false) x.rows
+    let e : met_all T 1 (next_mark (marked_in s Callers) false) x.rows ≡ callers_right s q (rows_right (view_core s) 1 x.rows) =
+    rows_step T 1 (next_mark (marked_in s Callers) false) x.rows
     ∙ (λ i. rows_to_lem s T x.rows 1 (omega arith) h n et i && emptied_wanted s.created f q h i)
     ∙ sym (and_assoc (rows_right (view_core s) 1 x.rows) (every (named s.created) q) (every (λ t. eqb (count t q) (bit (f t))) (down_from s.created))) in
-    (λ i. (ec i).good && e i) ∙ core_is s q (rows_right (view_core s) 1 x.rows) clock l)
-    (λ p. ap (λ (z : Checked). z.good && b) ec ∙ rw p)
+    ap (λ (b : Bool). core_sound s && b) e ∙ core_is s q (rows_right (view_core s) 1 x.rows) clock l)
+    (λ p. rw p)
+
+pub second_none : (x : Second) → x.core.clock < 4294967296 → length x.core.tasks ≡ 31 → checked_of x.core ≡ None → false ≡ sound_second x
+second_none x clock l e =
+    let s = x.core in
+    let q = gathered x.rows in
+    by_bool (core_sound s)
+    (λ p. absurd (cc (rw p at e)))
+    (λ p. ap (λ (b : Bool). b && callers_right s q (rows_right (view_core s) 1 x.rows)) (sym p) ∙ core_is s q (rows_right (view_core s) 1 x.rows) clock l)

@@ -1,15 +1,14 @@
 -- Tests on one task, on the task that it has called, and where a task stands in the table.
 -- Assumes nothing.
-use Rattle.std.proofs.Common.{◌≡◌, ℕ, ◌-◌, ◌<◌, ◌≤◌, Bool, true, false, ◌&&◌, ltb, leb, [], ◌∷◌, get_or, refl, ap, ◌∙◌, arith, ltb-false, lt-ltb, le-leb, leb-false}
+use Rattle.std.proofs.Common.{◌≡◌, ℕ, ◌<◌, ◌≤◌, Bool, true, false, ◌&&◌, ltb, leb, [], ◌∷◌, refl, ap, ◌∙◌, arith, ltb-false, lt-ltb, le-leb, leb-false}
 use Rattle.lists.proofs.ListLaws.{by_bool, clash}
-use Rattle.lists.proofs.Tests.{between}
 use Rattle.rules.specs.State.{blank, task_of, partner_of}
 use Rattle.rules.specs.Sound.{good_task}
 use Rattle.rules.specs.Whole.{view_core, is_blank}
 use Rattle.rules.specs.declared.Core.{Core}
 use Rattle.rules.specs.declared.Task.{Task}
 use Rattle.rules.specs.declared.Place.{Place}
-use Rattle.table.proofs.LeafLaws.{task_in, task_past}
+use Rattle.table.proofs.LeafLaws.{task_past}
 use Rattle.table.proofs.PlaceLaws.{Among, in_arm}
 use Rattle.soundness.specs.Check.{good_in}
 
@@ -25,10 +24,7 @@ not-blank = in_arm is_blank false (1 ∷ 2 ∷ 3 ∷ 4 ∷ 5 ∷ 6 ∷ []) tt re
 pub named_is : (n t : ℕ) → 0 < t → t ≤ n → named n t ≡ true
 named_is n t a b = rw (lt-ltb 0 t a, le-leb t n b)
 
--- the task of the number u, where one has it, and where none has
-pub called_one : (s : Core) (u : ℕ) → named s.created u ≡ true → get_or s.tasks (u - 1) blank ≡ task_of (view_core s) u
-called_one s u e = let r = between u s.created e in task_in s.tasks s.created u (λ z. omega arith) r.1
-
+-- no task has the number u
 pub called_none : (s : Core) (u : ℕ) → named s.created u ≡ false → blank ≡ task_of (view_core s) u
 called_none s u e =
     by_bool (leb u s.created)

@@ -83,15 +83,15 @@ module _ (s : Core) (callers : List ℕ) (few : s.created ≤ 31) (long : length
   -- ── the two parts, of any line ──
 
   abbrev good : List ℕ → Bool
-  good x = passed v M.no_marks (changed_word s) true x
+  good x = passed v M.no_marks (changed_word s) x
 
   abbrev free : List ℕ → Bool
-  free x = all_climbed (holders_of s) true (held_word s) x
+  free x = all_climbed (holders_of s) (held_word s) x
 
   found_tree : (good l && free l) ≡ true → Tree v
   found_tree e =
-      let p = (pass_good v l M.no_marks (changed_word s) true refl apart all_held (and_first (good l) (free l) e)).1 in
-      let c = all_known v h (holders_of s) holder l true (held_word s) within known (and_second (good l) (free l) e) in
+      let p = pass_good v l M.no_marks (changed_word s) refl apart all_held (and_first (good l) (free l) e) in
+      let c = all_known v h (holders_of s) holder l (held_word s) within known (and_second (good l) (free l) e) in
       record {
         agree = λ t. record {
           kept = keeps_of v (priority_of v t) (held_by v t) (sym (ap (λ (x : ℕ). keeps v x (held_by v t)) (start_top v t)) ∙ (p t).kept);
@@ -103,11 +103,11 @@ module _ (s : Core) (callers : List ℕ) (few : s.created ≤ 31) (long : length
   tree_found_lem : Tree v → (good l && free l) ≡ true
   tree_found_lem g =
       and_both
-      (good_pass v l M.no_marks (changed_word s) true refl apart all_held refl λ t. record {
+      (good_pass v l M.no_marks (changed_word s) refl apart all_held λ t. record {
         kept = ap (λ (x : ℕ). keeps v x (held_by v t)) (start_top v t) ∙ keeps_test v (priority_of v t) (held_by v t) (g.agree t).kept;
         current = (g.agree t).current ∙ sym (ap (λ (x : ℕ). highest_from (current_of v) x (held_by v t)) (start_top v t));
       })
-      (all_climb v h (holders_of s) holder l true (held_word s) within g.no_ring (λ c j. let i = held_in v c h (line_held c j) in (i.0, i.1)) refl)
+      (all_climb v h (holders_of s) holder l (held_word s) within g.no_ring (λ c j. let i = held_in v c h (line_held c j) in (i.0, i.1)))
 
   -- ── the whole ──
 
@@ -128,4 +128,4 @@ module _ (s : Core) (callers : List ℕ) (few : s.created ≤ 31) (long : length
   found_is =
       by_bool (is_none (marked_in s Held))
       (λ e. rw e (sym (and-true (is_none (changed_word s))) ∙ sym (ap (λ (x : List ℕ). good x && free x) (none_held e)) ∙ both_right))
-      (λ e. rw e (ap (λ (b : Bool). b && free l) (passed_core (view_core s) callers M.no_marks (changed_word s) true l) ∙ both_right))
+      (λ e. rw e (ap (λ (b : Bool). b && free l) (passed_core (view_core s) callers M.no_marks (changed_word s) l) ∙ both_right))

@@ -11,7 +11,7 @@ use Rattle.rules.specs.State.{State, place_of, priority_of, current_of, is_held,
 use Rattle.rules.specs.Callers.{with_callers}
 use Rattle.rules.specs.Tree.{highest_from, keeps}
 use Rattle.rules.proofs.LevelLaws.{higher_least}
-use Rattle.soundness.specs.Marks.{Marks, Whole, has_mark, put_mark, is_none}
+use Rattle.soundness.specs.Marks.{Marks, Whole, has_mark, put_mark}
 use Rattle.soundness.specs.TreeCheck.{top_of, passed}
 use Rattle.soundness.proofs.MarkLaws.{put_whole, has_put, none_has, has_all}
 
@@ -129,26 +129,26 @@ module _ (v : State) where
           current = (f t).current ∙ ap (highest_from (current_of v) (top_of v m t)) (other_line t n) ∙ sym (ap (λ (x : ℕ). highest_from (current_of v) x (filter (holds v t) l)) (other_top t n));
         })
 
-  pub pass_good : (l m : List ℕ) (a : Marks) (b : Bool) → length m ≡ 32 → Apart m a → AllHeld l → passed v m a b l ≡ true → (b ≡ true) × ((t : ℕ) → Right m l t)
-  pass_good [] m a b long apart h e =
-      (and_first b (is_none a) e, λ t. record { kept = refl; current = eqb-true _ _ (not-false _ (sym (apart.has t) ∙ none_has a t (and_second b (is_none a) e))) })
-  pass_good (c ∷ l) m a b long apart h e =
+  pub pass_good : (l m : List ℕ) (a : Marks) → length m ≡ 32 → Apart m a → AllHeld l → passed v m a l ≡ true → (t : ℕ) → Right m l t
+  pass_good [] m a long apart h e = λ t. record { kept = refl; current = eqb-true _ _ (not-false _ (sym (apart.has t) ∙ none_has a t e)) }
+  pass_good (c ∷ l) m a long apart h e =
       let k = eqb (kept_of (place_of v c)) (top_of v m (partner_of (place_of v c))) in
-      let r = pass_good l (m' m a c l long apart h) (a' m a c l long apart h) (b && k) (long' m a c l long apart h) (apart' m a c l long apart h) (rest_held m a c l long apart h) e in
-      (and_first b k r.0, λ t. right_on m a c l long apart h (and_second b k r.0) t (r.1 t))
+      let rest = passed v (m' m a c l long apart h) (a' m a c l long apart h) l in
+      let r = pass_good l (m' m a c l long apart h) (a' m a c l long apart h) (long' m a c l long apart h) (apart' m a c l long apart h) (rest_held m a c l long apart h) (and_second k rest e) in
+      λ t. right_on m a c l long apart h (and_first k rest e) t (r t)
 
-  pub good_pass : (l m : List ℕ) (a : Marks) (b : Bool) → length m ≡ 32 → Apart m a → AllHeld l → b ≡ true → ((t : ℕ) → Right m l t) → passed v m a b l ≡ true
-  good_pass [] m a b long apart h e f = and_both e (has_all a apart.whole (λ t. apart.has t ∙ ap not (eq-eqb _ _ (f t).current)))
-  good_pass (c ∷ l) m a b long apart h e f =
+  pub good_pass : (l m : List ℕ) (a : Marks) → length m ≡ 32 → Apart m a → AllHeld l → ((t : ℕ) → Right m l t) → passed v m a l ≡ true
+  good_pass [] m a long apart h f = has_all a apart.whole (λ t. apart.has t ∙ ap not (eq-eqb _ _ (f t).current))
+  good_pass (c ∷ l) m a long apart h f =
       let x = partner_of (place_of v c) in
       let k = eqb (kept_of (place_of v c)) (top_of v m x) in
-      good_pass l (m' m a c l long apart h) (a' m a c l long apart h) (b && k) (long' m a c l long apart h) (apart' m a c l long apart h) (rest_held m a c l long apart h)
-      (and_both e (and_first k (behind m a c l long apart h) (own_kept m a c l long apart h (f x)))) (right_back m a c l long apart h f)
+      and_both (and_first k (behind m a c l long apart h) (own_kept m a c l long apart h (f x)))
+      (good_pass l (m' m a c l long apart h) (a' m a c l long apart h) (long' m a c l long apart h) (apart' m a c l long apart h) (rest_held m a c l long apart h) (right_back m a c l long apart h f))
 
 -- the pass does not look at the callers
-pub passed_core : (s : State) (q m : List ℕ) (a : Marks) (b : Bool) (l : List ℕ) → passed s m a b l ≡ passed (with_callers s q) m a b l
-passed_core s q m a b [] = refl
-passed_core s q m a b (c ∷ l) =
+pub passed_core : (s : State) (q m : List ℕ) (a : Marks) (l : List ℕ) → passed s m a l ≡ passed (with_callers s q) m a l
+passed_core s q m a [] = refl
+passed_core s q m a (c ∷ l) =
     let g = partner_of (place_of s c) in
     let now = higher (top_of s m g) (current_of s c) in
-    passed_core s q (set m g now) (put_mark a g (not (eqb (current_of s g) now))) (b && eqb (kept_of (place_of s c)) (top_of s m g)) l
+    ap (λ (b : Bool). eqb (kept_of (place_of s c)) (top_of s m g) && b) (passed_core s q (set m g now) (put_mark a g (not (eqb (current_of s g) now))) l)

@@ -1,6 +1,6 @@
 -- The whole check: its parts, line by line, against the rules, which go task by task.
 -- Assumes nothing.
-use Rattle.std.proofs.Common.{◌≡◌, ℕ, ◌<◌, ◌≤◌, Bool, true, false, ◌&&◌, eqb, leb, List, [], ◌∷◌, ◌++◌, length, drop, sym, refl, ap, ◌∙◌, arith, length-take-le, le-leb, leb-true}
+use Rattle.std.proofs.Common.{◌≡◌, ℕ, ◌<◌, ◌≤◌, Bool, true, ◌&&◌, eqb, leb, List, [], ◌∷◌, ◌++◌, length, drop, sym, refl, ap, ◌∙◌, arith, length-take-le, le-leb, leb-true}
 use mathlib.Core.Bool.{and-false, and_assoc, and_comm}
 use Rattle.lists.specs.Line.{line, tidy}
 use Rattle.lists.specs.Lists.{bit, count, every, in_order_by, down_from}
@@ -10,17 +10,16 @@ use Rattle.rules.specs.Sound.{stands_right, tree_right, standing, sound}
 use Rattle.rules.specs.Callers.{with_callers}
 use Rattle.rules.specs.Whole.{view_core, unused, packed_core, sound_whole}
 use Rattle.rules.specs.declared.Supervisor.{Supervisor}
-use Rattle.soundness.specs.declared.Checked.{Checked}
 use Rattle.rules.specs.declared.Core.{Core}
 use Rattle.table.specs.Moved.{left_of}
-use Rattle.soundness.specs.declared.Told.{Told}
-use Rattle.soundness.specs.Check.{Line, Ready, Callers, Held, Delays, good_in, belongs, marked_in, changed_in, told_of, stands_in, checked_of, holds_in, any_order}
+use Rattle.soundness.specs.Check.{Line, Ready, Callers, Held, Delays, good_in, belongs, marked_in, changed_in, stands_in, core_sound, checked_of, holds_in, ascending}
+use Rattle.soundness.specs.Marks.{Marks, if_any}
 use Rattle.soundness.specs.TreeCheck.{tree_found}
 use Rattle.soundness.proofs.TreeFound.{found_is}
 use Rattle.rules.proofs.SoundTest.{standing_props}
 use Rattle.lists.proofs.Tests.{and_second}
 use Rattle.soundness.proofs.TaskLaws.{named}
-use Rattle.soundness.proofs.LineLaws.{line_has, ascending, holds_any, holds_is, stands_is}
+use Rattle.soundness.proofs.LineLaws.{line_has, and_swap, holds_any, stands_is}
 
 -- ── order: each at most the next is each at most all behind ──
 
@@ -82,17 +81,12 @@ stand_is v d =
 
 -- ── the whole ──
 
--- the first two of three tests change places: with this, `simp` sorts tests that are taken together
-pub and_swap : (a b c : Bool) → (a && (b && c)) ≡ (b && (a && c))
-and_swap true b c = refl
-and_swap false b c = sym (and-false b)
-
 last_swap : (a b c : Bool) → ((a && b) && c) ≡ ((a && c) && b)
 last_swap a b c = and_assoc a b c ∙ ap (λ (x : Bool). a && x) (and_comm b c) ∙ sym (and_assoc a c b)
 
 -- the same tests and the order, in the code's grouping and in the rules'; t is what else is asked of the callers' own arrays
 regroup : (u t1 t t3 t4 g c1 c2 c3 c4 n1 n2 n3 n4 o : Bool)
-    → ((((u && g) && (((t1 && n1) && c1) && ((t3 && n3) && c3))) && (((t4 && n4) && c4) && o)) && ((t && n2) && c2))
+    → ((((g && u) && (((t1 && n1) && c1) && ((t3 && n3) && c3))) && (((t4 && n4) && c4) && o)) && ((t && n2) && c2))
     ≡ (((((u && t1) && t3) && t4) && t) && ((((((g && c1) && c2) && c3) && c4) && (((n1 && n2) && n3) && n4)) && o))
 regroup u t1 t t3 t4 g c1 c2 c3 c4 n1 n2 n3 n4 o = simp (and_assoc, and_comm, and_swap)
 
@@ -116,17 +110,17 @@ standing_is s l t k p =
     let stand = ap (λ (m : ℕ). every (stands_right v) (down_from m)) n ∙ stand_is v z in
     let order = sym (order_whole (left_of s) w) in
     let q : leb (created v) 31 ≡ true = le-leb (created v) 31 (omega arith) in
-    rw (p, stands_is s Ready h, stands_is s Held h, holds_is s Delays (left_of s) h, q, stand, all, order)
+    rw (p, stands_is s Ready h, stands_is s Held h, stands_is s Delays h, q, stand, all, order)
     (regroup (every unused (drop s.created s.tasks)) (tidy s.ready) t (tidy s.held) (tidy s.delays)
     (every (good_in v) z) (every (right v Ready a) z) (every (right v Callers l) z) (every (right v Held d) z) (every (right v Delays w) z)
     (every f a) (every f l) (every f d) (every f w) (ascending (left_of s) 0 w))
 
 -- with the tree, which does not tell of the callers, it is soundness with these callers
-pub core_is : (s : Core) (l : List ℕ) (t : Bool) → s.clock < 4294967296 → length s.tasks ≡ 31 → ((checked_of s).good && callers_right s l t) ≡ ((packed_core s && t) && sound (with_callers (view_core s) l))
+pub core_is : (s : Core) (l : List ℕ) (t : Bool) → s.clock < 4294967296 → length s.tasks ≡ 31 → (core_sound s && callers_right s l t) ≡ ((packed_core s && t) && sound (with_callers (view_core s) l))
 unfolding sound
 core_is s l t clock k = by_bool (leb s.created 31) fits (λ e. rw e)
   where
-    fits : leb s.created 31 ≡ true → ((checked_of s).good && callers_right s l t) ≡ ((packed_core s && t) && sound (with_callers (view_core s) l))
+    fits : leb s.created 31 ≡ true → (core_sound s && callers_right s l t) ≡ ((packed_core s && t) && sound (with_callers (view_core s) l))
     fits p =
         let v = with_callers (view_core s) l in
         let a = stands_in s in let b = callers_right s l t in let f = tree_found s (marked_in s Held) (changed_in s) in let z = every (tree_right v) (down_from (created v)) in
@@ -135,24 +129,21 @@ core_is s l t clock k = by_bool (leb s.created 31) fits (λ e. rw e)
         by_bool (a && b)
         (λ y. ap (λ (x : Bool). (a && b) && x) (found_is s l (leb-true s.created 31 p) k (standing_props v clock (and_second (packed_core s && t) (standing v) (sym e ∙ y)))))
         (λ y. rw y) in
-        let g : (checked_of s).good ≡ (a && f) = rw p in
+        let g : core_sound s ≡ (a && f) = rw p in
         ap (λ (x : Bool). x && b) g ∙ last_swap a f b ∙ q ∙ ap (λ (x : Bool). x && z) e ∙ and_assoc (packed_core s && t) (standing v) z
 
--- what the code finds of a core
-pub checked_is : (s : Core) (told : Told) (u l d f : Bool) → s.created ≤ 31 → told ≡ told_of s → u ≡ every unused (drop s.created s.tasks)
-    → l ≡ (holds_in any_order told.ready s.ready && holds_in any_order told.held s.held) → d ≡ holds_in (left_of s) told.delays s.delays → f ≡ tree_found s told.held told.changed
-    → ◌≡◌ {A = Checked} (record { good = (((u && told.good) && l) && d) && f; callers = told.callers }) (checked_of s)
-checked_is s told u l d f h et eu el ed ef = rw (le-leb s.created 31 h, eu, el, ed, ef, et)
+-- who belongs into the queues is asked for where a core is sound
+pub if_sound : (s : Core) (f : Marks → Bool) → if_any (checked_of s) f ≡ (core_sound s && f (marked_in s Callers))
+if_sound s f = by_bool (core_sound s) (λ e. rw e) (λ e. rw e)
 
 -- what the code finds, of the core and of the line of callers
-pub sound_is : (s : Supervisor) (c : Checked) (b : Bool) → s.core.clock < 4294967296 → length s.core.tasks ≡ 31 → c ≡ checked_of s.core → b ≡ holds_in any_order c.callers s.callers → (c.good && b) ≡ sound_whole s
+pub sound_is : (s : Supervisor) → s.core.clock < 4294967296 → length s.core.tasks ≡ 31 → if_any (checked_of s.core) (λ w. holds_in w s.callers) ≡ sound_whole s
 unfolding line_has
-sound_is s c b clock k ec eb =
-    by_bool (leb s.core.created 31)
+sound_is s clock k =
+    if_sound s.core (λ w. holds_in w s.callers)
+    ∙ by_bool (leb s.core.created 31)
     (λ p.
     let h : s.core.created ≤ 31 = leb-true s.core.created 31 p in
-    let m : c.callers ≡ marked_in s.core Callers = ap (λ (x : Checked). x.callers) ec ∙ rw p in
     let f : ℕ → Bool = λ t. belongs Callers (task_of (view_core s.core) t) in
-    let q : b ≡ callers_right s.core (line s.callers) (tidy s.callers) = eb ∙ ap (λ (x : ℕ). holds_in any_order x s.callers) m ∙ holds_any s.core.created f s.callers h in
-    (λ i. (ec i).good && q i) ∙ core_is s.core (line s.callers) (tidy s.callers) clock k)
-    (λ p. ap (λ (x : Checked). x.good && b) ec ∙ rw p)
+    ap (λ (b : Bool). core_sound s.core && b) (holds_any s.core.created f s.callers h) ∙ core_is s.core (line s.callers) (tidy s.callers) clock k)
+    (λ p. rw p)

@@ -1,13 +1,13 @@
 -- What the parts of the soundness check answer.
 -- Assumes nothing.
-use Rattle.std.specs.Prelude.{ℕ, zero, suc, Bool, false, not, ◌&&◌, List, [], ◌∷◌, drop, ◌==◌, nat_le}
-use Rattle.lists.specs.Line.{blanks}
-use Rattle.lists.specs.Lists.{when◌then◌else◌, every, down_from}
+use Rattle.std.specs.Prelude.{ℕ, zero, suc, Bool, true, false, not, ◌&&◌, List, [], ◌∷◌, drop, ◌==◌, nat_le, Option}
+use Rattle.std.specs.Bool.{then_some}
+use Rattle.lists.specs.Line.{blanks, line}
+use Rattle.lists.specs.Lists.{every, down_from}
 use Rattle.rules.specs.Sound.{good_task}
 use Rattle.rules.specs.State.{State, task_of, place_of, partner_of, is_ready, is_queued, is_held, has_time}
 use Rattle.rules.specs.Whole.{view_core, unused}
 use Rattle.table.specs.Moved.{left_of}
-use Rattle.soundness.specs.declared.Checked.{Checked}
 use Rattle.rules.specs.declared.Core.{Core}
 use Rattle.rules.specs.declared.Task.{Task}
 use Rattle.soundness.specs.declared.Told.{Told}
@@ -50,10 +50,9 @@ is_changed x = not (x.current == x.priority)
 abbrev pub changed_in : Core → Marks
 changed_in s = marked (λ t. is_changed (task_of (view_core s) t)) no_marks (down_from s.created)
 
--- what the pass over the table tells
-abbrev pub told_of : Core → Told
-told_of s = record {
-  good = every (good_in (view_core s)) (down_from s.created);
+-- who of the created tasks belongs where
+abbrev pub words_of : Core → Told
+words_of s = record {
   ready = marked_in s Ready;
   callers = marked_in s Callers;
   held = marked_in s Held;
@@ -61,32 +60,43 @@ told_of s = record {
   changed = changed_in s;
 }
 
+-- what the pass over the table tells, if each is good
+abbrev pub told_of : Core → Option Told
+told_of s = then_some (every (good_in (view_core s)) (down_from s.created)) (words_of s)
+
 -- ── the walk over a line ──
 
--- a walk over an array: each number is still to be met as the walk comes to it, and its key is at least the key before;
--- behind the numbers none is still to be met, and there are blanks alone
-abbrev pub walked : (ℕ → ℕ) → Marks → ℕ → List ℕ → Bool
-walked k m a [] = is_none m
-walked k m a (zero ∷ xs) = is_none m && blanks xs
-walked k m a (suc n ∷ xs) = (has_mark m (suc n) && nat_le a (k (suc n))) && walked k (without_mark m (suc n)) (k (suc n)) xs
+-- a walk over an array: each number is still to be met as the walk comes to it; behind the numbers none is still to be met, and there
+-- are blanks alone
+abbrev pub walked : Marks → List ℕ → Bool
+walked m [] = is_none m
+walked m (zero ∷ xs) = is_none m && blanks xs
+walked m (suc n ∷ xs) = has_mark m (suc n) && walked (without_mark m (suc n)) xs
 
--- the array holds those of the word, where task 1 is bit 0, each once, and nothing else, with their keys in order
-abbrev pub holds_in : (ℕ → ℕ) → Marks → List ℕ → Bool
-holds_in k m a = walked k (next_mark m false) 0 a
+-- the array holds those of the word, where task 1 is bit 0, each once, and nothing else
+abbrev pub holds_in : Marks → List ℕ → Bool
+holds_in m a = walked (next_mark m false) a
 
--- keys that are in order however the tasks stand
-abbrev pub any_order : ℕ → ℕ
-any_order x = 0
+-- a is at most the first key, and each key at most the next
+abbrev pub ascending : (ℕ → ℕ) → ℕ → List ℕ → Bool
+ascending k a [] = true
+ascending k a (x ∷ xs) = nat_le a (k x) && ascending k (k x) xs
+
+-- the delay queue holds those of the word, in the order of their times
+abbrev pub delays_hold : Core → Marks → Bool
+delays_hold s m = holds_in m s.delays && ascending (left_of s) 0 (line s.delays)
 
 -- ── the core ──
 
 -- all stand right but for the callers, where at most 31 tasks are created
 abbrev pub stands_in : Core → Bool
 stands_in s =
-    ((every unused (drop s.created s.tasks) && (told_of s).good) && (holds_in any_order (told_of s).ready s.ready && holds_in any_order (told_of s).held s.held)) && holds_in (left_of s) (told_of s).delays s.delays
+    ((every (good_in (view_core s)) (down_from s.created) && every unused (drop s.created s.tasks)) && (holds_in (words_of s).ready s.ready && holds_in (words_of s).held s.held)) && delays_hold s (words_of s).delays
 
--- what the check of a core tells: whether it is sound but for the callers, and who belongs into their queues
-abbrev pub checked_of : Core → Checked
-checked_of s =
-    when nat_le s.created 31 then record { good = stands_in s && tree_found s (told_of s).held (told_of s).changed; callers = (told_of s).callers }
-    else record { good = false; callers = 0 }
+-- a core that is sound but for the callers
+abbrev pub core_sound : Core → Bool
+core_sound s = nat_le s.created 31 && (stands_in s && tree_found s (words_of s).held (words_of s).changed)
+
+-- what the check of a core tells, if it is sound but for the callers: who belongs into their queues
+abbrev pub checked_of : Core → Option Marks
+checked_of s = then_some (core_sound s) (words_of s).callers

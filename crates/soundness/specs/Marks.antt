@@ -1,6 +1,6 @@
 -- The word of the check: bit t says that task t is still to be met in a line.
 -- Assumes nothing.
-use Rattle.std.specs.Prelude.{ℕ, ◌+◌, ◌*◌, ◌/◌, ◌%◌, ◌^◌, ◌<◌, Bool, not, ◌&&◌, ◌||◌, ◌==◌, bit_xor, nat_lt}
+use Rattle.std.specs.Prelude.{ℕ, ◌+◌, ◌*◌, ◌/◌, ◌%◌, ◌^◌, ◌<◌, Bool, false, not, ◌&&◌, ◌||◌, ◌==◌, bit_xor, nat_lt, Option, None, Some}
 use Rattle.lists.specs.Lists.{when◌then◌else◌, bit}
 
 -- which tasks are still to be met
@@ -30,6 +30,11 @@ without_mark m t = when nat_lt t 32 then bit_xor m (2 ^ t) else m
 -- t is marked exactly if so said; the others as before
 unfoldable pub put_mark : Marks → ℕ → Bool → Marks
 put_mark m t here = when (has_mark m t && not here) || (here && not (has_mark m t)) then without_mark m t else m
+
+-- the test of the word, if there is one
+abbrev pub if_any : Option Marks → (Marks → Bool) → Bool
+if_any None f = false
+if_any (Some m) f = f m
 
 -- no task is still to be met
 unfoldable pub is_none : Marks → Bool

@@ -8,11 +8,11 @@ ghost use Rattle.std.specs.Prelude.{◌≡◌, ◌≤◌, ◌&&◌, drop};
 ghost use Rattle.lists.specs.Lists.{every};
 ghost use Rattle.rules.specs.Second.{sound_second};
 ghost use Rattle.rules.specs.Whole.{unused, sound_whole};
-ghost use Rattle.soundness.specs.Check.{any_order, holds_in, told_of, checked_of};
+ghost use Rattle.soundness.specs.Check.{holds_in, told_of, checked_of};
 
 use rules::{Core, Row, Second, Supervisor};
-use table::place::{has_time, is_between, is_held, is_queued, is_ready, partner_of};
-use table::tasks::blank_task;
+use table::place::{has_time, is_held, is_queued, is_ready, partner_of};
+use table::tasks::{index_of, shown};
 
 mod marks;
 mod rows;
@@ -24,22 +24,16 @@ mod tree;
 fn all_unused(s: Core) -> bool
     ensures { result ≡ every unused (drop s.created s.tasks) }
 {
-    let mut i = s.created as usize;
-    while i < 31 {
-        if task::is_unused(s.tasks[i]) {
-            i += 1;
-        } else {
-            return false;
-        }
-    }
-    true
+    s.tasks
+        .iter()
+        .skip(usize::from(s.created))
+        .all(|x| task::is_unused(*x))
 }
 
-// What is told of the created tasks: whether each is good, beside the task that it has called; for each line which of them belong into
-// it; and which have another current priority than the one with which they were created.
+// What is told of the created tasks: for each line which of them belong into it, and which have another current priority than the one
+// with which they were created.
 #[derive(Clone, Copy)]
 struct Told {
-    good: bool,
     ready: u32,
     callers: u32,
     held: u32,
@@ -47,91 +41,70 @@ struct Told {
     changed: u32,
 }
 
-// One pass over the created tasks, from the last to the first.
-fn told_of(s: Core) -> Told
+// One pass over the created tasks, from the last to the first, if each is good beside the task that it has called.
+fn told_of(s: Core) -> Option<Told>
     requires { s.created ≤ 31 }
     ensures { result ≡ told_of s }
 {
-    let mut good = true;
     let mut ready: u32 = 0;
     let mut callers: u32 = 0;
     let mut held: u32 = 0;
     let mut delays: u32 = 0;
     let mut changed: u32 = 0;
-    let mut t = s.created;
-    while t > 0 {
-        let i = (t - 1) as usize;
-        let x = s.tasks[i];
-        let p = x.place;
-        let w = x.timer;
-        let u = partner_of(p);
-        let mut g = blank_task();
-        if is_between(u, s.created) {
-            let at = (u - 1) as usize;
-            g = s.tasks[at];
+    for &x in s.tasks[..usize::from(s.created)].iter().rev() {
+        let u = partner_of(x.place);
+        let at = index_of(u);
+        let called = shown(s.created, u, s.tasks[at]);
+        if !task::is_good(s.clock, x, called) {
+            return None;
         }
-        good = good & task::is_good(s.clock, x, g);
-        ready = marks::next(ready, is_ready(p));
-        callers = marks::next(callers, is_queued(p));
-        held = marks::next(held, is_held(p));
-        delays = marks::next(delays, has_time(w));
+        ready = marks::next(ready, is_ready(x.place));
+        callers = marks::next(callers, is_queued(x.place));
+        held = marks::next(held, is_held(x.place));
+        delays = marks::next(delays, has_time(x.timer));
         changed = marks::next(changed, x.current != x.priority);
-        t -= 1;
     }
-    Told {
-        good,
+    Some(Told {
         ready,
         callers,
         held,
         delays,
         changed,
-    }
+    })
 }
 
 // Whether two of the lines hold those who belong into them. The lines are taken out of the state: looked up in it, they would copy it whole.
 fn lines_hold(s: Core, told: Told) -> bool
-    ensures { result ≡ (holds_in any_order told.ready s.ready && holds_in any_order told.held s.held) }
+    ensures { result ≡ (holds_in told.ready s.ready && holds_in told.held s.held) }
 {
     let ready = s.ready;
     let held = s.held;
     stand::holds(&ready, told.ready) & stand::holds(&held, told.held)
 }
 
-// Whether a core is sound but for the callers, and who belongs into their queues: task 1 is bit 0.
-#[derive(Clone, Copy)]
-pub struct Checked {
-    pub good: bool,
-    pub callers: u32,
-}
-
-// The check of a core: what both engines share.
-fn core_check(s: Core) -> Checked
+// The check of a core, which both engines share: if it is sound but for the callers, who belongs into their queues. Task 1 is bit 0.
+fn core_check(s: Core) -> Option<u32>
     ensures { result ≡ checked_of s }
 {
     if s.created > 31 {
-        return Checked {
-            good: false,
-            callers: 0,
-        };
+        return None;
     }
-    let told = told_of(s);
-    let stands = all_unused(s)
-        & told.good
+    let told = told_of(s)?;
+    let good = all_unused(s)
         & lines_hold(s, told)
-        & stand::delays_hold(s, told.delays);
-    let good = stands & tree::is_tree(s, told.held, told.changed);
-    Checked {
-        good,
-        callers: told.callers,
-    }
+        & stand::delays_hold(s, told.delays)
+        & tree::is_tree(s, told.held, told.changed);
+    good.then_some(told.callers)
 }
 
 // Whether the state of the first engine is sound, handed in by its two parts: who has them does not copy the whole.
 pub fn parts_sound(core: Core, callers: [u8; 31]) -> bool
     ensures { result ≡ sound_whole (record { core = core; callers = callers }) }
 {
-    let c = core_check(core);
-    c.good & stand::holds(&callers, c.callers)
+    match core_check(core) {
+        Some(queued) => stand::holds(&callers, queued),
+        None => false,
+    }
 }
 
 // Whether the state of the first engine is sound.
@@ -146,9 +119,10 @@ pub fn is_sound(s: Supervisor) -> bool
 pub fn rows_sound(core: Core, rows: [Row; 31]) -> bool
     ensures { result ≡ sound_second (record { core = core; rows = rows }) }
 {
-    let c = core_check(core);
-    let targets = rows::targets_of(core);
-    c.good & rows::rows_hold(rows, targets, c.callers)
+    match core_check(core) {
+        Some(queued) => rows::rows_hold(rows, rows::targets_of(core), queued),
+        None => false,
+    }
 }
 
 // Whether the state of the second engine is sound.

@@ -13,7 +13,7 @@ pub fn has(word: u32, t: u8) -> bool
 pub fn next(word: u32, here: bool) -> u32
     ensures { result ≡ next_mark word here }
 {
-    (word % 2147483648) * 2 + (here as u32)
+    (word % 2147483648) * 2 + (u32::from(here))
 }
 
 // The word where task t, which was to be met, is no longer.
@@ -27,8 +27,7 @@ pub fn without(word: u32, t: u8) -> u32
 pub fn put(word: u32, t: u8, here: bool) -> u32
     ensures { result ≡ put_mark word t here }
 {
-    let there = has(word, t);
-    if (there & !here) | (here & !there) {
+    if has(word, t) != here {
         without(word, t)
     } else {
         word

@@ -9,10 +9,7 @@ use table::place::{accepts_at, has_time, in_range, is_between, is_completed, is_
 fn is_blank(p: Place) -> bool
     ensures { result ≡ is_blank p }
 {
-    match p {
-        Place::Blank => true,
-        _ => false,
-    }
+    matches!(p, Place::Blank)
 }
 
 pub fn is_unused(x: Task) -> bool
@@ -56,7 +53,7 @@ fn is_in_time(now: u32, w: Timer) -> bool
     match w {
         Timer::Off => true,
         Timer::Due(d) => {
-            let left = std::num::wrapping_sub_u32(d, now);
+            let left = d.wrapping_sub(now);
             (0 < left) & (left <= 2147483647)
         }
     }

@@ -1,6 +1,6 @@
 // The tree of held callers: no ring of holders, and stored priorities that agree with it. Where nobody is held, nothing is looked at but
 // two words. Else one pass over those held, and then a climb from each, which ends at the first that is known to reach the top.
-ghost use Rattle.std.specs.Prelude.{◌≡◌, true};
+ghost use Rattle.std.specs.Prelude.{◌≡◌};
 ghost use Rattle.lists.specs.Line.{line};
 ghost use Rattle.lists.specs.Marks.{mark_of};
 ghost use Rattle.rules.specs.State.{higher};
@@ -12,56 +12,38 @@ use rules::Core;
 use table::place::{higher_of, kept_of, partner_of};
 use table::tasks::{index_of, shown};
 
-// What a climb has reached: whether one that was known before, and who is still to be met.
-#[derive(Clone, Copy)]
-struct Reached {
-    good: bool,
-    rest: u32,
-}
-
-// From task t to its holder, and on, up to the first that is not to be met: all on the way are met. In a ring that one was met on the way.
-fn climb(holders: [u8; 32], word: u32, t: u8) -> Reached
+// From task t to its holder, and on, up to the first that is not to be met: all on the way are met. Who is still to be met then; none in a
+// ring, where that one was met on the way.
+fn climb(holders: [u8; 32], word: u32, t: u8) -> Option<u32>
     ensures { result ≡ climbed holders word 31 word t }
 {
     let mut rest = word;
     let mut u = t;
-    let mut i: u8 = 0;
-    while i < 31 {
-        if marks::has(rest, u) {
-            rest = marks::without(rest, u);
-            u = mark_of(holders, u);
-            i += 1;
-        } else {
-            let good = !marks::has(word, u);
-            return Reached { good, rest };
+    for _turn in 0..31u8 {
+        if !marks::has(rest, u) {
+            return (!marks::has(word, u)).then_some(rest);
         }
+        rest = marks::without(rest, u);
+        u = mark_of(holders, u);
     }
-    Reached { good: false, rest }
+    None
 }
 
 // Whether all of the line, who are to be met, climb to the top.
 fn all_climb(held: [u8; 31], holders: [u8; 32], word: u32) -> bool
-    ensures { result ≡ all_climbed holders true word (line held) }
+    ensures { result ≡ all_climbed holders word (line held) }
 {
-    let mut good = true;
     let mut rest = word;
-    for i in 0..31 {
-        let t = held[i];
+    for t in held {
         if t == 0 {
-            return good;
+            return true;
         }
-        let k = climb(holders, rest, t);
-        good = good & k.good;
-        rest = k.rest;
+        let Some(left) = climb(holders, rest, t) else {
+            return false;
+        };
+        rest = left;
     }
-    good
-}
-
-// What the pass over those held finds: whether the stored priorities agree, and the holder of each.
-#[derive(Clone, Copy)]
-struct Seen {
-    good: bool,
-    holders: [u8; 32],
+    true
 }
 
 // The highest of g's own priority, with which it was created, and of its mark.
@@ -71,32 +53,29 @@ fn top_of(own: u8, tops: [u8; 32], g: u8) -> u8
     higher_of(own, mark_of(tops, g))
 }
 
-// One pass over those held, where the tasks of the word have another current priority than the one with which they were created. Each
-// caller keeps what its holder had before; `apart` are those whose current priority is not that of the callers met so far.
-fn seen_of(s: Core, word: u32) -> Seen
+// One pass over those held, where the tasks of the word have another current priority than the one with which they were created: the
+// holder of each, if the stored priorities agree. Each caller keeps what its holder had before; `apart` are those whose current priority
+// is not that of the callers met so far.
+fn seen_of(s: Core, word: u32) -> Option<[u8; 32]>
     ensures { result ≡ seen_of s word }
 {
-    let mut good = true;
     let mut apart = word;
     let mut tops = [0u8; 32];
     let mut holders = [0u8; 32];
-    for i in 0..31 {
-        let c = s.held[i];
+    for c in s.held {
         if c == 0 {
-            return Seen {
-                good: good & marks::is_none(apart),
-                holders,
-            };
+            return marks::is_none(apart).then_some(holders);
         }
         let at = index_of(c);
         let x = shown(s.created, c, s.tasks[at]);
-        let p = x.place;
-        let g = partner_of(p);
+        let g = partner_of(x.place);
         let to = index_of(g);
         let y = shown(s.created, g, s.tasks[to]);
         let top = top_of(y.priority, tops, g);
+        if kept_of(x.place) != top {
+            return None;
+        }
         let now = higher_of(top, x.current);
-        good = good & (kept_of(p) == top);
         apart = marks::put(apart, g, y.current != now);
         if g < 32 {
             tops[g as usize] = now;
@@ -105,10 +84,7 @@ fn seen_of(s: Core, word: u32) -> Seen
             holders[c as usize] = g;
         }
     }
-    Seen {
-        good: good & marks::is_none(apart),
-        holders,
-    }
+    marks::is_none(apart).then_some(holders)
 }
 
 // What is found of the tree, where the words say who belongs into the line of those held, and who has another current priority than the one
@@ -120,8 +96,9 @@ pub fn is_tree(s: Core, held: u32, changed: u32) -> bool
     if marks::is_none(held) {
         return marks::is_none(apart);
     }
-    let seen = seen_of(s, apart);
     let line = s.held;
-    let holders = seen.holders;
-    seen.good & all_climb(line, holders, marks::next(held, false))
+    let Some(holders) = seen_of(s, apart) else {
+        return false;
+    };
+    all_climb(line, holders, marks::next(held, false))
 }

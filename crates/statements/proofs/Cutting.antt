@@ -9,7 +9,8 @@ use lib.ListN.{length}
 use Rattle.lists.specs.Lists.{when◌then◌else◌}
 use Rattle.lists.proofs.ListLaws.{by_bool}
 use Rattle.rules.specs.State.{empty}
-use Rattle.rules.specs.Step.{take_call, room_after, SHORT_ROOM, BAD_STATE}
+use Rattle.rules.specs.Step.{take_call, room_after}
+use Rattle.rules.specs.declared.Refusal.TheVariants.{ShortRoom, BadState}
 use Rattle.rules.specs.Whole.{Typed, view, sound_whole, Whole, decline, done, step_whole, stepped_of}
 use Rattle.rules.specs.Runs.{start}
 use Rattle.rules.specs.Uses.{Use, Keeps, Chain, items_in}
@@ -28,7 +29,7 @@ use Rattle.statements.specs.Cutting.{ended_in, RoomsAlike, LikeTick, TicksAlike,
 -- a step looks at its room's length only to see whether it is enough
 same_room : (s : Supervisor) (c : C.Call) (u v : Use) → RoomsAlike u v → step_whole s c (length v.lent) ≡ step_whole s c (length u.lent)
 unfolding step_whole
-same_room s c u v e = ap (λ (b : Bool). when b then decline s SHORT_ROOM 0 else when not (sound_whole s) then decline s BAD_STATE 0 else done s (take_call (view s) c)) (sym e)
+same_room s c u v e = ap (λ (b : Bool). when b then decline s ShortRoom 0 else when not (sound_whole s) then decline s BadState 0 else done s (take_call (view s) c)) (sym e)
 
 -- the rules' step of a use with this call
 called : (s : Supervisor) (u : Use) {c : C.Call} → u.call ≡ c → step_whole s u.call (length u.lent) ≡ step_whole s c (length u.lent)

@@ -1,6 +1,6 @@
 -- TICK and ADVANCE: those whose time comes within their ticks, and what is to be answered.
 -- Assumes nothing.
-use Rattle.std.proofs.Common.{◌≡◌, ℕ, ◌+◌, ◌≤◌, Bool, true, false, not, eqb, List, [], ◌∷◌, map, length, sym, refl, ap, ◌∙◌, append-nil, arith}
+use Rattle.std.proofs.Common.{◌≡◌, ℕ, ◌+◌, ◌≤◌, Bool, true, false, not, eqb, List, [], ◌∷◌, map, length, Ok, sym, refl, ap, ◌∙◌, append-nil, arith}
 use lib.ListN.{length-map}
 use mir.Val.{bool_byte}
 use Rattle.lists.specs.Line.{line, pad}
@@ -65,12 +65,12 @@ abbrev clocked : ℕ → Core → Core
 clocked reading m = record { clock = reading; created = m.created; tasks = m.tasks; ready = m.ready; held = m.held; delays = m.delays }
 
 -- once those of the line l have been woken, and the clock stands at its reading
-pub passed_answers : (s : Core) (v : State) (l : List ℕ) (m : Core) (n k e reading : ℕ) (room last : List ℕ) {r : Taken}
+pub passed_answers : (v : State) (l : List ℕ) (m : Core) (n k e reading : ℕ) (room last : List ℕ) {r : Taken}
     → l ≡ due_within v n → reading ≡ after v.clock n → WokenAs v false l m k room last → r ≡ taken_as (clocked reading m) (item 0 DONE e 0) k
-    → (r ≡ taken_of s (passing v n e)) × (last ≡ room_after room (ended_by (passing v n e)))
-passed_answers s v l m n k e reading room last q c w a =
+    → (Ok r ≡ taken_of (passing v n e)) × (last ≡ room_after room (ended_by (passing v n e)))
+passed_answers v l m n k e reading room last q c w a =
     let d = due_within v n in (
-      answers s (clocked reading m) (set_clock (wake_all v d) (after v.clock n)) (item 0 DONE e 0) (map (expired v) d) a
+      answers (clocked reading m) (set_clock (wake_all v d) (after v.clock n)) (item 0 DONE e 0) (map (expired v) d) a
           (λ i. clocked (c i) ((w.state ∙ ap (λ (x : List ℕ). pack_core (wake_all v x)) q) i))
           (w.number ∙ ap length q ∙ sym (length-map d (expired v))),
       w.written ∙ ap (λ (x : List ℕ). room_after room (map (expired v) x)) q,

@@ -3,7 +3,8 @@
 use Rattle.std.proofs.Common.{◌≡◌, ℕ, zero, suc, ◌<◌, ◌≤◌, Bool, true, false, ◌&&◌, ltb, leb, [], ◌∷◌, length, refl, ◌∙◌, arith}
 use Rattle.lists.proofs.Tests.{between}
 use Rattle.rules.specs.State.{State, created, task_of, wake, running, after, is_task, has_entry, place_of, is_completed, accepts, meet}
-use Rattle.rules.specs.Step.{refused, took, NO_TASK, NO_TARGET, NO_ENTRY, item, WAITS, TASKING_ERROR, ACCEPTED, ticks, enqueue, timed_call, call_busy, call, take_call}
+use Rattle.rules.specs.Step.{refused, took, item, WAITS, TASKING_ERROR, ACCEPTED, ticks, enqueue, timed_call, call_busy, call, take_call}
+use Rattle.rules.specs.declared.Refusal.TheVariants.{NoTask, NoTarget, NoEntry}
 use Rattle.lists.specs.Lists.{remove}
 use Rattle.rules.specs.Callers.{with_callers}
 use Rattle.rules.specs.Whole.{view_core, pack_core}
@@ -20,12 +21,11 @@ use Rattle.steps.specs.Taken.{Stands, ended_by}
 use Rattle.steps.proofs.MoveLaws.{moved_packed, met_state, created_is}
 use Rattle.steps.proofs.AnswerLaws.{no_runner, of_runner}
 
-module _ (v : State) (t g e : ℕ) (m : CallMode) (run : t ≡ running v) where
-  pub enter_none : t ≡ 0 → take_call v (Call g e m) ≡ refused NO_TASK
-  enter_none z = no_runner v t (λ t. call v t g e m) run z
+pub enter_none : (v : State) (g e : ℕ) (m : CallMode) → running v ≡ 0 → take_call v (Call g e m) ≡ refused NoTask
+enter_none v g e m = no_runner v (λ t. call v t g e m)
 
-  pub enter_one : (t ≡ 0 → ⊥) → take_call v (Call g e m) ≡ call v t g e m
-  enter_one z = of_runner v t (λ t. call v t g e m) run z
+pub enter_one : (v : State) (t g e : ℕ) (m : CallMode) → t ≡ running v → (t ≡ 0 → ⊥) → take_call v (Call g e m) ≡ call v t g e m
+enter_one v t g e m = of_runner v t (λ t. call v t g e m)
 
 module _ (s : Core) (b : Bool) (g : ℕ) (h : Stands s) (is : b ≡ (ltb 0 g && leb g s.created)) where
   pub no_task : b ≡ false → is_task (view_core s) g ≡ false
@@ -35,10 +35,10 @@ module _ (s : Core) (b : Bool) (g : ℕ) (h : Stands s) (is : b ≡ (ltb 0 g && 
   a_task z = rw (← created_is s h, ← is) z
 
 module _ (v : State) (t g e : ℕ) (m : CallMode) where
-  pub call_target : is_task v g ≡ false → call v t g e m ≡ refused NO_TARGET
+  pub call_target : is_task v g ≡ false → call v t g e m ≡ refused NoTarget
   call_target q1 = rw q1
 
-  pub call_entry : is_task v g ≡ true → has_entry (task_of v g) e ≡ false → call v t g e m ≡ refused NO_ENTRY
+  pub call_entry : is_task v g ≡ true → has_entry (task_of v g) e ≡ false → call v t g e m ≡ refused NoEntry
   call_entry q1 q2 = rw (q1, q2)
 
   pub call_dead : is_task v g ≡ true → has_entry (task_of v g) e ≡ true → is_completed (place_of v g) ≡ true → call v t g e m ≡ took v (item t TASKING_ERROR e g) []

@@ -1,6 +1,6 @@
 -- Who is gone, and who comes: what is read off what a call gave is what the rules say of the callers.
 -- Assumes nothing.
-use Rattle.std.proofs.Common.{◌≡◌, ℕ, suc, ◌+◌, ◌-◌, ◌*◌, ◌<◌, ◌≤◌, Bool, true, false, ◌&&◌, eqb, ltb, List, [], ◌∷◌, ◌++◌, map, length, drop, set, sym, refl, ap, ◌∙◌, append-nil, arith, get_or-drop, drop-drop, ltb-false, ltb-true}
+use Rattle.std.proofs.Common.{◌≡◌, ℕ, suc, ◌+◌, ◌-◌, ◌*◌, ◌<◌, ◌≤◌, Bool, true, false, eqb, ltb, List, [], ◌∷◌, ◌++◌, map, length, drop, set, sym, refl, ap, ◌∙◌, append-nil, arith, get_or-drop, drop-drop, ltb-false, ltb-true}
 use Rattle.calls.specs.Record.{byte}
 use Rattle.calls.specs.declared.Call as C
 use Rattle.lists.specs.Line.{line, pad}
@@ -8,18 +8,17 @@ use Rattle.lists.specs.Lists.{when◌then◌else◌, bit, filter, count}
 use Rattle.lists.specs.Marks.{no_marks, mark_of, marked, with_mark}
 use Rattle.lists.proofs.LineLaws.{line_picked}
 use Rattle.lists.proofs.ListLaws.{by_bool}
-use Rattle.lists.proofs.MarkLaws.{filter_same, filter_all, none_marked, out, unmarked}
+use Rattle.lists.proofs.MarkLaws.{filter_same, out, unmarked}
 use Rattle.rules.specs.State.{State, is_queued}
-use Rattle.rules.specs.Step.{Outcome, refused, took, room_after}
+use Rattle.rules.specs.Step.{took, room_after}
+use Rattle.rules.specs.Whole.{pack_core}
 use Rattle.rules.specs.Callers.{accepted_in, gone_by, comes_by, Told}
-use Rattle.rules.specs.declared.Core.{Core}
 use Rattle.rules.specs.declared.Item.{Item}
 use Rattle.rules.specs.declared.Task.{Task}
 use Rattle.rules.proofs.Invariant.{Sound}
 use Rattle.rules.proofs.Members.{nth_beyond}
-use Rattle.rules.proofs.OverRuns.{number_pos}
-use Rattle.steps.specs.Taken.{taken_of, ended_by}
-use Rattle.steps.specs.Change.{task_at, partner_at, bytes_in, one, comes_of, line_by}
+use Rattle.steps.specs.Taken.{taken_as}
+use Rattle.steps.specs.Change.{task_at, partner_at, bytes_in, one, line_by}
 use Rattle.steps.specs.declared.answers.Taken.{Taken}
 
 -- ── the loop ──
@@ -42,10 +41,6 @@ bytes_on k room m next n i t h et en =
 pub bytes_end : (k : ℕ) (room m : List ℕ) (n i : ℕ) → n ≤ i → marked one (bytes_in k (n - i) (drop (i * 4) room)) m ≡ m
 bytes_end k room m n i h = let q : n - i ≡ 0 = omega arith in ap (λ (z : ℕ). marked one (bytes_in k z (drop (i * 4) room)) m) q
 
--- one that was accepted, and behind it those of the items
-pub marks_join : (k n : ℕ) (a room m : List ℕ) {r : List ℕ} → m ≡ marked one a no_marks → r ≡ marked one (bytes_in k n room) m → r ≡ marked one (a ++ bytes_in k n room) no_marks
-marks_join k n a room m em er = er ∙ ap (marked one (bytes_in k n room)) em ∙ sym (marked_append a (bytes_in k n room) no_marks)
-
 pub line_joins : (m : List ℕ) (b : Bool) (t : ℕ) (l kept : List ℕ) {r : List ℕ} → length l ≡ 31 → kept ≡ pad (with_mark m 0 (line l)) → r ≡ pad (line kept ++ (t ∷ [])) → b ≡ true → r ≡ line_by m b t l
 line_joins m b t l kept h ek er y = er ∙ ap (λ (k : List ℕ). pad (k ++ (t ∷ []))) (ap line ek ∙ line_picked (λ x. eqb (mark_of m x) 0) l h) ∙ sym (rw y)
 
@@ -62,10 +57,6 @@ partners_written room (i ∷ l) = ap (λ (k : List ℕ). i.partner ∷ k) (partn
 
 -- ── the line ──
 
--- nobody is gone
-none_gone : (l : List ℕ) → with_mark no_marks 0 l ≡ l
-none_gone l = filter_all (λ x. eqb (mark_of no_marks x) 0) l (λ x. ap (λ (k : ℕ). eqb k 0) (none_marked x))
-
 -- a task in the line of callers has a mark
 pub small : (v : State) → Sound v → (x : ℕ) → 0 < count x v.callers → x < 32
 small v h x j =
@@ -80,23 +71,15 @@ by_joins : (b : Bool) (k : List ℕ) (t : ℕ) → (when b then pad (k ++ (t ∷
 by_joins true k t = refl
 by_joins false k t = ap pad (sym (append-nil k))
 
--- what a call gave, as the rules say it of the callers: v is the state, s its core, l its line of callers
-abbrev pub Lines : List ℕ → List ℕ → Outcome → Type 0
-Lines r l (refused f) = r ≡ pad l
-Lines r l (took st a x) = r ≡ pad st.callers
-
-pub line_is : (s : Core) (v : State) (c : C.Call) (o : Outcome) (k : Taken) (callers room after m r : List ℕ) (b : Bool) → Sound v → line callers ≡ v.callers → Told c v.callers o → k ≡ taken_of s o
-    → after ≡ room_after room (ended_by o) → m ≡ marked one (accepted_in k.result k.partner ++ bytes_in task_at k.ended after) no_marks → b ≡ comes_of c k.refusal k.result k.ended → r ≡ line_by m b k.task callers
-    → Lines r v.callers o
-line_is s v c (refused f) k callers room after m r b h e told ek ea em eb er =
-    let m0 : m ≡ no_marks = em ∙ ap (λ (z : Taken). marked one (accepted_in z.result z.partner ++ bytes_in task_at z.ended after) no_marks) ek in
-    let b0 : b ≡ false = eb ∙ ap (λ (z : Taken). comes_of c z.refusal z.result z.ended) ek ∙ ap (λ (y : Bool). y && comes_by c 0 0) (number_pos f) in
-    er ∙ (λ i. line_by (m0 i) (b0 i) k.task callers) ∙ ap pad (none_gone (line callers) ∙ e)
-line_is s v c (took st a x) k callers room after m r b h e told ek ea em eb er =
+-- what a call gave that was taken, as the rules say it of the callers: v is the state, s its core, l its line of callers
+pub line_is : (v st : State) (a : Item) (x : List Item) (c : C.Call) (k : Taken) (callers room after m r : List ℕ) (b : Bool) → Sound v → line callers ≡ v.callers → Told c v.callers (took st a x)
+    → k ≡ taken_as (pack_core st) a (length x) → after ≡ room_after room x → m ≡ marked one (accepted_in k.result k.partner ++ bytes_in task_at k.ended after) no_marks → b ≡ comes_by c k.result k.ended
+    → r ≡ line_by m b k.task callers → r ≡ pad st.callers
+line_is v st a x c k callers room after m r b h e told ek ea em eb er =
     let m1 : m ≡ marked one (gone_by a x) no_marks =
     em ∙ (λ i. marked one (accepted_in (ek i).result (ek i).partner ++ bytes_in task_at (ek i).ended (ea i)) no_marks)
     ∙ ap (λ (q : List ℕ). marked one (accepted_in a.result a.partner ++ q) no_marks) (tasks_written room x) in
-    let b1 : b ≡ comes_by c a.result (length x) = eb ∙ ap (λ (z : Taken). comes_of c z.refusal z.result z.ended) ek in
+    let b1 : b ≡ comes_by c a.result (length x) = eb ∙ ap (λ (z : Taken). comes_by c z.result z.ended) ek in
     let w : with_mark (marked one (gone_by a x) no_marks) 0 (line callers) ≡ filter (out (gone_by a x)) v.callers = ap (with_mark (marked one (gone_by a x) no_marks) 0) e ∙ gone_out v (gone_by a x) h in
     er ∙ (λ i. line_by (m1 i) (b1 i) (ek i).task callers) ∙ by_joins (comes_by c a.result (length x)) (with_mark (marked one (gone_by a x) no_marks) 0 (line callers)) a.task
     ∙ ap (λ (q : List ℕ). pad (q ++ (when comes_by c a.result (length x) then a.task ∷ [] else []))) w ∙ ap pad (sym told)

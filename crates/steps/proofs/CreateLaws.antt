@@ -5,7 +5,8 @@ use lib.Seq.{set-append_seam, append_snoc}
 use borrow.Author.Tests.{lt-leb}
 use Rattle.lists.specs.Line.{line, pad}
 use Rattle.rules.specs.State.{State, blank, set_nth, created, add, fresh}
-use Rattle.rules.specs.Step.{refused, took, BAD_FIELD, FULL, item, DONE, take_call}
+use Rattle.rules.specs.Step.{refused, took, item, DONE, take_call}
+use Rattle.rules.specs.declared.Refusal.TheVariants.{BadField, Full}
 use Rattle.rules.specs.Sound.{in_range}
 use Rattle.rules.specs.Whole.{view_core, pack_core}
 use Rattle.rules.specs.declared.Task.{Task}
@@ -16,10 +17,10 @@ use Rattle.steps.specs.Taken.{Stands}
 use Rattle.steps.proofs.MoveLaws.{created_is}
 
 module _ (v : State) (p n : ℕ) where
-  pub create_bad : (b : Bool) → b ≡ in_range p n → b ≡ false → take_call v (Create p n) ≡ refused BAD_FIELD
+  pub create_bad : (b : Bool) → b ≡ in_range p n → b ≡ false → take_call v (Create p n) ≡ refused BadField
   create_bad b e z = let q : in_range p n ≡ false = sym e ∙ z in rw q
 
-  pub create_full : (b : Bool) → b ≡ in_range p n → b ≡ true → 31 ≤ created v → take_call v (Create p n) ≡ refused FULL
+  pub create_full : (b : Bool) → b ≡ in_range p n → b ≡ true → 31 ≤ created v → take_call v (Create p n) ≡ refused Full
   create_full b e z k = let q : in_range p n ≡ true = sym e ∙ z in rw (q, le-leb 31 (created v) k)
 
   pub create_new : (b : Bool) (t : ℕ) → b ≡ in_range p n → b ≡ true → created v < 31 → t ≡ suc (created v) → take_call v (Create p n) ≡ took (add v p n) (item t DONE 0 0) []

@@ -1,7 +1,7 @@
 -- FINISH.
 -- Assumes nothing.
-use Rattle.std.proofs.Common.{◌≡◌, ℕ, zero, suc, ◌+◌, ◌-◌, ◌<◌, ◌≤◌, true, eqb, ltb, List, [], ◌∷◌, ◌++◌, map, length, get_or, drop, sym, refl, ap, ◌∙◌, subst, append_assoc, append-nil, add-one, arith, drop_of_length-le, drop-cons, ltb-false, ltb-true, le-ltb, lt-ltb, eq-eqb, ne_eqb, eqb-true}
-use mir.Val.{bool_byte}
+use Rattle.std.proofs.Common.{◌≡◌, ℕ, zero, suc, ◌+◌, ◌-◌, ◌<◌, ◌≤◌, true, eqb, ltb, List, [], ◌∷◌, ◌++◌, map, length, get_or, Ok, sym, refl, ap, ◌∙◌, subst, append_assoc, append-nil, add-one, arith, ltb-false, ltb-true, le-ltb, lt-ltb, eq-eqb, ne_eqb, eqb-true, Bool, false, not, true≢false, zero-add}
+use Rattle.std.specs.List.{list_any}
 use mathlib.Core.List.{tail-eq_of_cons-eq}
 use lib.ListN.{length-map, get_or-eq_default}
 use Rattle.lists.proofs.LineLaws.{line_line, line_append, line_pad}
@@ -10,7 +10,8 @@ use Rattle.lists.specs.Lists.{when◌then◌else◌, filter, count}
 use Rattle.lists.specs.Marks.{no_marks, mark_of, marked, with_mark}
 use Rattle.lists.proofs.MarkLaws.{filter_same, mark_in, marked_length}
 use Rattle.rules.specs.State.{State, move, running, waits_on, queue, holds, held_by, wake_all}
-use Rattle.rules.specs.Step.{refused, took, NO_TASK, item, DONE, take_call, STILL_SERVING, queued_from, queued_on, finish, failed, room_after}
+use Rattle.rules.specs.Step.{refused, took, item, DONE, take_call, queued_from, queued_on, finish, failed, room_after}
+use Rattle.rules.specs.declared.Refusal.TheVariants.{NoTask, StillServing}
 use Rattle.rules.specs.Whole.{view_core}
 use Rattle.rules.specs.declared.Core.{Core}
 use Rattle.rules.specs.declared.Task.{Task}
@@ -21,7 +22,7 @@ use Rattle.rules.specs.Callers.{with_callers, callers_of, core_of}
 use Rattle.rules.proofs.Apart.{core_wakes, core_move, same_queued}
 use Rattle.rules.proofs.Invariant.{Sound}
 use Rattle.rules.proofs.Members.{queued_there, nth_beyond}
-use Rattle.lists.proofs.Tests.{no, byte_bit}
+use Rattle.lists.proofs.Tests.{no}
 use Rattle.lists.proofs.ListLaws.{by_bool, by_test, not_in, at_most}
 use Rattle.rules.proofs.StepSound.{of_queued_from, wake_all_sound, wake_all_length}
 use Rattle.rules.proofs.WholeLaws.{no_zero}
@@ -52,16 +53,16 @@ pad_none xs = ap pad (append-nil xs)
 
 -- ---- how many have a mark
 
--- the mark at place i, and the rest
-pub times_turn : (k : ℕ) (m : List ℕ) (i : ℕ) → i < length m → count k (drop i m) ≡ bool_byte (eqb (get_or m i 0) k) + count k (drop (i + 1) m)
-times_turn k m i h = rw (drop-cons m i 0 h, add-one i, byte_bit (eqb (get_or m i 0) k))
+-- whether somebody has the mark k
+any_count : (k : ℕ) (m : List ℕ) → list_any (λ x. eqb x k) m ≡ not (eqb (count k m) 0)
+any_count k [] = refl
+any_count k (x ∷ m) = by_bool (eqb x k) (λ e. rw (e, ne_eqb (1 + count k m) 0 (λ q. absurd (omega (arith, q)))) refl) (λ e. rw (e, zero-add (count k m)) (any_count k m))
 
-pub times_done : (k : ℕ) (m : List ℕ) (i : ℕ) → length m ≤ i → count k (drop i m) ≡ 0
-times_done k m i h = rw (drop_of_length-le m h)
+pub nobody_has : (k : ℕ) (m : List ℕ) {b : Bool} → b ≡ list_any (λ x. eqb x k) m → b ≡ false → eqb (count k m) 0 ≡ true
+nobody_has k m eb e = let q : not (eqb (count k m) 0) ≡ false = sym (eb ∙ any_count k m) ∙ e in by_bool (eqb (count k m) 0) (λ t. t) (λ f. absurd (true≢false (let z : true ≡ false = rw f at q in z)))
 
-pub times_short : (k : ℕ) (m : List ℕ) → count k m ≤ length m
-times_short k [] = omega arith
-times_short k (x ∷ m) = by_bool (eqb x k) (λ e. rw e (omega (arith, times_short k m))) (λ e. rw e (omega (arith, times_short k m)))
+pub some_has : (k : ℕ) (m : List ℕ) {b : Bool} → b ≡ list_any (λ x. eqb x k) m → b ≡ true → eqb (count k m) 0 ≡ false
+some_has k m eb e = let q : not (eqb (count k m) 0) ≡ true = sym (eb ∙ any_count k m) ∙ e in by_bool (eqb (count k m) 0) (λ t. absurd (true≢false (sym (let z : false ≡ true = rw t at q in z)))) (λ f. f)
 
 -- a mark stands among the marks
 times_at : (m : List ℕ) (i : ℕ) → i < length m → 0 < count (get_or m i 0) m
@@ -157,7 +158,7 @@ module _ (v : State) (t : ℕ) where
       nobody : count 0 (queued_on v t) ≡ 0
       nobody = not_in 0 (queued_on v t) (λ k. omega (arith, (queued_all 0 k).0))
 
-  pub finish_holds : (n : ℕ) → n ≡ length (held_by v t) → 0 < n → finish v t ≡ refused STILL_SERVING
+  pub finish_holds : (n : ℕ) → n ≡ length (held_by v t) → 0 < n → finish v t ≡ refused StillServing
   finish_holds n e k = rw (lt-ltb 0 (length (held_by v t)) (omega arith))
 
   pub finish_goes : (n : ℕ) (l : List ℕ) → n ≡ length (held_by v t) → n ≤ 0 → l ≡ queued_on v t → finish v t ≡ completing v t l
@@ -173,11 +174,11 @@ module _ (v : State) (t : ℕ) where
   finish_alone h z =
       finish_goes 0 [] (sym (ap (λ (l : List ℕ). length (filter (holds v t) l)) h)) (omega arith) (sym (nobody_queued z 8 1))
 
-  pub finish_idle : t ≡ running v → t ≡ 0 → take_call v Finish ≡ refused NO_TASK
-  finish_idle run z = no_runner v t (λ t. finish v t) run z
-
   pub finish_runs : t ≡ running v → (t ≡ 0 → ⊥) → take_call v Finish ≡ finish v t
   finish_runs run z = of_runner v t (λ t. finish v t) run z
+
+pub finish_idle : (v : State) → running v ≡ 0 → take_call v Finish ≡ refused NoTask
+finish_idle v = no_runner v (λ t. finish v t)
 
 -- those queued on the running task, where no others are seen
 module _ (s : Core) (mine : List ℕ) (t : ℕ) (h : Sees s mine) (run : t ≡ running (view_core s)) where
@@ -201,10 +202,10 @@ completing_core v c t l = ap (λ (x : State). took x (item t DONE 0 0) (map (fai
 -- all of a list woken, and then t completes
 pub completes : (s : Core) (t : ℕ) (l : List ℕ) (n m : Core) (k : ℕ) (room last : List ℕ) {r : Taken} → Stands s → AllThere (view_core s) l → t ≤ length (view_core s).tasks → WokenAs (view_core s) true l n k room last
     → m ≡ moved_of n t Completed Off → r ≡ taken_as m (item t DONE 0 0) k
-    → (r ≡ taken_of s (completing (view_core s) t l)) × (last ≡ room_after room (ended_by (completing (view_core s) t l)))
+    → (Ok r ≡ taken_of (completing (view_core s) t l)) × (last ≡ room_after room (ended_by (completing (view_core s) t l)))
 completes s t l n m k room last h a b w em e =
     let v = view_core s in
     let f = with_callers v h.callers in
     let g : Sound (with_callers (wake_all v l) (wake_all f l).callers) = subst (λ (z : State). Sound (with_callers z (wake_all f l).callers)) (core_wakes l f v refl) (wake_all_sound l f h.sound a) in
     let q = em ∙ moved_state n (wake_all v l) (wake_all f l).callers t Completed Off w.state g (omega (arith, b, wake_all_length l v)) in
-    (answers s m (move (wake_all v l) t Completed Off) (item t DONE 0 0) (map (failed v) l) e q (w.number ∙ sym (length-map l (failed v))), w.written)
+    (answers m (move (wake_all v l) t Completed Off) (item t DONE 0 0) (map (failed v) l) e q (w.number ∙ sym (length-map l (failed v))), w.written)

@@ -3,7 +3,8 @@
 use Rattle.std.proofs.Common.{◌≡◌, ℕ, zero, suc, ◌^◌, ◌<◌, ◌≤◌, true, false, eqb, leb, [], length, sym, refl}
 use Rattle.lists.specs.Lists.{first}
 use Rattle.rules.specs.State.{State, task_of, running, queue, meet}
-use Rattle.rules.specs.Step.{refused, took, NO_TASK, NO_ENTRY, item, ACCEPTED, ticks, open_entry, select_delay, select_none, select_at, select, take_call}
+use Rattle.rules.specs.Step.{refused, took, item, ACCEPTED, ticks, open_entry, select_delay, select_none, select_at, select, take_call}
+use Rattle.rules.specs.declared.Refusal.TheVariants.{NoTask, NoEntry}
 use Rattle.calls.specs.declared.Call.TheVariants.{Select}
 use Rattle.calls.specs.declared.SelectMode.{SelectMode}
 use Rattle.calls.specs.declared.SelectMode.TheVariants.{Plain, Else}
@@ -13,15 +14,14 @@ use Rattle.rules.proofs.StepSound.{caller_taken}
 use Rattle.calls.specs.declared.SelectMode.TheVariants as S
 use Rattle.steps.proofs.AnswerLaws.{no_runner, of_runner, Quiet, quiet_runner}
 
-module _ (v : State) (t : ℕ) (run : t ≡ running v) where
-  pub select_alone : (o : ℕ) (m : SelectMode) → t ≡ 0 → take_call v (Select o m) ≡ refused NO_TASK
-  select_alone o m z = no_runner v t (λ t. select v t o m) run z
+pub select_alone : (v : State) (o : ℕ) (m : SelectMode) → running v ≡ 0 → take_call v (Select o m) ≡ refused NoTask
+select_alone v o m = no_runner v (λ t. select v t o m)
 
-  pub select_runs : (o : ℕ) (m : SelectMode) → (t ≡ 0 → ⊥) → take_call v (Select o m) ≡ select v t o m
-  select_runs o m z = of_runner v t (λ t. select v t o m) run z
+pub select_runs : (v : State) (t : ℕ) → t ≡ running v → (o : ℕ) (m : SelectMode) → (t ≡ 0 → ⊥) → take_call v (Select o m) ≡ select v t o m
+select_runs v t run o m = of_runner v t (λ t. select v t o m) run
 
 module _ (v : State) (t o : ℕ) (m : SelectMode) where
-  pub select_wide : leb (2 ^ (task_of v t).entries) o ≡ true → select v t o m ≡ refused NO_ENTRY
+  pub select_wide : leb (2 ^ (task_of v t).entries) o ≡ true → select v t o m ≡ refused NoEntry
   select_wide q = rw q
 
   pub select_idle : leb (2 ^ (task_of v t).entries) o ≡ false → open_entry v t o ≡ 0 → select v t o m ≡ select_none v t o m

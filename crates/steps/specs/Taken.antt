@@ -1,16 +1,17 @@
 -- The answers of the code's step functions, read off the rules' outcomes; and what they may assume.
 -- Assumes nothing.
-use Rattle.std.specs.Prelude.{◌≡◌, ℕ, ◌<◌, ◌≤◌, Bool, true, List, [], map, length}
+use Rattle.std.specs.Prelude.{◌≡◌, ℕ, ◌<◌, ◌≤◌, Bool, true, List, [], map, length, Result, Ok, Err}
 use Rattle.calls.specs.declared.Call as C
 use Rattle.lists.specs.Line.{line}
 use Rattle.lists.specs.Lists.{when◌then◌else◌, count}
 use Rattle.rules.specs.Callers.{with_callers, callers_of, asks}
 use Rattle.rules.specs.State.{State, running, place_of, entry_of, partner_of, after, move, wake_all, set_clock, offer}
 use Rattle.rules.specs.Advance.{due_within}
-use Rattle.rules.specs.Step.{Outcome, refused, took, number, item, expiry, expired, failed, room_after, WAITS, TASKING_ERROR, DONE}
+use Rattle.rules.specs.Step.{Outcome, refused, took, item, expiry, expired, failed, room_after, WAITS, TASKING_ERROR, DONE}
 use Rattle.rules.specs.Whole.{view_core, pack_core}
 use Rattle.rules.specs.declared.Answer.{Answer}
 use Rattle.rules.specs.declared.Item.{Item}
+use Rattle.rules.specs.declared.Refusal.{Refusal}
 use Rattle.rules.specs.declared.Place.{Place}
 use Rattle.rules.specs.declared.Place.TheVariants.{Accepting, Completed}
 use Rattle.rules.specs.declared.Core.{Core}
@@ -41,16 +42,16 @@ pub record SeesFor (s : Core) (mine : List ℕ) (c : C.Call) : Type 0 where
 
 -- what a step function answers for a call that is taken: the struct afterwards, the answer's numbers, and how many waits have ended
 abbrev pub taken_as : Core → Item → ℕ → Taken
-taken_as m a n = record { state = m; refusal = 0; task = a.task; result = a.result; entry = a.entry; partner = a.partner; ended = n }
+taken_as m a n = record { state = m; task = a.task; result = a.result; entry = a.entry; partner = a.partner; ended = n }
 
--- what a step function answers for an outcome of the rules: a refused call leaves the struct as it was
-abbrev pub taken_of : Core → Outcome → Taken
-taken_of s (refused r) = record { state = s; refusal = number r; task = 0; result = 0; entry = 0; partner = 0; ended = 0 }
-taken_of s (took st a l) = taken_as (pack_core st) a (length l)
+-- what a step function answers for an outcome of the rules
+abbrev pub taken_of : Outcome → Result Taken Refusal
+taken_of (refused r) = Err r
+taken_of (took st a l) = Ok (taken_as (pack_core st) a (length l))
 
--- what a call gave, as the answer of a step
+-- what a call gave that was taken, as the answer of a step
 abbrev pub answer_by : Taken → ℕ → Answer
-answer_by k n = record { refusal = k.refusal; result = k.result; task = k.task; entry = k.entry; partner = k.partner; ended = k.ended; next = n }
+answer_by k n = record { refusal = 0; result = k.result; task = k.task; entry = k.entry; partner = k.partner; ended = k.ended; next = n }
 
 -- the ended waits of an outcome
 abbrev pub ended_by : Outcome → List Item

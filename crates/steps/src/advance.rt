@@ -36,14 +36,13 @@ fn moments_of(s: Core, l: [u8; 31]) -> u8
 {
     let mut n: u8 = 0;
     let mut before: u32 = 0;
-    for i in 0..31 {
-        let t = l[i];
+    for t in l {
         if t == 0 {
             return n;
         }
         let at = index_of(t);
         let left = left_of(s.clock, s.created, t, s.tasks[at]);
-        n += (left != before) as u8;
+        n += u8::from(left != before);
         before = left;
     }
     n
@@ -52,10 +51,10 @@ fn moments_of(s: Core, l: [u8; 31]) -> u8
 // The clock goes on by n ticks, and those of the line, whose time comes within them, become ready. The answer's entry is as given.
 fn passed(s: Core, l: [u8; 31], n: u32, entry: u8, room: &mut [u8]) -> Taken
     requires { Stands s × (124 ≤ length room.old) × (l ≡ pad (due_within (view_core s) n)) }
-    ensures value { result ≡ taken_of s (passing (view_core s) n entry) }
+    ensures value { Ok result ≡ taken_of (passing (view_core s) n entry) }
     ensures room { room.new ≡ room_after room.old (ended_by (passing (view_core s) n entry)) }
 {
-    let reading = std::num::wrapping_add_u32(s.clock, n);
+    let reading = s.clock.wrapping_add(n);
     let w = wake_all(s, l, false, room);
     let mut m = w.state;
     m.clock = reading;
@@ -65,7 +64,7 @@ fn passed(s: Core, l: [u8; 31], n: u32, entry: u8, room: &mut [u8]) -> Taken
 // The clock goes on by one.
 pub fn tick(s: Core, room: &mut [u8]) -> Taken
     requires { Stands s × (124 ≤ length room.old) }
-    ensures value { result ≡ taken_of s (take_call (view_core s) Tick) }
+    ensures value { Ok result ≡ taken_of (take_call (view_core s) Tick) }
     ensures room { room.new ≡ room_after room.old (ended_by (take_call (view_core s) Tick)) }
 {
     let l = due_within(s, 1);
@@ -75,7 +74,7 @@ pub fn tick(s: Core, room: &mut [u8]) -> Taken
 // The clock goes on by n. The answer's entry is the number of readings at which a wait ended.
 pub fn advance(s: Core, n: u32, room: &mut [u8]) -> Taken
     requires { Stands s × (124 ≤ length room.old) }
-    ensures value { result ≡ taken_of s (take_call (view_core s) (Advance n)) }
+    ensures value { Ok result ≡ taken_of (take_call (view_core s) (Advance n)) }
     ensures room { room.new ≡ room_after room.old (ended_by (take_call (view_core s) (Advance n))) }
 {
     let l = due_within(s, n);

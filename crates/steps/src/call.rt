@@ -5,14 +5,12 @@ ghost use Rattle.rules.specs.Step.{take_call, room_after, enqueue, call_busy};
 ghost use Rattle.rules.specs.Whole.{view_core};
 ghost use Rattle.steps.specs.Taken.{Stands, taken_of, ended_by};
 
-use super::answers::{Taken, answered, refused_by};
+use super::answers::{Taken, answered};
 use super::ended::put;
+use super::runner::runner;
 use calls::{CallMode, ticks};
-use rules::numbers::{
-    ACCEPTED, CALL_EXPIRED, NO_ENTRY, NO_TARGET, NO_TASK, NOT_NOW, TASKING_ERROR, WAITS,
-};
-use rules::{Core, Item, Place, Timer, Waiting};
-use table::dispatch::running;
+use rules::numbers::{ACCEPTED, CALL_EXPIRED, NOT_NOW, TASKING_ERROR, WAITS};
+use rules::{Core, Item, Place, Refusal, Timer, Waiting};
 use table::moves::{met, moved};
 use table::place::{accepts_at, is_between, is_completed};
 use table::tasks::task_of;
@@ -20,7 +18,7 @@ use table::tasks::task_of;
 // Task t, which is running, queues on entry e of task g.
 fn enqueued(s: Core, t: u8, g: u8, e: u8, w: Timer) -> Taken
     requires { Stands s × (t ≤ length (view_core s).tasks) }
-    ensures { result ≡ taken_of s (enqueue (view_core s) t g e w) }
+    ensures { Ok result ≡ taken_of (enqueue (view_core s) t g e w) }
 {
     let m = moved(
         s,
@@ -37,7 +35,7 @@ fn enqueued(s: Core, t: u8, g: u8, e: u8, w: Timer) -> Taken
 // The target is not there to accept: the caller waits, or not, as the mode says.
 fn call_busy(s: Core, t: u8, g: u8, e: u8, m: CallMode) -> Taken
     requires { Stands s × (t ≤ length (view_core s).tasks) }
-    ensures { result ≡ taken_of s (call_busy (view_core s) t g e m) }
+    ensures { Ok result ≡ taken_of (call_busy (view_core s) t g e m) }
 {
     match m {
         CallMode::Simple => enqueued(s, t, g, e, Timer::Off),
@@ -46,7 +44,7 @@ fn call_busy(s: Core, t: u8, g: u8, e: u8, m: CallMode) -> Taken
             if n == 0 {
                 return answered(s, t, CALL_EXPIRED, e, g, 0);
             }
-            let w = Timer::Due(std::num::wrapping_add_u32(s.clock, n));
+            let w = Timer::Due(s.clock.wrapping_add(n));
             enqueued(s, t, g, e, w)
         }
         CallMode::Conditional => answered(s, t, NOT_NOW, e, g, 0),
@@ -54,25 +52,22 @@ fn call_busy(s: Core, t: u8, g: u8, e: u8, m: CallMode) -> Taken
 }
 
 // The running task calls entry e of task g: it is held at once, waits in that entry's queue, or does not wait.
-pub fn call(s: Core, g: u8, e: u8, m: CallMode, room: &mut [u8]) -> Taken
+pub fn call(s: Core, g: u8, e: u8, m: CallMode, room: &mut [u8]) -> Result<Taken, Refusal>
     requires { Stands s × (124 ≤ length room.old) }
-    ensures value { result ≡ taken_of s (take_call (view_core s) (Call g e m)) }
+    ensures value { result ≡ taken_of (take_call (view_core s) (Call g e m)) }
     ensures room { room.new ≡ room_after room.old (ended_by (take_call (view_core s) (Call g e m))) }
 {
-    let t = running(s);
-    if t == 0 {
-        return refused_by(s, NO_TASK);
-    }
+    let t = runner(s)?;
     if !is_between(g, s.created) {
-        return refused_by(s, NO_TARGET);
+        return Err(Refusal::NoTarget);
     }
     let x = task_of(s, g);
     if !is_between(e, x.entries) {
-        return refused_by(s, NO_ENTRY);
+        return Err(Refusal::NoEntry);
     }
     let p = x.place;
     if is_completed(p) {
-        return answered(s, t, TASKING_ERROR, e, g, 0);
+        return Ok(answered(s, t, TASKING_ERROR, e, g, 0));
     }
     if accepts_at(p, e) {
         put(
@@ -86,7 +81,7 @@ pub fn call(s: Core, g: u8, e: u8, m: CallMode, room: &mut [u8]) -> Taken
         );
         let n = moved(s, g, Place::Ready, Timer::Off);
         let k = met(n, g, t, e);
-        return answered(k, t, WAITS, 0, 0, 1);
+        return Ok(answered(k, t, WAITS, 0, 0, 1));
     }
-    call_busy(s, t, g, e, m)
+    Ok(call_busy(s, t, g, e, m))
 }

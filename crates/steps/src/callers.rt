@@ -13,7 +13,8 @@ use rules::{Core, Task};
 use table::place::{entry_of, is_between, is_open, is_queued, partner_of};
 use table::tasks::{index_of, shown};
 
-// A caller, and the open entry that it has called; entry 9, which no task has, stands for none.
+// A caller, and the open entry that it has called.
+// Entry 9, which no task has, stands for none, as in specs/Lowest.antt: so one comparison of numbers finds the lowest, and marks can hold it.
 #[derive(Clone, Copy)]
 pub struct Caller {
     pub task: u8,
@@ -50,8 +51,7 @@ pub fn lowest(s: Core, mine: [u8; 31], t: u8, o: u8) -> Caller
     ensures { result ≡ lowest_of (call_of (view_core s) t o) nobody (line mine) }
 {
     let mut b = Caller { task: 0, entry: 9 };
-    for i in 0..31 {
-        let c = mine[i];
+    for c in mine {
         if c == 0 {
             return b;
         }
@@ -67,8 +67,7 @@ fn entries_called(s: Core, mine: [u8; 31], t: u8) -> [u8; 32]
     ensures { result ≡ marked (call_of (view_core s) t 255) (line mine) no_marks }
 {
     let mut marks = [0u8; 32];
-    for i in 0..31 {
-        let c = mine[i];
+    for c in mine {
         if c == 0 {
             return marks;
         }
@@ -76,30 +75,17 @@ fn entries_called(s: Core, mine: [u8; 31], t: u8) -> [u8; 32]
         let k = s.tasks[at];
         let e = open_call(t, 255, s.created, c, k);
         if c < 32 {
-            marks[c as usize] = e;
+            marks[usize::from(c)] = e;
         }
     }
     marks
-}
-
-// How many have the mark k.
-fn times(marks: [u8; 32], k: u8) -> u8
-    ensures { result ≡ count k marks }
-{
-    let mut n: u8 = 0;
-    let mut i: usize = 0;
-    while i < 32 {
-        n += (marks[i] == k) as u8;
-        i += 1;
-    }
-    n
 }
 
 // Line r, and behind it the callers with the mark of entry e. Where none has it, which is seen at once, the line is not walked.
 fn with_queue(r: [u8; 31], callers: [u8; 31], marks: [u8; 32], e: u8) -> [u8; 31]
     ensures { result ≡ (when nat_eq (count e marks) 0 then r else pad (line r ++ with_mark marks e (line callers))) }
 {
-    if times(marks, e) == 0 {
+    if !marks.contains(&e) {
         return r;
     }
     let q = lines::picked(callers, marks, e);
@@ -112,11 +98,9 @@ pub fn queued_on(s: Core, mine: [u8; 31], t: u8) -> [u8; 31]
 {
     let marks = entries_called(s, mine, t);
     let mut r = [0u8; 31];
-    let mut e: u8 = 1;
-    while e < 9 {
+    for e in 1..9 {
         let next = with_queue(r, mine, marks, e);
         r = next;
-        e += 1;
     }
     r
 }

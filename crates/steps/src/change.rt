@@ -4,7 +4,7 @@ ghost use Rattle.calls.specs.Record.{byte};
 ghost use Rattle.lists.specs.Marks.{no_marks, marked};
 ghost use Rattle.rules.specs.Callers.{asks, accepted_in, is_call, comes_by};
 ghost use Rattle.rules.specs.Runs.{target};
-ghost use Rattle.steps.specs.Change.{one, task_at, partner_at, bytes_in, comes_of, joined_of, line_by};
+ghost use Rattle.steps.specs.Change.{one, task_at, partner_at, bytes_in, joined_of, line_by};
 
 use calls::Call;
 use rules::numbers::{ACCEPTED, WAITS};
@@ -18,7 +18,7 @@ const PARTNER_AT: u8 = 3;
 fn byte_at(room: &[u8], at: usize) -> u8
     ensures { result ≡ byte room.now at }
 {
-    if at < room.len() { room[at] } else { 0 }
+    room.get(at).copied().unwrap_or(0)
 }
 
 // The marks with a 1 for t; as they were where t has none.
@@ -27,7 +27,7 @@ fn with_mark(marks: [u8; 32], t: u8) -> [u8; 32]
 {
     let mut m = marks;
     if t < 32 {
-        m[t as usize] = 1;
+        m[usize::from(t)] = 1;
     }
     m
 }
@@ -48,13 +48,11 @@ fn marks_in(room: &[u8], n: u8, field: u8, first: [u8; 32]) -> [u8; 32]
     ensures { result ≡ marked one (bytes_in field n room.now) first }
 {
     let mut marks = first;
-    let mut i: u8 = 0;
-    while i < n {
-        let at = (i as usize) * 4 + (field as usize);
+    for i in 0..n {
+        let at = usize::from(i) * 4 + usize::from(field);
         let t = byte_at(room, at);
         let next = with_mark(marks, t);
         marks = next;
-        i += 1;
     }
     marks
 }
@@ -79,46 +77,21 @@ pub fn left_marks(room: &[u8], n: u8, res: u8, t: u8) -> [u8; 32]
 pub fn looks(c: Call) -> bool
     ensures { result ≡ asks c }
 {
-    match c {
-        Call::Create { .. } => false,
-        Call::Delay(_) => false,
-        Call::Call { .. } => false,
-        Call::Select { .. } => true,
-        Call::End => false,
-        Call::Finish => true,
-        Call::Tick => false,
-        Call::Advance(_) => false,
-    }
+    matches!(c, Call::Select { .. } | Call::Finish)
 }
 
 // Whether it is a CALL.
 fn is_call(c: Call) -> bool
     ensures { result ≡ is_call c }
 {
-    match c {
-        Call::Create { .. } => false,
-        Call::Delay(_) => false,
-        Call::Call { .. } => true,
-        Call::Select { .. } => false,
-        Call::End => false,
-        Call::Finish => false,
-        Call::Tick => false,
-        Call::Advance(_) => false,
-    }
+    matches!(c, Call::Call { .. })
 }
 
 // Whether the task of a call that was taken waits in a queue now: a CALL that waits, and has woken nobody.
-fn is_queueing(c: Call, res: u8, ended: u8) -> bool
+pub fn comes(c: Call, res: u8, ended: u8) -> bool
     ensures { result ≡ comes_by c res ended }
 {
     is_call(c) & ((res == WAITS) & (ended == 0))
-}
-
-// The same of any call: a refused one answers no result and no list too.
-pub fn comes(c: Call, refusal: u8, res: u8, ended: u8) -> bool
-    ensures { result ≡ comes_of c refusal res ended }
-{
-    (refusal == 0) & is_queueing(c, res, ended)
 }
 
 // The task that a call waits for, 0 if it is no CALL.
@@ -126,22 +99,16 @@ fn target_of(c: Call) -> u8
     ensures { result ≡ target c }
 {
     match c {
-        Call::Create { .. } => 0,
-        Call::Delay(_) => 0,
         Call::Call { target, .. } => target,
-        Call::Select { .. } => 0,
-        Call::End => 0,
-        Call::Finish => 0,
-        Call::Tick => 0,
-        Call::Advance(_) => 0,
+        _ => 0,
     }
 }
 
-// The task whose queue the task of the call comes into, 0 where it comes into none.
-pub fn joined_queue(c: Call, refusal: u8, res: u8, ended: u8) -> u8
-    ensures { result ≡ joined_of c refusal res ended }
+// The task whose queue the task of a call that was taken comes into, 0 where it comes into none.
+pub fn joined_queue(c: Call, res: u8, ended: u8) -> u8
+    ensures { result ≡ joined_of c res ended }
 {
-    if comes(c, refusal, res, ended) {
+    if comes(c, res, ended) {
         target_of(c)
     } else {
         0 // it comes into none

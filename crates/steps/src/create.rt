@@ -5,22 +5,22 @@ ghost use Rattle.rules.specs.Step.{take_call};
 ghost use Rattle.rules.specs.Whole.{view_core};
 ghost use Rattle.steps.specs.Taken.{Stands, taken_of};
 
-use super::answers::{Taken, answered, refused_by};
-use rules::Core;
-use rules::numbers::{BAD_FIELD, DONE, FULL};
+use super::answers::{Taken, answered};
+use rules::numbers::DONE;
+use rules::{Core, Refusal};
 use table::place::in_range;
 use table::tasks::{fresh_task, with_task};
 
 // A new ready task.
-pub fn create(s: Core, priority: u8, entries: u8) -> Taken
+pub fn create(s: Core, priority: u8, entries: u8) -> Result<Taken, Refusal>
     requires { Stands s }
-    ensures { result ≡ taken_of s (take_call (view_core s) (Create priority entries)) }
+    ensures { result ≡ taken_of (take_call (view_core s) (Create priority entries)) }
 {
     if !in_range(priority, entries) {
-        return refused_by(s, BAD_FIELD);
+        return Err(Refusal::BadField);
     }
     if s.created >= 31 {
-        return refused_by(s, FULL);
+        return Err(Refusal::Full);
     }
     let t = s.created + 1;
     let ready = s.ready;
@@ -29,5 +29,5 @@ pub fn create(s: Core, priority: u8, entries: u8) -> Taken
     let mut n = with_task(s, t, x);
     n.created = t;
     n.ready = ready_now;
-    answered(n, t, DONE, 0, 0, 0)
+    Ok(answered(n, t, DONE, 0, 0, 0))
 }

@@ -5,28 +5,25 @@ ghost use Rattle.rules.specs.Step.{take_call};
 ghost use Rattle.rules.specs.Whole.{view_core};
 ghost use Rattle.steps.specs.Taken.{Stands, taken_of};
 
-use super::answers::{Taken, answered, refused_by};
+use super::answers::{Taken, answered};
+use super::runner::runner;
 use calls::ticks;
-use rules::numbers::{ELAPSED, NO_TASK, WAITS};
-use rules::{Core, Place, Timer};
-use table::dispatch::running;
+use rules::numbers::{ELAPSED, WAITS};
+use rules::{Core, Place, Refusal, Timer};
 use table::moves::moved;
 
 // Above 0, the running task waits until the d-th tick. Otherwise it moves to the tail of its level at once.
-pub fn delay(s: Core, d: i32) -> Taken
+pub fn delay(s: Core, d: i32) -> Result<Taken, Refusal>
     requires { Stands s }
-    ensures { result ≡ taken_of s (take_call (view_core s) (Delay d)) }
+    ensures { result ≡ taken_of (take_call (view_core s) (Delay d)) }
 {
-    let t = running(s);
-    if t == 0 {
-        return refused_by(s, NO_TASK);
-    }
+    let t = runner(s)?;
     let n = ticks(d);
     if n == 0 {
         let left = moved(s, t, Place::Ready, Timer::Off);
-        return answered(left, t, ELAPSED, 0, 0, 0);
+        return Ok(answered(left, t, ELAPSED, 0, 0, 0));
     }
-    let w = Timer::Due(std::num::wrapping_add_u32(s.clock, n));
+    let w = Timer::Due(s.clock.wrapping_add(n));
     let left = moved(s, t, Place::Delayed, w);
-    answered(left, t, WAITS, 0, 0, 0)
+    Ok(answered(left, t, WAITS, 0, 0, 0))
 }

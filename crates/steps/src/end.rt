@@ -5,31 +5,28 @@ ghost use Rattle.rules.specs.Step.{take_call, room_after};
 ghost use Rattle.rules.specs.Whole.{view_core};
 ghost use Rattle.steps.specs.Taken.{Stands, taken_of, ended_by};
 
-use super::answers::{Taken, answered, refused_by};
+use super::answers::{Taken, answered};
 use super::ended::put;
-use rules::numbers::{DONE, NO_TASK, NOT_SERVING, SERVED};
-use rules::{Core, Item};
-use table::dispatch::running;
+use super::runner::runner;
+use rules::numbers::{DONE, SERVED};
+use rules::{Core, Item, Refusal};
 use table::moves::parted;
 use table::place::entry_of;
 use table::queues::{Test, picked};
 use table::tasks::task_of;
 
 // The caller held last becomes ready.
-pub fn end(s: Core, room: &mut [u8]) -> Taken
+pub fn end(s: Core, room: &mut [u8]) -> Result<Taken, Refusal>
     requires { Stands s × (124 ≤ length room.old) }
-    ensures value { result ≡ taken_of s (take_call (view_core s) End) }
+    ensures value { result ≡ taken_of (take_call (view_core s) End) }
     ensures room { room.new ≡ room_after room.old (ended_by (take_call (view_core s) End)) }
 {
-    let t = running(s);
-    if t == 0 {
-        return refused_by(s, NO_TASK);
-    }
+    let t = runner(s)?;
     let held = s.held;
     let l = picked(s, held, Test::HeldBy { holder: t });
     let k = lines::last_of(l);
     if k == 0 {
-        return refused_by(s, NOT_SERVING);
+        return Err(Refusal::NotServing);
     }
     let x = task_of(s, k);
     let p = x.place;
@@ -43,5 +40,5 @@ pub fn end(s: Core, room: &mut [u8]) -> Taken
         },
     );
     let n = parted(s, t, k);
-    answered(n, t, DONE, 0, 0, 1)
+    Ok(answered(n, t, DONE, 0, 0, 1))
 }

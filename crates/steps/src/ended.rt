@@ -53,20 +53,19 @@ fn put_items(s: Core, l: [u8; 31], failed: bool, room: &mut [u8]) -> u8
     ensures value { result ≡ length (line l) }
     ensures room { room.new ≡ room_after room.old (map (item_of (view_core s) failed) (line l)) }
 {
-    let mut i: usize = 0;
-    while i < 31 {
-        let t = l[i];
+    let mut n: u8 = 0;
+    for t in l {
         if t == 0 {
-            return i as u8;
+            return n;
         }
         let at = index_of(t);
         let k = s.tasks[at];
         let w = item_of(failed, s.created, t, k);
-        let from = i * 4;
+        let from = usize::from(n) * 4;
         put(&mut room[from..], w);
-        i += 1;
+        n += 1;
     }
-    31
+    n
 }
 
 // What is left when a line of tasks was woken: the state, and how many they were.

@@ -13,6 +13,7 @@ mod end;
 mod ended;
 pub mod engine;
 mod finish;
+mod runner;
 mod select;
 
 ghost use Rattle.std.specs.Prelude.{◌≡◌, ◌≤◌, length};
@@ -21,12 +22,12 @@ ghost use Rattle.steps.specs.Taken.{SeesFor, seen, taken_of, ended_by};
 
 use answers::Taken;
 use calls::Call;
-use rules::Core;
+use rules::{Core, Refusal};
 
 // The call, on the core of a sound state with room enough, where the line has those queued on the running task, if the call asks for them.
-pub fn take_call(s: Core, mine: [u8; 31], c: Call, room: &mut [u8]) -> Taken
+pub fn take_call(s: Core, mine: [u8; 31], c: Call, room: &mut [u8]) -> Result<Taken, Refusal>
     requires { SeesFor s mine c × (124 ≤ length room.old) }
-    ensures value { result ≡ taken_of s (take_call (seen s mine) c) }
+    ensures value { result ≡ taken_of (take_call (seen s mine) c) }
     ensures room { room.new ≡ room_after room.old (ended_by (take_call (seen s mine) c)) }
 {
     match c {
@@ -40,7 +41,7 @@ pub fn take_call(s: Core, mine: [u8; 31], c: Call, room: &mut [u8]) -> Taken
         Call::Select { open, mode } => select::select(s, mine, open, mode),
         Call::End => end::end(s, room),
         Call::Finish => finish::finish(s, mine, room),
-        Call::Tick => advance::tick(s, room),
-        Call::Advance(n) => advance::advance(s, n, room),
+        Call::Tick => Ok(advance::tick(s, room)),
+        Call::Advance(n) => Ok(advance::advance(s, n, room)),
     }
 }

@@ -5,12 +5,12 @@ ghost use Rattle.rules.specs.Step.{take_call, select_none};
 ghost use Rattle.rules.specs.Whole.{view_core};
 ghost use Rattle.steps.specs.Taken.{Stands, Sees, seen, taken_of, awaiting};
 
-use super::answers::{Taken, answered, refused_by};
+use super::answers::{Taken, answered};
 use super::callers::lowest;
+use super::runner::runner;
 use calls::{SelectMode, ticks};
-use rules::numbers::{ACCEPTED, DELAY_TAKEN, ELSE_TAKEN, NO_ENTRY, NO_TASK, PROGRAM_ERROR, WAITS};
-use rules::{Core, Offer, Place, Timer};
-use table::dispatch::running;
+use rules::numbers::{ACCEPTED, DELAY_TAKEN, ELSE_TAKEN, PROGRAM_ERROR, WAITS};
+use rules::{Core, Offer, Place, Refusal, Timer};
 use table::moves::{met, moved};
 use table::place::is_too_wide;
 use table::tasks::task_of;
@@ -18,7 +18,7 @@ use table::tasks::task_of;
 // Task t, which is running, waits to accept a caller of the open set o.
 fn accepting(s: Core, t: u8, o: u8, w: Timer) -> Taken
     requires { Stands s × (t ≤ length (view_core s).tasks) }
-    ensures { result ≡ taken_of s (awaiting (view_core s) t o w) }
+    ensures { Ok result ≡ taken_of (awaiting (view_core s) t o w) }
 {
     let n = moved(s, t, Place::Accepting(Offer { opens: o }), w);
     answered(n, t, WAITS, 0, 0, 0)
@@ -27,46 +27,41 @@ fn accepting(s: Core, t: u8, o: u8, w: Timer) -> Taken
 // No open entry has a caller: the task waits, or not, as the mode says.
 fn select_none(s: Core, t: u8, o: u8, m: SelectMode) -> Taken
     requires { Stands s × (t ≤ length (view_core s).tasks) }
-    ensures { result ≡ taken_of s (select_none (view_core s) t o m) }
+    ensures { Ok result ≡ taken_of (select_none (view_core s) t o m) }
 {
     match m {
         SelectMode::Plain => {
             if o == 0 {
                 return answered(s, t, PROGRAM_ERROR, 0, 0, 0);
             }
-            return accepting(s, t, o, Timer::Off);
+            accepting(s, t, o, Timer::Off)
         }
         SelectMode::Delay(d) => {
             let k = ticks(d);
             if k == 0 {
                 return answered(s, t, DELAY_TAKEN, 0, 0, 0);
             }
-            let w = Timer::Due(std::num::wrapping_add_u32(s.clock, k));
-            return accepting(s, t, o, w);
+            let w = Timer::Due(s.clock.wrapping_add(k));
+            accepting(s, t, o, w)
         }
-        SelectMode::Else => {
-            return answered(s, t, ELSE_TAKEN, 0, 0, 0);
-        }
+        SelectMode::Else => answered(s, t, ELSE_TAKEN, 0, 0, 0),
     }
 }
 
 // An open entry with a caller is taken, the lowest-numbered one, and its longest-waiting caller is held.
-pub fn select(s: Core, mine: [u8; 31], o: u8, m: SelectMode) -> Taken
+pub fn select(s: Core, mine: [u8; 31], o: u8, m: SelectMode) -> Result<Taken, Refusal>
     requires { Sees s mine }
-    ensures { result ≡ taken_of s (take_call (seen s mine) (Select o m)) }
+    ensures { result ≡ taken_of (take_call (seen s mine) (Select o m)) }
 {
-    let t = running(s);
-    if t == 0 {
-        return refused_by(s, NO_TASK);
-    }
+    let t = runner(s)?;
     let x = task_of(s, t);
     if is_too_wide(o, x.entries) {
-        return refused_by(s, NO_ENTRY);
+        return Err(Refusal::NoEntry);
     }
     let b = lowest(s, mine, t, o);
     if b.entry == 9 {
-        return select_none(s, t, o, m);
+        return Ok(select_none(s, t, o, m));
     }
     let n = met(s, t, b.task, b.entry);
-    answered(n, t, ACCEPTED, b.entry, b.task, 0)
+    Ok(answered(n, t, ACCEPTED, b.entry, b.task, 0))
 }

@@ -1,3 +1,4 @@
 mod Shifts
+mod Firsts
 pub mod Growing
 pub mod Unique

@@ -27,6 +27,10 @@ end_in w b = min w.end (length b)
 abbrev pub start_in : Window → List ℕ → ℕ
 start_in w b = min w.at (end_in w b)
 
+-- a window, cut to a buffer of so many bytes
+abbrev pub within : Window → ℕ → Window
+within w room = record { at = min w.at (min w.end room); end = min w.end room; last = w.last }
+
 -- what stands unread
 abbrev pub unread_in : Window → List ℕ → List ℕ
 unread_in w b = take (end_in w b - start_in w b) (drop (start_in w b) b)

@@ -30,13 +30,8 @@ pub fn begun() -> Flow
 pub fn passed<R: Print + Eprint>(rt: &R, f: Flow, at: usize, place: usize, out: &[u8]) -> Flow
     ensures { (result.window ≡ moved_to f.window at) × (result.waits ≡ waits_behind out.now place) }
 {
-    let w = f.window;
     let o = drained(rt, out, place);
-    let window = Window {
-        at,
-        end: w.end,
-        last: w.last,
-    };
+    let window = Window { at, ..f.window };
     Flow {
         window,
         waits: o.waits,
@@ -49,8 +44,7 @@ pub fn fed<R: Input + Print + Eprint>(rt: &R, f: Flow, buf: &mut [u8], out: &[u8
     ensures { Grown f.window buf.old result.window buf.new × (result.waits ≡ 0) }
 {
     let o = flushed(rt, out, f.waits);
-    let w = f.window;
-    let window = refilled(rt, w, buf);
+    let window = refilled(rt, f.window, buf);
     Flow {
         window,
         waits: o.waits,
@@ -63,10 +57,9 @@ pub fn done<R: Print + Eprint>(rt: &R, f: Flow, out: &[u8]) -> Flow
     ensures { (result.window ≡ f.window) × (result.waits ≡ 0) × (result.goes ≡ false) }
 {
     let o = flushed(rt, out, f.waits);
-    let window = f.window;
     Flow {
-        window,
         waits: o.waits,
         goes: false,
+        ..f
     }
 }

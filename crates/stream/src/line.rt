@@ -1,13 +1,12 @@
 // Lines of the input on their way to output. The last line may lack its line end; behind a line end there is no empty last line. A line that does
 // not fit the buffer is told and skipped to its end.
-ghost use Rattle.std.specs.Prelude.{◌≡◌, ◌≤◌, true, false, length};
+ghost use Rattle.std.specs.Prelude.{◌≡◌, ◌≤◌, ◌==◌, true, false, length, position};
 ghost use Rattle.text.specs.Text.{number_after};
-ghost use Rattle.stream.specs.Lines.{index_of, no_lines, kind_of, front_of, number_behind, skips_behind, WindowBehind};
+ghost use Rattle.stream.specs.Lines.{no_lines, kind_of, front_of, number_behind, skips_behind, WindowBehind};
 ghost use Rattle.stream.specs.Windows.{moved_to, Grown};
 
 use crate::errors::tell_long;
 use crate::flow::{Flow, begun, done, fed, passed};
-use text::least;
 
 // The flow of input and output, the number of the line that comes next, and whether that is the rest of one that is too long.
 #[derive(Clone, Copy)]
@@ -44,21 +43,15 @@ pub fn first() -> Lines
     Lines {
         flow,
         number: 1,
-        skips: false,
+        skips: false, // no line is too long yet
     }
 }
 
-// How many bytes stand in front of the first that is `byte`: all of them where none is.
-fn place_of(byte: u8, text: &[u8]) -> usize
-    ensures value { result ≡ index_of byte text.now }
-    ensures within { result ≤ length text.now }
+// The first place of a byte.
+fn place_of(byte: u8, text: &[u8]) -> Option<usize>
+    ensures { result ≡ position (λ x. x == byte) text.now }
 {
-    for (i, b) in text.iter().enumerate() {
-        if *b == byte {
-            return i;
-        }
-    }
-    text.len()
+    text.iter().position(|&b| b == byte)
 }
 
 // What it is, by whether it is all of a line or of its rest, no more bytes come, and it fills the buffer.
@@ -79,16 +72,14 @@ pub fn front(l: Lines, buf: &[u8]) -> Piece
     ensures value { result ≡ front_of l buf.now }
     ensures from_le_to { (result.from ≤ result.to) × (result.to ≤ length buf.now) }
 {
-    let w = l.flow.window;
-    let end = least(w.end, buf.len());
-    let at = least(w.at, end);
-    let stop = at + place_of(b'\n', &buf[at..end]);
-    let whole = (stop < end) | (w.last & (at < end));
-    let kind = kind_of(whole, l.skips, w.last, end - at == buf.len());
+    let w = l.flow.window.within(buf.len());
+    let unread = &buf[w.at..w.end];
+    let stop = w.at + place_of(b'\n', unread).unwrap_or(unread.len());
+    let whole = (stop < w.end) | (w.last & (w.at < w.end));
     Piece {
-        from: at,
+        from: w.at,
         to: stop,
-        kind,
+        kind: kind_of(whole, l.skips, w.last, unread.len() == buf.len()),
     }
 }
 
@@ -97,12 +88,12 @@ fn ended<R: Print + Eprint>(rt: &R, l: Lines, stop: usize, place: usize, out: &[
     ensures number_value { (result.number ≡ number_after l.number) × (result.skips ≡ false) }
     ensures window_value { result.flow.window ≡ moved_to l.flow.window (number_after stop) }
 {
-    let next = std::num::wrapping_add_usize(stop, 1);
-    let mut n = l;
-    n.flow = passed(rt, l.flow, next, place, out);
-    n.number = std::num::wrapping_add_u64(l.number, 1);
-    n.skips = false;
-    n
+    let next = stop.wrapping_add(1);
+    Lines {
+        flow: passed(rt, l.flow, next, place, out),
+        number: l.number.wrapping_add(1),
+        skips: false,
+    }
 }
 
 // Behind bytes that fill the buffer, up to `stop`. That their line is too long is told once.
@@ -113,10 +104,11 @@ fn skipping<R: Print + Eprint>(rt: &R, l: Lines, stop: usize, out: &[u8]) -> Lin
     if !l.skips {
         tell_long(rt, l.number, stop);
     }
-    let mut n = l;
-    n.flow = passed(rt, l.flow, stop, l.flow.waits, out);
-    n.skips = true;
-    n
+    Lines {
+        flow: passed(rt, l.flow, stop, l.flow.waits, out),
+        skips: true,
+        ..l
+    }
 }
 
 // With more input.
@@ -124,9 +116,10 @@ fn supplied<R: Input + Print + Eprint>(rt: &R, l: Lines, buf: &mut [u8], out: &[
     ensures number_value { (result.number ≡ l.number) × (result.skips ≡ l.skips) }
     ensures grown { Grown l.flow.window buf.old result.flow.window buf.new }
 {
-    let mut n = l;
-    n.flow = fed(rt, l.flow, buf, out);
-    n
+    Lines {
+        flow: fed(rt, l.flow, buf, out),
+        ..l
+    }
 }
 
 // Behind the last line.
@@ -134,9 +127,10 @@ fn over<R: Print + Eprint>(rt: &R, l: Lines, out: &[u8]) -> Lines
     ensures number_value { (result.number ≡ l.number) × (result.skips ≡ l.skips) }
     ensures window_value { result.flow.window ≡ l.flow.window }
 {
-    let mut n = l;
-    n.flow = done(rt, l.flow, out);
-    n
+    Lines {
+        flow: done(rt, l.flow, out),
+        ..l
+    }
 }
 
 // Behind what stands at the front of the window, with output for it up to `place`. Where that is less than a line, there is more input instead.
@@ -151,10 +145,8 @@ pub fn behind<R: Input + Print + Eprint>(
     ensures number_value { (result.number ≡ number_behind p.kind l.number) × (result.skips ≡ skips_behind p.kind l.skips) }
     ensures window_behind { WindowBehind p.kind p.to l.flow.window buf.old result.flow.window buf.new }
 {
-    let kind = p.kind;
-    match kind {
-        Kind::Line => ended(rt, l, p.to, place, out),
-        Kind::Rest => ended(rt, l, p.to, place, out),
+    match p.kind {
+        Kind::Line | Kind::Rest => ended(rt, l, p.to, place, out),
         Kind::Long => skipping(rt, l, p.to, out),
         Kind::More => supplied(rt, l, buf, out),
         Kind::Over => over(rt, l, out),

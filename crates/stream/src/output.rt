@@ -3,12 +3,10 @@
 ghost use Rattle.std.specs.Prelude.{◌≡◌, true, false};
 ghost use Rattle.stream.specs.Outputs.{is_full, waits_behind};
 
-use text::least;
-
 // The room that is kept free behind what waits. That it is enough for what stepper and replay print before they come back here is proved in logs.
 const SPARE: usize = 8192;
 
-// How much output waits, and whether what does not could be written.
+// How much output waits, and whether what does not could be written. Where it could not, the contract says how much waits too: a Result would lose that.
 #[derive(Clone, Copy)]
 pub struct Output {
     pub waits: usize,
@@ -24,8 +22,8 @@ fn tell_lost<R: Eprint>(rt: &R) {
 pub fn flushed<R: Print + Eprint>(rt: &R, out: &[u8], waits: usize) -> Output
     ensures { result.waits ≡ 0 }
 {
-    let n = least(waits, out.len());
-    let writes = rt.write_all(&out[0..n]).is_ok();
+    let n = waits.min(out.len());
+    let writes = rt.write_all(&out[..n]).is_ok();
     if !writes {
         tell_lost(rt);
     }
@@ -37,7 +35,7 @@ pub fn drained<R: Print + Eprint>(rt: &R, out: &[u8], waits: usize) -> Output
     ensures waits_value { result.waits ≡ waits_behind out.now waits }
     ensures writes_value { is_full out.now waits ≡ false → result.writes ≡ true }
 {
-    let n = least(waits, out.len());
+    let n = waits.min(out.len());
     if out.len() - n < SPARE {
         return flushed(rt, out, n);
     }

@@ -1,10 +1,9 @@
 // The window on the input: what has been read of it and not yet been taken stands in a buffer.
 // A window that reaches outside its buffer is cut to it, so each function takes every input.
 ghost use Rattle.std.specs.Prelude.{◌≡◌, ◌-◌, ◌≤◌, length};
-ghost use Rattle.stream.specs.Windows.{no_window, shifted, Grown};
+ghost use Rattle.stream.specs.Windows.{no_window, start_in, end_in, shifted, Grown};
 
 use std::io::Read;
-use text::least;
 
 // What stands in the buffer from `at` to `end`; `last` where no more bytes come.
 #[derive(Clone, Copy)]
@@ -12,6 +11,23 @@ pub struct Window {
     pub at: usize,
     pub end: usize,
     pub last: bool,
+}
+
+impl Window {
+    ghost use Rattle.stream.specs.Windows.{within};
+
+    // The window, cut to a buffer of so many bytes.
+    pub fn within(self, room: usize) -> Window
+        ensures value { result ≡ within self room }
+        ensures ordered { (result.at ≤ result.end) × (result.end ≤ room) }
+    {
+        let end = self.end.min(room);
+        Window {
+            at: self.at.min(end),
+            end,
+            ..self
+        }
+    }
 }
 
 // A window on nothing yet.
@@ -25,19 +41,15 @@ pub fn unread() -> Window
     }
 }
 
-// Moves what stands from `at` to `end` to the front, and answers how much that is.
-fn shift(buf: &mut [u8], at: usize, end: usize) -> usize
-    requires { (at ≤ end) × (end ≤ length buf.old) }
-    ensures value { (result ≡ end - at) × (result ≤ length buf.old) }
-    ensures buf_after { buf.new ≡ shifted buf.old at end }
+// Moves what stands unread to the front, and answers how much that is.
+#[tactic(auto, using(crate::proofs::Shifts::moved_front))]
+fn shift(w: Window, buf: &mut [u8]) -> usize
+    ensures value { (result ≡ end_in w buf.old - start_in w buf.old) × (result ≤ length buf.old) }
+    ensures buf_after { buf.new ≡ shifted buf.old (start_in w buf.old) (end_in w buf.old) }
 {
-    let n = end - at;
-    let mut i: usize = 0;
-    while i < n {
-        buf[i] = buf[at + i];
-        i += 1;
-    }
-    n
+    let shown = w.within(buf.len());
+    buf.copy_within(shown.at..shown.end, 0);
+    shown.end - shown.at
 }
 
 // Tells that a read failed.
@@ -63,9 +75,7 @@ fn read_some<R: Input + Eprint>(rt: &R, part: &mut [u8]) -> usize
 pub fn refilled<R: Input + Eprint>(rt: &R, w: Window, buf: &mut [u8]) -> Window
     ensures { Grown w buf.old result buf.new }
 {
-    let end = least(w.end, buf.len());
-    let at = least(w.at, end);
-    let n = shift(buf, at, end);
+    let n = shift(w, buf);
     let part = &mut buf[n..];
     let m = read_some(rt, part);
     Window {
@@ -80,10 +90,8 @@ pub fn headed<R: Input + Eprint>(rt: &R, w: Window, buf: &mut [u8]) -> Window
     ensures { Grown w buf.old result buf.new }
 {
     let mut n = w;
-    let mut i: usize = 0;
-    while i < 8 {
+    for _ in 0..8 {
         n = topped(rt, n, buf);
-        i += 1;
     }
     n
 }
@@ -92,12 +100,8 @@ pub fn headed<R: Input + Eprint>(rt: &R, w: Window, buf: &mut [u8]) -> Window
 fn topped<R: Input + Eprint>(rt: &R, w: Window, buf: &mut [u8]) -> Window
     ensures { Grown w buf.old result buf.new }
 {
-    let end = least(w.end, buf.len());
-    let at = least(w.at, end);
-    if w.last {
-        return w;
-    }
-    if 8 <= end - at {
+    let shown = w.within(buf.len());
+    if w.last | (8 <= shown.end - shown.at) {
         return w;
     }
     refilled(rt, w, buf)

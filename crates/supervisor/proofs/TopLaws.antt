@@ -1,7 +1,7 @@
 -- The whole step, and the questions.
 -- Assumes nothing.
 use Prim.Native.Nat.{ℕ}
-use mathlib.Core.Path.{◌≡◌, refl, sym, ◌∙◌}
+use mathlib.Core.Path.{◌≡◌, refl, subst}
 use mathlib.Core.Bool.{Bool, true, false, not, ◌&&◌}
 use mathlib.Core.List.{List, ◌++◌}
 use native.Mathlib.Omega.{arith}
@@ -10,18 +10,19 @@ use lib.ListN.{length}
 use lib.Seq.{length-take-le}
 use Rattle.lists.specs.Line.{line}
 use Rattle.lists.specs.Marks.{no_marks, marked}
-use Rattle.lists.proofs.LineLaws.{tidy_pad}
-use Rattle.rules.specs.State.{created, is_task, place_of, is_completed}
-use Rattle.rules.specs.Step.{Outcome, refused, took, take_call, room_after, SHORT_ROOM, BAD_STATE}
-use Rattle.rules.specs.Callers.{accepted_in}
-use Rattle.rules.specs.Whole.{Typed, view, sound_whole, decline, done, step_whole}
+use Rattle.rules.specs.State.{State, created, is_task, place_of, is_completed}
+use Rattle.steps.specs.Engine.{callable_in}
+use Rattle.rules.specs.Step.{took, take_call, room_after}
+use Rattle.rules.specs.declared.Refusal.TheVariants.{ShortRoom, BadState}
+use Rattle.rules.specs.Callers.{accepted_in, comes_by, Told}
+use Rattle.rules.specs.Whole.{Typed, view, pack, pack_core, sound_whole, decline, done, step_whole}
+use Rattle.rules.specs.declared.Item.{Item}
 use Rattle.rules.specs.declared.Supervisor.{Supervisor}
 use Rattle.rules.proofs.Apart.{tells}
 use Rattle.rules.proofs.WholeLaws.{parts, core_parts, core_packed, sound_view}
-use Rattle.steps.specs.Taken.{Stands, SeesFor, taken_of, ended_by}
-use Rattle.steps.specs.Change.{one, task_at, bytes_in, comes_of, line_by}
-use Rattle.steps.proofs.ChangeLaws.{Lines, line_is}
-use Rattle.steps.specs.Engine.{callable_in}
+use Rattle.steps.specs.Taken.{Stands, SeesFor, taken_as}
+use Rattle.steps.specs.Change.{one, task_at, bytes_in, line_by}
+use Rattle.steps.proofs.ChangeLaws.{line_is}
 use Rattle.steps.specs.declared.answers.Taken.{Taken}
 use Rattle.calls.specs.declared.Call as C
 
@@ -34,11 +35,11 @@ unfolding stands_of
 sees_of s c t h = record { stands = stands_of s t h; calls = λ e. refl }
 
 module _ (s : Supervisor) (c : C.Call) (n : ℕ) where
-  pub step_short : ltb n 124 ≡ true → step_whole s c n ≡ decline s SHORT_ROOM 0
+  pub step_short : ltb n 124 ≡ true → step_whole s c n ≡ decline s ShortRoom 0
   unfolding step_whole
   step_short h = rw h
 
-  pub step_unsound : ltb n 124 ≡ false → sound_whole s ≡ false → step_whole s c n ≡ decline s BAD_STATE 0
+  pub step_unsound : ltb n 124 ≡ false → sound_whole s ≡ false → step_whole s c n ≡ decline s BadState 0
   unfolding step_whole
   step_unsound h q = rw (h, q)
 
@@ -46,18 +47,14 @@ module _ (s : Supervisor) (c : C.Call) (n : ℕ) where
   unfolding step_whole
   step_sound h q = rw (h, q)
 
--- the core and the callers afterwards are those of the next state
-pub state_is : (s : Supervisor) (c : C.Call) (k : Taken) (room after m l : List ℕ) (b : Bool) → Typed s → sound_whole s ≡ true → k ≡ taken_of s.core (take_call (view s) c)
-    → after ≡ room_after room (ended_by (take_call (view s) c)) → m ≡ marked one (accepted_in k.result k.partner ++ bytes_in task_at k.ended after) no_marks
-    → b ≡ comes_of c k.refusal k.result k.ended → l ≡ line_by m b k.task s.callers
-    → ◌≡◌ {A = Supervisor} (record { core = k.state; callers = l }) (done s (take_call (view s) c)).state
-state_is s c k room after m l b t h ek ea em eb el =
+-- where the call was taken, the core and the callers afterwards are those of the next state
+pub state_is : (s : Supervisor) (c : C.Call) (st : State) (a : Item) (x : List Item) (k : Taken) (room after m l : List ℕ) (b : Bool) → Typed s → sound_whole s ≡ true → take_call (view s) c ≡ took st a x
+    → k ≡ taken_as (pack_core st) a (length x) → after ≡ room_after room x → m ≡ marked one (accepted_in k.result k.partner ++ bytes_in task_at k.ended after) no_marks
+    → b ≡ comes_by c k.result k.ended → l ≡ line_by m b k.task s.callers → ◌≡◌ {A = Supervisor} (record { core = k.state; callers = l }) (pack st)
+state_is s c st a x k room after m l b t h o ek ea em eb el =
     let v = sound_view s t h in
-    go (take_call (view s) c) (line_is s.core (view s) c (take_call (view s) c) k s.callers room after m l b v refl (tells (view s) c v) ek ea em eb el) ek
-  where
-    go : (o : Outcome) → Lines l (line s.callers) o → k ≡ taken_of s.core o → ◌≡◌ {A = Supervisor} (record { core = k.state; callers = l }) (done s o).state
-    go (refused r) p e = λ i. record { core = (e i).state; callers = (p ∙ sym (tidy_pad s.callers t.callers (parts s h).callers)) i }
-    go (took st a x) p e = λ i. record { core = (e i).state; callers = p i }
+    let line = line_is (view s) st a x c k s.callers room after m l b v refl (subst (Told c (view s).callers) o (tells (view s) c v)) ek ea em eb el in
+    λ i. record { core = (ek i).state; callers = line i }
 
 -- ---- questions
 

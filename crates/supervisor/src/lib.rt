@@ -8,9 +8,7 @@ ghost use Rattle.rules.specs.State as state;
 ghost use Rattle.rules.specs.Whole.{stepped_of, pack, sound_whole, step_whole};
 
 use calls::Call;
-use calls::numbers::SHORT_ROOM;
-use rules::numbers::BAD_STATE;
-use rules::{BadState, Stepped, Supervisor};
+use rules::{BadState, Refusal, Stepped, Supervisor};
 use soundness::{is_sound, parts_sound};
 use steps::answers::{answer_by, is_short, refused_answer};
 use steps::change::{comes, gone_marks, next_line};
@@ -24,17 +22,24 @@ pub fn step(s: Supervisor, c: Call, room: &mut [u8]) -> Stepped<Supervisor>
     ensures room { room.new ≡ room_after room.old (step_whole s c (length room.old)).ended }
 {
     if is_short(room.len()) {
-        let answer = refused_answer(SHORT_ROOM, 0);
+        let answer = refused_answer(u8::from(Refusal::ShortRoom), 0);
         return Stepped { state: s, answer };
     }
     let callers = s.callers;
     if !parts_sound(s.core, callers) {
-        let answer = refused_answer(BAD_STATE, 0);
+        let answer = refused_answer(u8::from(Refusal::BadState), 0);
         return Stepped { state: s, answer };
     }
-    let k = take_call(s.core, callers, c, room);
+    let k = match take_call(s.core, callers, c, room) {
+        Ok(k) => k,
+        Err(why) => {
+            let next = table::dispatch::running(s.core);
+            let answer = refused_answer(u8::from(why), next);
+            return Stepped { state: s, answer };
+        }
+    };
     let gone = gone_marks(room, k.ended, k.result, k.partner);
-    let joins = comes(c, k.refusal, k.result, k.ended);
+    let joins = comes(c, k.result, k.ended);
     let callers_now = next_line(callers, gone, joins, k.task);
     let after = k.state;
     let next = table::dispatch::running(after);

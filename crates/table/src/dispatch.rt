@@ -17,7 +17,7 @@ pub struct Best {
 fn last_of(n: u8) -> u8
     ensures { result ≡ last_of n }
 {
-    if n <= 31 { n } else { 31 }
+    n.min(31)
 }
 
 // The better of one and the next, whose current priority is p: the first of the highest level.
@@ -44,8 +44,7 @@ pub fn running(s: Core) -> u8
         task: 0,
         priority: 0,
     };
-    for i in 0..31 {
-        let t = s.ready[i];
+    for &t in &s.ready {
         if t == 0 {
             return b.task;
         }

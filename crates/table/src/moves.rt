@@ -4,7 +4,7 @@
 ghost use Rattle.std.specs.Prelude.{◌≡◌};
 ghost use Rattle.lists.specs.Line.{line, pad};
 ghost use Rattle.lists.specs.Marks.{no_marks, marked};
-ghost use Rattle.rules.specs.State.{placed, ranked, retime};
+ghost use Rattle.rules.specs.State.{retime};
 ghost use Rattle.rules.specs.Whole.{view_core};
 ghost use Rattle.rules.specs.declared.Timer.TheVariants.{Off};
 ghost use Rattle.table.specs.Moved.{moved_of, readied_of, woken_of, ready_ranked, ranked_of, met_of, parted_of, left_of, changed_task};
@@ -18,16 +18,13 @@ fn keys_of(s: Core, a: [u8; 31]) -> [u32; 32]
     ensures { result ≡ marked (left_of s) (line a) no_marks }
 {
     let mut keys = [0u32; 32];
-    for i in 0..31 {
-        let x = a[i];
+    for &x in &a {
         if x == 0 {
             return keys;
         }
         let at = index_of(x);
         let left = left_of(s.clock, s.created, x, s.tasks[at]);
-        if x < 32 {
-            keys[x as usize] = left;
-        }
+        lines::mark(&mut keys, x, left);
     }
     keys
 }
@@ -47,13 +44,13 @@ fn retimed(s: Core, t: u8, w: Timer) -> [u8; 31]
     }
 }
 
-// What stands at the place of task t of n when it goes to place p with the time w, where k stood there; k where t is no task's number.
-fn placed_task(n: u8, t: u8, k: Task, p: Place, w: Timer) -> Task
-    ensures { result ≡ changed_task (λ x. placed x p w) n t k }
+// What stands at the place of task t of n when it changes, where k stood there; k where t is no task's number.
+fn changed_task<F: FnOnce(Task) -> Task>(n: u8, t: u8, k: Task, change: F) -> Task
+    requires { F.IsAlwaysCallable change }
+    ensures { (f : Task → Task) → ((x y : Task) → F.post change x y → y ≡ f x) → result ≡ changed_task f n t k }
 {
     if is_between(t, 31) {
-        let x = shown(n, t, k);
-        placed_at(x, p, w)
+        change(shown(n, t, k))
     } else {
         k
     }
@@ -70,7 +67,7 @@ pub fn moved(s: Core, t: u8, p: Place, w: Timer) -> Core
     let held_now = lines::rejoined(held, t, is_held(p));
     let delays_now = retimed(n, t, w);
     let at = index_of(t);
-    n.tasks[at] = placed_task(n.created, t, n.tasks[at], p, w);
+    n.tasks[at] = changed_task(n.created, t, n.tasks[at], |x| placed_at(x, p, w));
     n.ready = ready_now;
     n.held = held_now;
     n.delays = delays_now;
@@ -82,13 +79,17 @@ fn readied(s: Core, l: [u8; 31]) -> Core
     ensures { result ≡ readied_of s (line l) }
 {
     let mut n = s;
-    for i in 0..31 {
-        let t = l[i];
+    for &t in &l {
         if t == 0 {
             return n;
         }
         let at = index_of(t);
-        n.tasks[at] = placed_task(n.created, t, n.tasks[at], Place::Ready, Timer::Off);
+        n.tasks[at] = changed_task(
+            n.created,
+            t,
+            n.tasks[at],
+            |x| placed_at(x, Place::Ready, Timer::Off),
+        );
     }
     n
 }
@@ -122,18 +123,6 @@ fn ready_ranked(ready: [u8; 31], t: u8, lowered: bool) -> [u8; 31]
     ready
 }
 
-// What stands at the place of task t of n when its current priority becomes `level`, where k stood there; k where t is no task's number.
-fn ranked_task(n: u8, t: u8, k: Task, level: u8) -> Task
-    ensures { result ≡ changed_task (λ x. ranked x level) n t k }
-{
-    if is_between(t, 31) {
-        let x = shown(n, t, k);
-        ranked_at(x, level)
-    } else {
-        k
-    }
-}
-
 // Task g's current priority becomes `level`: lowered, it goes to the head of its new level, else it keeps its place. Then task c goes to place p, with no time.
 fn ranked_then_moved(s: Core, g: u8, level: u8, c: u8, p: Place) -> Core
     ensures { result ≡ moved_of (ranked_of s g level) c p Off }
@@ -148,9 +137,9 @@ fn ranked_then_moved(s: Core, g: u8, level: u8, c: u8, p: Place) -> Core
     let ready_now = lines::rejoined(ready_then, c, is_ready(p));
     let held_now = lines::rejoined(held, c, is_held(p));
     let delays_now = lines::without(delays, c);
-    n.tasks[at] = ranked_task(n.created, g, n.tasks[at], level);
+    n.tasks[at] = changed_task(n.created, g, n.tasks[at], |x| ranked_at(x, level));
     let to = index_of(c);
-    n.tasks[to] = placed_task(n.created, c, n.tasks[to], p, Timer::Off);
+    n.tasks[to] = changed_task(n.created, c, n.tasks[to], |x| placed_at(x, p, Timer::Off));
     n.ready = ready_now;
     n.held = held_now;
     n.delays = delays_now;

@@ -7,40 +7,32 @@ ghost use Rattle.rules.specs.Step.{expiry};
 use rules::numbers::{CALL_EXPIRED, DELAY_TAKEN, ELAPSED};
 use rules::{Place, Timer};
 
+// One that is delayed until its time comes is not ready.
 pub fn is_ready(p: Place) -> bool
     ensures { result ≡ is_ready p }
 {
-    match p {
-        Place::Ready => true,
-        _ => false, // not so one that is delayed until its time comes
-    }
+    matches!(p, Place::Ready)
 }
 
+// One whose call is accepted is not queued.
 pub fn is_queued(p: Place) -> bool
     ensures { result ≡ is_queued p }
 {
-    match p {
-        Place::Queued(_) => true,
-        _ => false, // not so one whose call is accepted
-    }
+    matches!(p, Place::Queued(_))
 }
 
+// One whose call is not accepted yet is not held.
 pub fn is_held(p: Place) -> bool
     ensures { result ≡ is_held p }
 {
-    match p {
-        Place::Held(_) => true,
-        _ => false, // not so one whose call is not accepted yet
-    }
+    matches!(p, Place::Held(_))
 }
 
+// One that is not even created is not completed.
 pub fn is_completed(p: Place) -> bool
     ensures { result ≡ is_completed p }
 {
-    match p {
-        Place::Completed => true,
-        _ => false, // not so one that is not even created
-    }
+    matches!(p, Place::Completed)
 }
 
 pub fn partner_of(p: Place) -> u8
@@ -85,13 +77,11 @@ pub fn expiry_of(p: Place) -> u8
     }
 }
 
+// With no time, no tick ends the wait.
 pub fn has_time(w: Timer) -> bool
     ensures { result ≡ has_time w }
 {
-    match w {
-        Timer::Off => false, // no tick ends the wait
-        Timer::Due(_) => true,
-    }
+    matches!(w, Timer::Due(_))
 }
 
 // Ticks from now until the time, counted round the clock.
@@ -100,7 +90,7 @@ pub fn ticks_left(now: u32, w: Timer) -> u32
 {
     match w {
         Timer::Off => 0,
-        Timer::Due(d) => std::num::wrapping_sub_u32(d, now),
+        Timer::Due(d) => d.wrapping_sub(now),
     }
 }
 
@@ -108,20 +98,20 @@ pub fn ticks_left(now: u32, w: Timer) -> u32
 pub fn higher_of(a: u8, b: u8) -> u8
     ensures { result ≡ higher a b }
 {
-    if a < b { b } else { a }
+    a.max(b)
 }
 
 // Whether x is one of 1..most.
 pub fn is_between(x: u8, most: u8) -> bool
     ensures { result ≡ (nat_lt 0 x && nat_le x most) }
 {
-    (0 < x) & (x <= most)
+    (1..=most).contains(&x)
 }
 
 pub fn in_range(p: u8, n: u8) -> bool
     ensures { result ≡ in_range p n }
 {
-    (0 < p) & (p <= 15) & (n <= 8)
+    (1..=15).contains(&p) & (n <= 8)
 }
 
 // Whether entry e is in the open set.

@@ -11,7 +11,7 @@ use super::place::ticks_left;
 use super::tasks::{index_of, shown};
 use rules::{Core, Place, Task, Timer};
 
-// What picks a queue out of a line.
+// What picks a queue out of a line. It is data and no closure, since it is an argument of the definition `passes_of`, and `picked_once` holds of any test.
 #[derive(Clone, Copy)]
 pub enum Test {
     QueuedOn { target: u8, entry: u8 },
@@ -23,28 +23,21 @@ pub enum Test {
 fn waits_on(p: Place, t: u8, e: u8) -> bool
     ensures { result ≡ (is_queued p && partner_of p == t && entry_of p == e) }
 {
-    match p {
-        Place::Queued(q) => (q.target == t) & (q.entry == e),
-        _ => false,
-    }
+    matches!(p, Place::Queued(q) if (q.target == t) & (q.entry == e))
 }
 
 // Whether a task in this place is held by g.
 fn is_held_by(p: Place, g: u8) -> bool
     ensures { result ≡ (is_held p && partner_of p == g) }
 {
-    match p {
-        Place::Held(m) => m.holder == g,
-        _ => false,
-    }
+    matches!(p, Place::Held(m) if m.holder == g)
 }
 
 // Whether a time comes within n ticks from now.
 fn comes_in(now: u32, n: u32, w: Timer) -> bool
     ensures { result ≡ comes_in now n w }
 {
-    let d = ticks_left(now, w);
-    (0 < d) & (d <= n)
+    (1..=n).contains(&ticks_left(now, w))
 }
 
 // Whether a task passes.
@@ -64,18 +57,5 @@ fn passes(x: Task, q: Test) -> bool
 pub fn picked(s: Core, a: [u8; 31], q: Test) -> [u8; 31]
     ensures { result ≡ pad (filter (passes_of (view_core s) q) (line a)) }
 {
-    let mut r = [0u8; 31];
-    let mut j: usize = 0;
-    for i in 0..31 {
-        let x = a[i];
-        if x == 0 {
-            return r;
-        }
-        let at = index_of(x);
-        if passes(shown(s.created, x, s.tasks[at]), q) {
-            r[j] = x;
-            j += 1;
-        }
-    }
-    r
+    lines::kept(a, |x| passes(shown(s.created, x, s.tasks[index_of(x)]), q))
 }

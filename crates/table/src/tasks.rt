@@ -37,11 +37,9 @@ pub fn placed_at(x: Task, p: Place, w: Timer) -> Task
     ensures { result ≡ placed x p w }
 {
     Task {
-        priority: x.priority,
-        current: x.current,
-        entries: x.entries,
         place: p,
         timer: w,
+        ..x
     }
 }
 
@@ -49,15 +47,7 @@ pub fn placed_at(x: Task, p: Place, w: Timer) -> Task
 pub fn ranked_at(x: Task, n: u8) -> Task
     ensures { result ≡ ranked x n }
 {
-    let place = x.place;
-    let timer = x.timer;
-    Task {
-        priority: x.priority,
-        current: n,
-        entries: x.entries,
-        place,
-        timer,
-    }
+    Task { current: n, ..x }
 }
 
 // Where task t stands in the table; 0 where t is no task's number.

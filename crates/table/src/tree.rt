@@ -13,8 +13,7 @@ fn holders_of(s: Core) -> [u8; 32]
     ensures { result ≡ holders_of s }
 {
     let mut marks = [0u8; 32];
-    for i in 0..31 {
-        let c = s.held[i];
+    for &c in &s.held {
         if c == 0 {
             return marks;
         }
@@ -22,9 +21,7 @@ fn holders_of(s: Core) -> [u8; 32]
         let x = shown(s.created, c, s.tasks[at]);
         let p = x.place;
         let g = partner_of(p);
-        if c < 32 {
-            marks[c as usize] = g;
-        }
+        lines::mark(&mut marks, c, g);
     }
     marks
 }
@@ -34,14 +31,10 @@ fn priorities_of(s: Core) -> [u8; 32]
     ensures { result ≡ priorities_of s }
 {
     let mut known = [0u8; 32];
-    let mut t = s.created;
-    while t > 0 {
+    for t in (1..=s.created).rev() {
         let at = index_of(t);
         let x = shown(s.created, t, s.tasks[at]);
-        if t < 32 {
-            known[t as usize] = x.priority;
-        }
-        t -= 1;
+        lines::mark(&mut known, t, x.priority);
     }
     known
 }
@@ -57,8 +50,7 @@ fn highest(held: [u8; 31], holders: [u8; 32], priorities: [u8; 32], t: u8, depth
     }
     let mut best = own;
     let callers = lines::picked(held, holders, t);
-    for i in 0..31 {
-        let c = callers[i];
+    for &c in &callers {
         if c == 0 {
             return best;
         }

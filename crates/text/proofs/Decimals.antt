@@ -1,13 +1,13 @@
 -- The decimal text of a number, digit by digit, and how many digits it has at most.
 -- Assumes nothing.
-use Prim.Native.Nat.{ℕ, zero, suc, ◌+◌, ◌-◌, ◌*◌, ◌/◌, ◌%◌, ◌^◌, ◌<◌, ◌≤◌}
+use Prim.Native.Nat.{ℕ, zero, suc, ◌+◌, ◌*◌, ◌/◌, ◌%◌, ◌^◌, ◌<◌, ◌≤◌}
 use mathlib.Core.Path.{◌≡◌, refl, sym, ap, subst, ◌∙◌}
 use mathlib.Core.List.{List, [], ◌∷◌, ◌++◌}
 use native.Mathlib.Omega.{arith}
 use native.Mathlib.Nat.{pow-suc, pow-zero}
 use lib.Dec.{ltb}
 use lib.ListN.{length, length-append, drop, set}
-use Rattle.std.proofs.Common.{append_assoc}
+use Rattle.std.proofs.Common.{append_assoc, add-one}
 use Rattle.std.proofs.lemmas.List.{drop-set}
 use borrow.Author.Tests.{lt-ltb, le-ltb, ltb-true, ltb-false}
 use Rattle.lists.proofs.ListLaws.{by_bool}
@@ -45,21 +45,19 @@ digit_on n r i d row h g e f =
     rw (f, s, ← decimal_large r g) (append_assoc (decimal (r / 10)) ((48 + r % 10) ∷ []) (drop (i + 1) row))
 
 -- the first digit
-pub digit_first : (n r i d : ℕ) (row : List ℕ) → i < length row → r < 10 → d ≡ 48 + r → decimal n ≡ decimal r ++ drop (i + 1) row
+pub digit_first : (n r i d : ℕ) (row : List ℕ) → i < length row → r < 10 → d ≡ 48 + r % 10 → decimal n ≡ decimal r ++ drop (i + 1) row
     → drop i (set row i d) ≡ decimal n
 digit_first n r i d row h g e f =
-    let s : drop i (set row i d) ≡ (48 + r) ∷ drop (i + 1) row = rw (← e) (drop-set row i d h) in
+    let k : d ≡ 48 + r = omega arith in
+    let s : drop i (set row i d) ≡ (48 + r) ∷ drop (i + 1) row = rw (← k) (drop-set row i d h) in
     rw (f, s, ← decimal_small r g) refl
 
--- where a number still has two digits there is a place in front, and the number without its last digit has one digit less
-pub digit_room : (r i : ℕ) → 10 ≤ r → r < 10 ^ (i + 1) → (1 ≤ i) × (r / 10 < 10 ^ (i - 1 + 1))
-digit_room r zero h g = let z : r < 10 = subst (λ (p : ℕ). r < p) (pow-suc 10 0 ∙ ap (λ (p : ℕ). p * 10) (pow-zero 10)) g in absurd (omega arith)
-digit_room r (suc i) h g =
-    let p = 10 ^ (suc i) in
-    let e : suc i + 1 ≡ suc (suc i) = omega arith in
-    let z : r < p * 10 = subst (λ (x : ℕ). r < x) (ap (λ (k : ℕ). 10 ^ k) e ∙ pow-suc 10 (suc i)) g in
-    let k : suc i - 1 + 1 ≡ suc i = omega arith in
-    (omega arith, subst (λ (k : ℕ). r / 10 < 10 ^ k) (sym k) (omega arith))
+-- a number without its last digit has one digit less
+pub digit_room : (r i : ℕ) → r < 10 ^ (i + 1) → r / 10 < 10 ^ i
+digit_room r i h =
+    let p = 10 ^ i in
+    let z : r < p * 10 = rw pow-suc at (rw add-one at h) in
+    omega arith
 
 one_more : (l : List ℕ) (x d n : ℕ) → ((d : ℕ) → 0 < d → n / 10 < 10 ^ d → length l ≤ d) → 10 ≤ n → n < 10 ^ d → length (l ++ (x ∷ [])) ≤ d
 one_more l x zero n ih g h = let z : n < 1 = subst (λ (p : ℕ). n < p) (pow-zero 10) h in absurd (omega arith)

@@ -1,5 +1,6 @@
 // Text in lent room: bytes and decimal numbers, each put from a place on, with the place behind it as the answer.
 // Room that is too short cuts the text off: no byte behind the room, and no refusal.
+// Room and place are two parameters and no struct: `byte_once`, `bytes_once` and `number_once` (docs/STATEMENTS.md) speak of a call with both.
 #![tactic(auto)]
 
 ghost use Rattle.std.specs.Prelude.{min, ◌≡◌, ◌≤◌, [], ◌∷◌, drop};
@@ -16,22 +17,20 @@ pub fn put_byte(b: u8, out: &mut [u8], at: usize) -> usize
     out.len()
 }
 
-// The smaller of two numbers.
+// The smaller of two numbers. Code says `min`: this stands for its theorem `least_once`, which docs/STATEMENTS.md names.
 pub fn least(a: usize, b: usize) -> usize
     ensures { result ≡ min a b }
 {
-    if a < b { a } else { b }
+    a.min(b)
 }
 
 // All bytes of a text.
 pub fn put_bytes(text: &[u8], out: &mut [u8], at: usize) -> usize
     ensures { Put out.old at text.now out.new result }
 {
-    let mut place = least(at, out.len());
-    let mut i = 0;
-    while i < text.len() {
-        place = put_byte(text[i], out, place);
-        i += 1;
+    let mut place = at.min(out.len());
+    for &b in text {
+        place = put_byte(b, out, place);
     }
     place
 }
@@ -41,15 +40,15 @@ fn digits(n: u64, row: &mut [u8; 20]) -> usize
     ensures within { result ≤ 20 }
     ensures value { drop result row.new ≡ decimal n }
 {
-    let mut i = 19;
     let mut rest = n;
-    while 10 <= rest {
+    for i in (0..row.len()).rev() {
         row[i] = b'0' + (rest % 10) as u8;
         rest /= 10;
-        i -= 1;
+        if rest == 0 {
+            return i;
+        }
     }
-    row[i] = b'0' + rest as u8;
-    i
+    unreachable!() // 20 digits hold every number of 64 bits
 }
 
 // A number in decimal.

@@ -8,8 +8,7 @@ use Rattle.workspace.specs.declared.Done.{Done}
 use Rattle.lists.specs.Lists.{when◌then◌else◌, bit}
 use Rattle.workspace.specs.Rules.{units, stretch, none, end, has_places, rules_kept}
 use Rattle.workspace.specs.Operations.{placed, fits, fit_start, cut, starts_at, length_at, without, joined, Outcome, refused, took, fresh_of, request_of, release_of, blocks_after, free_after, answer_of, unused}
-use Rattle.workspace.specs.declared.Test.TheVariants.{StartsAt, StartsBehind, HasUnits}
-use Rattle.workspace.specs.Places.{place_of, passes_of, remove_at, insert_at}
+use Rattle.workspace.specs.Places.{place_of, has_start, is_behind, has_units, remove_at, insert_at}
 use Rattle.workspace.specs.Seen.{table_of, laid, look_of}
 use Rattle.workspace.specs.Steps.{keeps_seen, refused_as, done_as, fresh_seen, request_refusal, cut_at, grant_seen, request_seen, block_at, give_back, count_back, free_seen, release_seen}
 use Rattle.lists.proofs.Tests.{and_first, and_second}
@@ -63,18 +62,18 @@ module _ (b f : List Stretch) (u : Used) (s : Stands b f u) where
   free_used = (λ i. take (sym (count_free b f u s) i) (free_seen_lem b f u s i)) ∙ take_pad 32 fl (at_most_32 b f u s)
 
   -- the search over the lent table finds a used place exactly where some free stretch is long enough
-  place_fits : (n : ℕ) → ltb (place_of (passes_of HasUnits n) f) u.free ≡ fits n fl
+  place_fits : (n : ℕ) → ltb (place_of (has_units n) f) u.free ≡ fits n fl
   place_fits n =
       let t : f ≡ fl ++ replicate (length (drop u.free f)) none = table_is u.free f s.unused_free in
       let c : length fl ≡ u.free = count_free b f u s in
       by_bool (fits n fl)
       (λ e.
-      let p : place_of (passes_of HasUnits n) f ≡ place_of (passes_of HasUnits n) fl = ap (place_of (passes_of HasUnits n)) t ∙ find_in (passes_of HasUnits n) fl (replicate (length (drop u.free f)) none) (fit_there n fl e) in
-      let h : place_of (passes_of HasUnits n) fl < length fl = fit_there n fl e in
-      lt-ltb (place_of (passes_of HasUnits n) f) u.free (omega (arith, p, h, c)) ∙ sym e)
+      let p : place_of (has_units n) f ≡ place_of (has_units n) fl = ap (place_of (has_units n)) t ∙ find_in (has_units n) fl (replicate (length (drop u.free f)) none) (fit_there n fl e) in
+      let h : place_of (has_units n) fl < length fl = fit_there n fl e in
+      lt-ltb (place_of (has_units n) f) u.free (omega (arith, p, h, c)) ∙ sym e)
       (λ e.
-      let h : length fl ≤ place_of (passes_of HasUnits n) f = subst (λ (l : List Stretch). length fl ≤ place_of (passes_of HasUnits n) l) (sym t) (find_out (passes_of HasUnits n) fl (replicate (length (drop u.free f)) none) (fit_nowhere n fl e)) in
-      le-ltb (place_of (passes_of HasUnits n) f) u.free (omega (arith, h, c)) ∙ sym e)
+      let h : length fl ≤ place_of (has_units n) f = subst (λ (l : List Stretch). length fl ≤ place_of (has_units n) l) (sym t) (find_out (has_units n) fl (replicate (length (drop u.free f)) none) (fit_nowhere n fl e)) in
+      le-ltb (place_of (has_units n) f) u.free (omega (arith, h, c)) ∙ sym e)
 
   place_there_fits : (n : ℕ) → ltb (look_of b f n).place u.free ≡ fits n fl
   unfolding look_of
@@ -87,25 +86,25 @@ module _ (b f : List Stretch) (u : Used) (s : Stands b f u) where
 
     -- the place found, and the stretch there
     abbrev p : ℕ
-    p = place_of (passes_of HasUnits n) fl
+    p = place_of (has_units n) fl
 
     abbrev x : Stretch
     x = get_or fl p none
 
-    found : place_of (passes_of HasUnits n) f ≡ p
-    found = ap (place_of (passes_of HasUnits n)) (table_is u.free f s.unused_free) ∙ find_in (passes_of HasUnits n) fl (replicate (length (drop u.free f)) none) (fit_there n fl e)
+    found : place_of (has_units n) f ≡ p
+    found = ap (place_of (has_units n)) (table_is u.free f s.unused_free) ∙ find_in (has_units n) fl (replicate (length (drop u.free f)) none) (fit_there n fl e)
 
-    there : get_or (table_of f).places (place_of (passes_of HasUnits n) f) none ≡ x
+    there : get_or (table_of f).places (place_of (has_units n) f) none ≡ x
     there = (λ i. get_or (free_seen_lem b f u s i) (found i) none) ∙ get_d_pad 32 p fl (fit_there n fl e) (at_most_32 b f u s)
 
     abbrev block : Stretch
     block = stretch v n
 
-    blocks_then : insert_at (place_of (passes_of StartsBehind (get_or (table_of f).places (place_of (passes_of HasUnits n) f) none).start) (take u.blocks (table_of b).places)) (stretch (get_or (table_of f).places (place_of (passes_of HasUnits n) f) none).start n) (table_of b).places ≡ pad 32 (placed block bl)
+    blocks_then : insert_at (place_of (is_behind (get_or (table_of f).places (place_of (has_units n) f) none).start) (take u.blocks (table_of b).places)) (stretch (get_or (table_of f).places (place_of (has_units n) f) none).start n) (table_of b).places ≡ pad 32 (placed block bl)
     blocks_then =
         let h : length bl ≤ 31 = at_most_31 b f u s in
-        (λ i. insert_at (place_of (passes_of StartsBehind (there i).start) (blocks_used i)) (stretch (there i).start n) (blocks_seen b f u s i))
-        ∙ (λ i. insert_at (place_of (passes_of StartsBehind (fit_start_lem n fl e i)) bl) (stretch (fit_start_lem n fl e i) n) (pad 32 bl)) ∙ pad_placed 32 block bl (omega (arith, h))
+        (λ i. insert_at (place_of (is_behind (there i).start) (blocks_used i)) (stretch (there i).start n) (blocks_seen b f u s i))
+        ∙ (λ i. insert_at (place_of (is_behind (fit_start_lem n fl e i)) bl) (stretch (fit_start_lem n fl e i) n) (pad 32 bl)) ∙ pad_placed 32 block bl (omega (arith, h))
 
     sum_fits : (x.start + n) % 4294967296 ≡ x.start + n
     sum_fits =
@@ -113,7 +112,7 @@ module _ (b f : List Stretch) (u : Used) (s : Stands b f u) where
         let k : n ≤ x.length = found_long n fl e in
         omega (arith, h, k)
 
-    free_then : cut_at (place_of (passes_of HasUnits n) f) n (table_of f).places ≡ pad 32 (cut n fl)
+    free_then : cut_at (place_of (has_units n) f) n (table_of f).places ≡ pad 32 (cut n fl)
     free_then =
         (λ i. when ltb n (there i).length then set (free_seen_lem b f u s i) (found i) (stretch (((there i).start + n) % 4294967296) ((there i).length - n)) else remove_at (found i) (free_seen_lem b f u s i))
         ∙ ap (λ (a : ℕ). when ltb n x.length then set (pad 32 fl) p (stretch a (x.length - n)) else remove_at p (pad 32 fl)) sum_fits ∙ pad_cut 32 n fl (at_most_32 b f u s) e
@@ -121,7 +120,7 @@ module _ (b f : List Stretch) (u : Used) (s : Stands b f u) where
     blocks_count : u.blocks + 1 ≡ length (placed block bl)
     blocks_count = let c : length bl ≡ u.blocks = count_blocks b f u s in let k : length (placed block bl) ≡ length bl + 1 = placed_length block bl in omega (arith, c, k)
 
-    free_count : u.free - bit (leb (get_or (table_of f).places (place_of (passes_of HasUnits n) f) none).length n) ≡ length (cut n fl)
+    free_count : u.free - bit (leb (get_or (table_of f).places (place_of (has_units n) f) none).length n) ≡ length (cut n fl)
     free_count = (λ i. sym (count_free b f u s) i - bit (leb (there i).length n)) ∙ cut_length n fl e
 
     grant_is : grant_seen (look_of b f n) u n ≡ done_as (pad 32 (placed block bl)) (pad 32 (cut n fl)) v (length (placed block bl)) (length (cut n fl))
@@ -141,17 +140,17 @@ module _ (b f : List Stretch) (u : Used) (s : Stands b f u) where
     y = given_back bl fl s.sound a e
 
     abbrev q : ℕ
-    q = place_of (passes_of StartsAt a) bl
+    q = place_of (has_start a) bl
 
     block_found : block_at (look_of b f 0) u a ≡ q
     unfolding look_of
-    block_found = ap (place_of (passes_of StartsAt a)) blocks_used
+    block_found = ap (place_of (has_start a)) blocks_used
 
     block_there : get_or (table_of b).places (block_at (look_of b f 0) u a) none ≡ y
     block_there = (λ i. get_or (blocks_seen b f u s i) (block_found i) none) ∙ get_d_pad 32 q bl (starts_there a bl e) (le_trans (at_most_31 b f u s) (let h : 31 ≤ 32 = omega arith in h)) ∙ block_is a bl e
 
-    place_there : place_of (passes_of StartsBehind (get_or (table_of b).places (block_at (look_of b f 0) u a) none).start) (take u.free (table_of f).places) ≡ place_of (passes_of StartsBehind a) fl
-    place_there = λ i. place_of (passes_of StartsBehind (block_there i).start) (free_used i)
+    place_there : place_of (is_behind (get_or (table_of b).places (block_at (look_of b f 0) u a) none).start) (take u.free (table_of f).places) ≡ place_of (is_behind a) fl
+    place_there = λ i. place_of (is_behind (block_there i).start) (free_used i)
 
     few_joined : length (joined y fl) ≤ 32
     few_joined =
@@ -183,11 +182,11 @@ module _ (b f : List Stretch) (u : Used) (s : Stands b f u) where
   block_starts : (a : ℕ) → ltb (block_at (look_of b f 0) u a) u.blocks ≡ starts_at a bl
   unfolding look_of
   block_starts a =
-      let w : place_of (passes_of StartsAt a) (take u.blocks (table_of b).places) ≡ place_of (passes_of StartsAt a) bl = ap (place_of (passes_of StartsAt a)) blocks_used in
+      let w : place_of (has_start a) (take u.blocks (table_of b).places) ≡ place_of (has_start a) bl = ap (place_of (has_start a)) blocks_used in
       let c : length bl ≡ u.blocks = count_blocks b f u s in
       by_bool (starts_at a bl)
-      (λ e. let h : place_of (passes_of StartsAt a) bl < length bl = starts_there a bl e in lt-ltb (place_of (passes_of StartsAt a) (take u.blocks (table_of b).places)) u.blocks (omega (arith, w, h, c)) ∙ sym e)
-      (λ e. let h : length bl ≤ place_of (passes_of StartsAt a) bl = starts_nowhere a bl e in le-ltb (place_of (passes_of StartsAt a) (take u.blocks (table_of b).places)) u.blocks (omega (arith, w, h, c)) ∙ sym e)
+      (λ e. let h : place_of (has_start a) bl < length bl = starts_there a bl e in lt-ltb (place_of (has_start a) (take u.blocks (table_of b).places)) u.blocks (omega (arith, w, h, c)) ∙ sym e)
+      (λ e. let h : length bl ≤ place_of (has_start a) bl = starts_nowhere a bl e in le-ltb (place_of (has_start a) (take u.blocks (table_of b).places)) u.blocks (omega (arith, w, h, c)) ∙ sym e)
 
 -- ---- in the order of the refusals
 pub request_says : (b f : List Stretch) (u : Used) (n : ℕ) → Says (request_seen (look_of b f n) u n) b f u (request_of b f u n)

@@ -1,6 +1,6 @@
 -- The check finds exactly the tables that keep the rules.
 -- Assumes nothing.
-use Rattle.std.proofs.Common.{◌≡◌, ℕ, zero, suc, ◌+◌, ◌-◌, ◌<◌, ◌≤◌, Bool, true, false, not, ◌&&◌, eqb, ltb, List, [], ◌∷◌, length, get_or, drop, sym, refl, ap, ◌∙◌, subst, true≢false, le_of_suc-le-suc, not-suc-le-zero, add-one, arith, ltb-true, lt-ltb, eq-eqb, ne_eqb, eqb-true}
+use Rattle.std.proofs.Common.{◌≡◌, ℕ, zero, suc, ◌+◌, ◌-◌, ◌<◌, ◌≤◌, Bool, true, false, not, ◌&&◌, Option, Some, None, eqb, ltb, List, [], ◌∷◌, length, get_or, drop, sym, refl, ap, ◌∙◌, subst, true≢false, le_of_suc-le-suc, not-suc-le-zero, add-one, arith, ltb-true, lt-ltb, eq-eqb, ne_eqb, eqb-true}
 use mathlib.Core.Bool.{and-true, and-false}
 use borrow.Author.Tests.{eqb-false, not-true}
 use Rattle.workspace.specs.declared.Stretch.{Stretch}
@@ -139,27 +139,17 @@ turn k t bs fs = λ s.
     else (when not t.after && begins_there t.at t.j fs s then tiled k true (t.at + first_there t.j fs s) (drop t.i bs) (rest_there t.j fs s)
     else ends t.at (drop t.i bs) (drop t.j fs))
 
-pub goes_on : (k : ℕ) (t : Reach) (bs fs : List Stretch) → (reach_of t (get_or bs t.i none) (get_or fs t.j none)).stuck ≡ false
-    → Rest (suc k) t bs fs ≡ Rest k (reach_of t (get_or bs t.i none) (get_or fs t.j none)) bs fs
-goes_on k t bs fs e = turn k t bs fs ∙ by_cases (get_or bs t.i none) (get_or fs t.j none) e
-  where
-    by_cases : (x y : Stretch) → (reach_of t x y).stuck ≡ false → Turn k t bs fs x y ≡ Rest k (reach_of t x y) bs fs
-    by_cases x y q = by_bool (begins_at t.at x)
-        (λ p. rw p refl)
-        (λ p. by_bool (not t.after && begins_at t.at y)
-        (λ r. rw (p, r) refl)
-        (λ r. absurd (true≢false (let z : true ≡ false = rw (p, r) at q in z))))
+-- the turn goes on from where it reaches, or ends the check
+unfoldable pub onward : (k : ℕ) (t : Reach) (bs fs : List Stretch) → Option Reach → Bool
+onward k t bs fs (Some u) = Rest k u bs fs
+onward k t bs fs None = ends t.at (drop t.i bs) (drop t.j fs)
 
-pub stops : (k : ℕ) (t : Reach) (bs fs : List Stretch) → (reach_of t (get_or bs t.i none) (get_or fs t.j none)).stuck ≡ true
-    → Rest (suc k) t bs fs ≡ ends t.at (drop t.i bs) (drop t.j fs)
-stops k t bs fs e = turn k t bs fs ∙ by_cases (get_or bs t.i none) (get_or fs t.j none) e
+turned : (k : ℕ) (t : Reach) (bs fs : List Stretch) → Rest (suc k) t bs fs ≡ onward k t bs fs (reach_of t (get_or bs t.i none) (get_or fs t.j none))
+unfolding onward
+turned k t bs fs = turn k t bs fs ∙ by_cases (get_or bs t.i none) (get_or fs t.j none)
   where
-    by_cases : (x y : Stretch) → (reach_of t x y).stuck ≡ true → Turn k t bs fs x y ≡ ends t.at (drop t.i bs) (drop t.j fs)
-    by_cases x y q = by_bool (begins_at t.at x)
-        (λ p. absurd (true≢false (sym (let z : false ≡ true = rw p at q in z))))
-        (λ p. by_bool (not t.after && begins_at t.at y)
-        (λ r. absurd (true≢false (sym (let z : false ≡ true = rw (p, r) at q in z))))
-        (λ r. rw (p, r) refl))
+    by_cases : (x y : Stretch) → Turn k t bs fs x y ≡ onward k t bs fs (reach_of t x y)
+    by_cases x y = by_bool (begins_at t.at x) (λ p. rw p refl) (λ p. by_bool (not t.after && begins_at t.at y) (λ r. rw (p, r) refl) (λ r. rw (p, r) refl))
 
 -- the end of the check, by the places passed
 drop_end : (i : ℕ) (l : List Stretch) → i ≤ length l → eqb i (length l) ≡ null (drop i l)
@@ -189,47 +179,40 @@ get_d_in a (suc i) (x ∷ xs) e = let ih : i < length xs = get_d_in a i xs e in 
 
 pub record Bounds (t u : Reach) (bs fs : List Stretch) : Type 0 where
   pub at : u.at ≤ t.at + 4294967295
-  pub i : u.i ≤ t.i + 1
-  pub j : u.j ≤ t.j + 1
-  pub bi : u.i ≤ length bs
-  pub bj : u.j ≤ length fs
+  pub i : u.i ≤ length bs
+  pub j : u.j ≤ length fs
 
-pub bounded : (t : Reach) (bs fs : List Stretch) → (get_or bs t.i none).length < 4294967296 → (get_or fs t.j none).length < 4294967296 → t.i ≤ length bs → t.j ≤ length fs
-    → Bounds t (reach_of t (get_or bs t.i none) (get_or fs t.j none)) bs fs
-bounded t bs fs hx hy hi hj =
+bounded : (t u : Reach) (bs fs : List Stretch) → (get_or bs t.i none).length < 4294967296 → (get_or fs t.j none).length < 4294967296 → t.i ≤ length bs → t.j ≤ length fs
+    → reach_of t (get_or bs t.i none) (get_or fs t.j none) ≡ Some u → Bounds t u bs fs
+bounded t u bs fs hx hy hi hj e =
     by_bool (begins_at t.at (get_or bs t.i none))
-    (λ p. let q : t.i < length bs = get_d_in t.at t.i bs p in rw p (record { at = omega (arith, hx); i = omega arith; j = omega arith; bi = omega (arith, q); bj = hj }))
+    (λ p. let q : t.i < length bs = get_d_in t.at t.i bs p in
+    let w : Some (record { at = t.at + (get_or bs t.i none).length; i = t.i + 1; j = t.j; after = false }) ≡ Some u = rw p at e in
+    reaches w (record { at = omega (arith, hx); i = omega (arith, q); j = hj }))
     (λ p. by_bool (not t.after && begins_at t.at (get_or fs t.j none))
-    (λ r. let q : t.j < length fs = get_d_in t.at t.j fs (and_second (not t.after) (begins_at t.at (get_or fs t.j none)) r) in rw (p, r) (record { at = omega (arith, hy); i = omega arith; j = omega arith; bi = hi; bj = omega (arith, q) }))
-    (λ r. rw (p, r) (record { at = omega arith; i = omega arith; j = omega arith; bi = hi; bj = hj })))
+    (λ r. let q : t.j < length fs = get_d_in t.at t.j fs (and_second (not t.after) (begins_at t.at (get_or fs t.j none)) r) in
+    let w : Some (record { at = t.at + (get_or fs t.j none).length; i = t.i; j = t.j + 1; after = true }) ≡ Some u = rw (p, r) at e in
+    reaches w (record { at = omega (arith, hy); i = hi; j = omega (arith, q) }))
+    (λ r. let w : ◌≡◌ {A = Option Reach} None (Some u) = rw (p, r) at e in absurd (let z : ⊥ = cc in z)))
+  where
+    reaches : {v : Reach} → ◌≡◌ {A = Option Reach} (Some v) (Some u) → Bounds t v bs fs → Bounds t u bs fs
+    reaches {v} w b = subst (λ (r : Reach). Bounds t r bs fs) (let z : v ≡ u = cc in z) b
 
 -- ---- the turns of the code, over plain variables
-module _ (k : ℕ) (t u : Reach) (bs fs : List Stretch) (x y : Stretch) (whole : Bool) (h : k < 64) (ex : x ≡ get_or bs t.i none) (ey : y ≡ get_or fs t.j none) (eu : u ≡ reach_of t x y) (w : whole ≡ Rest (64 - k) t bs fs) where
-  is_reached : u ≡ reach_of t (get_or bs t.i none) (get_or fs t.j none)
-  is_reached = eu ∙ (λ s. reach_of t (ex s) (ey s))
+module _ (t : Reach) (bs fs : List Stretch) (k : ℕ) (x y : Stretch) (o : Option Reach) (whole : Bool) (h : k < 64) (ex : x ≡ get_or bs t.i none) (ey : y ≡ get_or fs t.j none) (eo : o ≡ reach_of t x y) (w : whole ≡ Rest (64 - k) t bs fs) where
+  is_reached : o ≡ reach_of t (get_or bs t.i none) (get_or fs t.j none)
+  is_reached = eo ∙ (λ s. reach_of t (ex s) (ey s))
 
-  one_turn : whole ≡ Rest (suc (64 - (k + 1))) t bs fs
-  one_turn = let f : 64 - k ≡ suc (64 - (k + 1)) = omega (arith, h) in w ∙ ap (λ (n : ℕ). Rest n t bs fs) f
+  one_turn : whole ≡ onward (64 - (k + 1)) t bs fs o
+  one_turn = let f : 64 - k ≡ suc (64 - (k + 1)) = omega (arith, h) in w ∙ ap (λ (n : ℕ). Rest n t bs fs) f ∙ turned (64 - (k + 1)) t bs fs ∙ ap (onward (64 - (k + 1)) t bs fs) (sym is_reached)
 
-  pub stop_law : (m n : ℕ) → u.stuck ≡ true → length bs ≡ m → length fs ≡ n → t.i ≤ length bs → t.j ≤ length fs → (eqb t.at 65536 && eqb t.i m) && eqb t.j n ≡ whole
-  stop_law m n e em en hi hj =
-      (λ s. (eqb t.at 65536 && eqb t.i (sym em s)) && eqb t.j (sym en s)) ∙ ends_there t.at t.i t.j bs fs hi hj
-      ∙ sym (one_turn ∙ stops (64 - (k + 1)) t bs fs (ap (λ (r : Reach). r.stuck) (sym is_reached) ∙ e))
+  pub stop_law : o ≡ None → t.i ≤ length bs → t.j ≤ length fs → (eqb t.at 65536 && eqb t.i (length bs)) && eqb t.j (length fs) ≡ whole
+  unfolding onward
+  stop_law e hi hj = ends_there t.at t.i t.j bs fs hi hj ∙ sym (one_turn ∙ ap (onward (64 - (k + 1)) t bs fs) e)
 
-  pub again_law : u.stuck ≡ false → whole ≡ Rest (64 - (k + 1)) u bs fs
-  again_law e = one_turn ∙ goes_on (64 - (k + 1)) t bs fs (ap (λ (r : Reach). r.stuck) (sym is_reached) ∙ e) ∙ ap (λ (r : Reach). Rest (64 - (k + 1)) r bs fs) (sym is_reached)
+  pub again_law : (u : Reach) → o ≡ Some u → whole ≡ Rest (64 - (k + 1)) u bs fs
+  unfolding onward
+  again_law u e = one_turn ∙ ap (onward (64 - (k + 1)) t bs fs) e
 
-  pub bounds-law : x.length < 4294967296 → y.length < 4294967296 → t.i ≤ length bs → t.j ≤ length fs → Bounds t u bs fs
-  bounds-law hx hy hi hj = subst (λ (r : Reach). Bounds t r bs fs) (sym is_reached) (bounded t bs fs (subst (λ (z : Stretch). z.length < 4294967296) ex hx) (subst (λ (z : Stretch). z.length < 4294967296) ey hy) hi hj)
-
--- one stretch further: where a block begins, where a free stretch does, and where neither does
-pub block_reached : (t : Reach) (x y : Stretch) {p : Bool} → p ≡ begins_at t.at x → p ≡ true → record { at = t.at + x.length; i = t.i + 1; j = t.j; after = false; stuck = false } ≡ reach_of t x y
-block_reached t x y ep e = rw (sym ep ∙ e) refl
-
-pub free_reached : (t : Reach) (x y : Stretch) {p q : Bool} → p ≡ begins_at t.at x → p ≡ false → q ≡ begins_at t.at y → not t.after && q ≡ true
-    → record { at = t.at + y.length; i = t.i; j = t.j + 1; after = true; stuck = false } ≡ reach_of t x y
-free_reached t x y ep e eq f = rw (sym ep ∙ e, sym (ap (λ (b : Bool). not t.after && b) eq) ∙ f) refl
-
-pub none_reached : (t : Reach) (x y : Stretch) {p q : Bool} → p ≡ begins_at t.at x → p ≡ false → q ≡ begins_at t.at y → not t.after && q ≡ false
-    → record { at = t.at; i = t.i; j = t.j; after = t.after; stuck = true } ≡ reach_of t x y
-none_reached t x y ep e eq f = rw (sym ep ∙ e, sym (ap (λ (b : Bool). not t.after && b) eq) ∙ f) refl
+  pub bounds-law : (u : Reach) → o ≡ Some u → x.length < 4294967296 → y.length < 4294967296 → t.i ≤ length bs → t.j ≤ length fs → Bounds t u bs fs
+  bounds-law u e hx hy hi hj = bounded t u bs fs (subst (λ (z : Stretch). z.length < 4294967296) ex hx) (subst (λ (z : Stretch). z.length < 4294967296) ey hy) hi hj (sym is_reached ∙ e)

@@ -5,8 +5,7 @@ use Rattle.workspace.specs.declared.Stretch.{Stretch}
 use Rattle.lists.specs.Lists.{every}
 use Rattle.workspace.specs.Rules.{units, stretch, none, end, is_long, is_inside, is_apart}
 use Rattle.workspace.specs.Operations.{fits, starts_at, length_at}
-use Rattle.workspace.specs.declared.Test.TheVariants.{HasUnits}
-use Rattle.workspace.specs.Places.{place_of, passes_of}
+use Rattle.workspace.specs.Places.{place_of, has_units}
 use Rattle.lists.proofs.Tests.{and_first, and_second}
 use Rattle.lists.proofs.ListLaws.{by_bool}
 use Rattle.workspace.proofs.Pieces.{Sound}
@@ -35,7 +34,7 @@ at_all p (x ∷ xs) zero h e = and_first (p x) (every p xs) e
 at_all p (x ∷ xs) (suc i) h e = at_all p xs i (le_of_suc-le-suc h) (and_second (p x) (every p xs) e)
 
 -- the free stretch that is found is long enough
-pub found_long : (n : ℕ) (l : List Stretch) → fits n l ≡ true → n ≤ (get_or l (place_of (passes_of HasUnits n) l) none).length
+pub found_long : (n : ℕ) (l : List Stretch) → fits n l ≡ true → n ≤ (get_or l (place_of (has_units n) l) none).length
 found_long n [] e = absurd (true≢false (sym e))
 found_long n (f ∷ fs) e = by_bool (leb n f.length) (λ q. rw q (leb-true n f.length q)) (λ q. let k : fits n fs ≡ true = rw q at e in rw q (found_long n fs k))
 

@@ -5,8 +5,7 @@ use Rattle.workspace.specs.declared.Stretch.{Stretch}
 use Rattle.lists.specs.Lists.{bit}
 use Rattle.workspace.specs.Rules.{units, stretch, none, end}
 use Rattle.workspace.specs.Operations.{joined}
-use Rattle.workspace.specs.declared.Test.TheVariants.{StartsBehind}
-use Rattle.workspace.specs.Places.{place_of, passes_of, insert_at}
+use Rattle.workspace.specs.Places.{place_of, is_behind, insert_at}
 use Rattle.workspace.specs.Steps.{touches_low, touches_high, whole_as, give, give_back, count_back}
 use Rattle.lists.proofs.Tests.{ways, no}
 use Rattle.lists.proofs.ListLaws.{by_bool}
@@ -152,11 +151,11 @@ one_on b f K (suc j) fs q p g =
     }
 
 -- all that is free from a on starts behind b
-place_zero : (b : Stretch) (a : ℕ) (fs : List Stretch) → b.start < a → Chain 1 a fs → place_of (passes_of StartsBehind b.start) fs ≡ 0
+place_zero : (b : Stretch) (a : ℕ) (fs : List Stretch) → b.start < a → Chain 1 a fs → place_of (is_behind b.start) fs ≡ 0
 place_zero b a [] h c = refl
 place_zero b a (f ∷ fs) h c = let p : a ≤ f.start = c.0 in rw (lt-ltb b.start f.start (omega (arith, h, p))) refl
 
-gives_back : (b : Stretch) (K a : ℕ) (fs : List Stretch) → 0 < b.length → end b ≤ units → Chain 1 a fs → Clear b fs → length fs ≤ K → length (joined b fs) ≤ K → Gives b K (place_of (passes_of StartsBehind b.start) fs) fs
+gives_back : (b : Stretch) (K a : ℕ) (fs : List Stretch) → 0 < b.length → end b ≤ units → Chain 1 a fs → Clear b fs → length fs ≤ K → length (joined b fs) ≤ K → Gives b K (place_of (is_behind b.start) fs) fs
 gives_back b K a [] l h c d n j = alone b K l h j
 gives_back b zero a (f ∷ fs) l h c d n j = absurd (not-suc-le-zero n)
 gives_back b (suc K) a (f ∷ fs) l h c d n j =
@@ -164,27 +163,27 @@ gives_back b (suc K) a (f ∷ fs) l h c d n j =
     by_bool (ltb b.start f.start)
     (λ p.
     let lt : b.start < f.start = ltb-true b.start f.start p in
-    let k : place_of (passes_of StartsBehind b.start) (f ∷ fs) ≡ 0 = rw p refl in
+    let k : place_of (is_behind b.start) (f ∷ fs) ≡ 0 = rw p refl in
     let e : end b ≤ f.start = ways d.0 (λ q. q) (λ q. no (omega (arith, q, lt))) in
     subst (λ (k : ℕ). Gives b (suc K) k (f ∷ fs)) (sym k) (in_front b f K fs l lt e lf c.2 n j))
     (λ p.
     let le : f.start ≤ b.start = ltb-false b.start f.start p in
-    let k : place_of (passes_of StartsBehind b.start) (f ∷ fs) ≡ suc (place_of (passes_of StartsBehind b.start) fs) = rw p refl in
+    let k : place_of (is_behind b.start) (f ∷ fs) ≡ suc (place_of (is_behind b.start) fs) = rw p refl in
     let e : end f ≤ b.start = ways d.0 (λ q. no (omega (arith, q, l, le))) (λ q. q) in
     by_bool (eqb (end f) b.start)
     (λ q.
     let t : end f ≡ b.start = eqb-true (end f) b.start q in
-    let z : place_of (passes_of StartsBehind b.start) fs ≡ 0 = place_zero b (end f + 1) fs (omega (arith, t)) c.3 in
+    let z : place_of (is_behind b.start) fs ≡ 0 = place_zero b (end f + 1) fs (omega (arith, t)) c.3 in
     subst (λ (k : ℕ). Gives b (suc K) k (f ∷ fs)) (sym (k ∙ ap suc z)) (next_to b f K fs l t lf h c.3 d.1 n))
     (λ q.
     let r : joined b (f ∷ fs) ≡ f ∷ joined b fs = rw (q, ne_eqb (end b) f.start (λ t. no (omega (arith, t, l, le))), p) refl in
     let m : length (f ∷ joined b fs) ≤ suc K = subst (λ (u : List Stretch). length u ≤ suc K) r j in
-    subst (λ (k : ℕ). Gives b (suc K) k (f ∷ fs)) (sym k) (one_on b f K (place_of (passes_of StartsBehind b.start) fs) fs r q (gives_back b K (end f + 1) fs l h c.3 d.1 (le_of_suc-le-suc n) (le_of_suc-le-suc m)))))
+    subst (λ (k : ℕ). Gives b (suc K) k (f ∷ fs)) (sym k) (one_on b f K (place_of (is_behind b.start) fs) fs r q (gives_back b K (end f + 1) fs l h c.3 d.1 (le_of_suc-le-suc n) (le_of_suc-le-suc m)))))
 
 -- ---- what the code does
 module _ (b : Stretch) (a : ℕ) (fs : List Stretch) (l : 0 < b.length) (h : end b ≤ units) (c : Chain 1 a fs) (d : Clear b fs) (n : length fs ≤ 32) (j : length (joined b fs) ≤ 32) where
   abbrev k : ℕ
-  k = place_of (passes_of StartsBehind b.start) fs
+  k = place_of (is_behind b.start) fs
 
   g : Gives b 32 k fs
   g = gives_back b 32 a fs l h c d n j

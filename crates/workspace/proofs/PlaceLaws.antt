@@ -1,144 +1,132 @@
--- Laws of tables' places: loaded, taken out and put in, place by place.
+-- Laws of tables' places: searched, taken out and put in, read and written.
 -- Assumes nothing.
-use Rattle.std.proofs.Common.{◌≡◌, ℕ, zero, suc, ◌+◌, ◌<◌, ◌≤◌, Bool, true, false, ◌&&◌, ◌||◌, ltb, List, [], ◌∷◌, ◌++◌, length, get_or, take, drop, set, replicate, sym, refl, ap, ◌∙◌, zero-le, le_of_suc-le-suc, not-suc-le-zero, add-one, arith, length-append, drop_of_length-le, ltb-false, ltb-true, le-ltb, lt-ltb}
-use mathlib.Core.Bool.{and-true}
-use lib.Seq.{drop-nil}
+use Rattle.std.proofs.Common.{◌≡◌, ℕ, zero, suc, ◌+◌, ◌-◌, ◌<◌, ◌≤◌, min, Bool, ◌&&◌, not, ltb, List, [], ◌∷◌, ◌++◌, Option, Some, None, length, take, drop, set, replicate, sym, refl, ap, ◌∙◌, le_of_suc-le-suc, not-suc-le-zero, arith, drop_of_length-le, take_all, length-drop, length-take-le, append-nil, ltb-true, ltb-false}
+use borrow.Rule.Slice.PartMut.{put_mid, mid_of, post_of}
+use Rattle.std.specs.List.{list_all, position, position_or_len}
+use Rattle.std.specs.Option.{unwrap_or}
+use Rattle.std.proofs.lemmas.List.Recursion.{is_position_or_len}
+use Rattle.std.proofs.lemmas.List.Sums.{prefix_len-le-length}
 use Rattle.workspace.specs.declared.Stretch.{Stretch}
 use Rattle.lists.proofs.ListLaws.{by_bool}
-use Rattle.lists.proofs.Turns.{rest_cons}
-use Rattle.lists.specs.Lists.{when◌then◌else◌, every}
+use Rattle.lists.specs.Lists.{every}
 use Rattle.lists.specs.Over.{over}
-use Rattle.lists.proofs.OverLaws.{over_nil, over_next, over_laid}
 use Rattle.workspace.specs.Rules.{none, is_none}
 use Rattle.workspace.specs.Places.{place_of, remove_at, insert_at}
-use Rattle.workspace.specs.Seen.{table_of, note_of}
 -- handed on: who asks for a place asks how many there are
 pub use Rattle.lists.proofs.ListLaws.{mapped_long}
 
--- ---- all places from the k-th on are unused
-ltb_suc : (i k : ℕ) → ltb (suc i) (suc k) ≡ ltb i k
-ltb_suc i k = by_bool (ltb i k)
-    (λ e. lt-ltb (suc i) (suc k) (let f : i < k = ltb-true i k e in omega (arith, f)) ∙ sym e)
-    (λ e. le-ltb (suc i) (suc k) (let f : k ≤ i = ltb-false i k e in omega (arith, f)) ∙ sym e)
+-- ---- a search
+-- the first place that passes is the library's
+pub place_is : (p : Stretch → Bool) (l : List Stretch) → place_of p l ≡ position_or_len p l
+place_is p l = is_position_or_len (place_of p) p refl (λ x xs. by_bool (p x) (λ e. rw e refl) (λ e. rw e (omega arith))) l
 
-every_suc : {A : Type 0} (p : A → Bool) (l : List A) (i : ℕ) (d : A) → i < length l → every p (take i l) && p (get_or l i d) ≡ every p (take (suc i) l)
-every_suc p [] i d h = absurd (not-suc-le-zero h)
-every_suc p (x ∷ xs) zero d h = sym (and-true (p x))
-every_suc p (x ∷ xs) (suc i) d h = by_bool (p x) (λ e. simp (e, every_suc p xs i d (le_of_suc-le-suc h))) (λ e. simp e)
+-- where none passes, the number of places
+pub place_or_len : (p : Stretch → Bool) (l : List Stretch) → unwrap_or (position p l) (length l) ≡ place_of p l
+place_or_len p l =
+    let k : position_or_len p l ≤ length l = prefix_len-le-length (λ x. not (p x)) l in
+    by_bool (ltb (position_or_len p l) (length l))
+    (λ e. rw e (sym (place_is p l)))
+    (λ e. rw e (let g = ltb-false (position_or_len p l) (length l) e in let h : length l ≡ position_or_len p l = omega (arith, g, k) in h ∙ sym (place_is p l)))
 
-clear_suc : {A : Type 0} (p : A → Bool) (k : ℕ) (l : List A) (i : ℕ) (d : A) → i < length l → every p (drop k (take i l)) && (ltb i k || p (get_or l i d)) ≡ every p (drop k (take (suc i) l))
-clear_suc p k [] i d h = absurd (not-suc-le-zero h)
-clear_suc p zero (x ∷ xs) i d h = rw (le-ltb i zero zero-le) (every_suc p (x ∷ xs) i d h)
-clear_suc {A} p (suc k) (x ∷ xs) zero d h = rw (lt-ltb 0 (suc k) (omega arith), drop-nil {A = A} k) refl
-clear_suc p (suc k) (x ∷ xs) (suc i) d h = rw (ltb_suc i k) (clear_suc p k xs i d (le_of_suc-le-suc h))
+-- the search over the first n places
+pub found_among : (p : Stretch → Bool) (n : ℕ) (l : List Stretch) {o : Option ℕ} {k : ℕ} → n ≤ length l → o ≡ position p (take n l) → k ≡ unwrap_or o n → k ≡ place_of p (take n l)
+found_among p n l h eo ek = ek ∙ (λ i. unwrap_or (eo i) (sym (length-take-le n l h) i)) ∙ place_or_len p (take n l)
 
-clear_next : {A : Type 0} (p : A → Bool) (k : ℕ) (l : List A) (i : ℕ) (d : A) → i < length l → every p (drop k (take i l)) && (ltb i k || p (get_or l i d)) ≡ every p (drop k (take (i + 1) l))
-clear_next p k l i d h = rw add-one (clear_suc p k l i d h)
+-- where one passes, and where none does
+pub found_at : (p : Stretch → Bool) (l : List Stretch) (i : ℕ) → position p l ≡ Some i → (i ≡ place_of p l) × (i < length l)
+found_at p l i e =
+    by_bool (ltb (position_or_len p l) (length l))
+    (λ b.
+    let w : ◌≡◌ {A = Option ℕ} (Some (position_or_len p l)) (Some i) = rw b at e in
+    let z : position_or_len p l ≡ i = cc in
+    let h : position_or_len p l < length l = ltb-true (position_or_len p l) (length l) b in
+    (sym z ∙ sym (place_is p l), omega (arith, z, h)))
+    (λ b. let w : ◌≡◌ {A = Option ℕ} None (Some i) = rw b at e in absurd (let z : ⊥ = cc in z))
 
-pub load_next : (l : List Stretch) (i : ℕ) → i < length l → note_of (table_of (take i l)) i (get_or l i none) ≡ table_of (take (i + 1) l)
-unfolding table_of
-load_next l i h = λ j. record { places = over_next (replicate 32 none) l i none h j; clear = clear_next is_none 32 l i none h j }
+pub found_nowhere : (p : Stretch → Bool) (l : List Stretch) → position p l ≡ None → length l ≤ place_of p l
+found_nowhere p l e =
+    by_bool (ltb (position_or_len p l) (length l))
+    (λ b. let w : ◌≡◌ {A = Option ℕ} (Some (position_or_len p l)) None = rw b at e in absurd (let z : ⊥ = cc in z))
+    (λ b. let h : length l ≤ position_or_len p l = ltb-false (position_or_len p l) (length l) b in omega (arith, h, place_is p l))
 
--- ---- a place is taken out
-get_d_snoc : (l : List Stretch) (i : ℕ) → get_or (l ++ none ∷ []) i none ≡ get_or l i none
-get_d_snoc [] zero = refl
-get_d_snoc [] (suc i) = refl
-get_d_snoc (x ∷ xs) zero = refl
-get_d_snoc (x ∷ xs) (suc i) = get_d_snoc xs i
+-- all pass
+pub every_is : {A : Type 0} (p : A → Bool) (l : List A) → list_all p l ≡ every p l
+every_is p [] = refl
+every_is p (x ∷ xs) = ap (λ (b : Bool). p x && b) (every_is p xs)
 
-remove_suc : (p : ℕ) (l : List Stretch) (i : ℕ) → p ≤ i → get_or (remove_at p l) i none ≡ get_or l (suc i) none
-remove_suc p [] i h = refl
-remove_suc zero (x ∷ xs) i h = get_d_snoc xs i
-remove_suc (suc p) (x ∷ xs) zero h = absurd (not-suc-le-zero h)
-remove_suc (suc p) (x ∷ xs) (suc i) h = remove_suc p xs i (le_of_suc-le-suc h)
+-- ---- a place is taken out: what is behind it is turned by one, and the last is unused
+set_last : (l : List Stretch) (x y : Stretch) → set (l ++ x ∷ []) (length l) y ≡ l ++ y ∷ []
+set_last [] x y = refl
+set_last (z ∷ zs) x y = ap (λ (l : List Stretch). z ∷ l) (set_last zs x y)
 
-pub remove_behind : (p : ℕ) (l : List Stretch) (i : ℕ) → p ≤ i → get_or (remove_at p l) i none ≡ get_or l (i + 1) none
-remove_behind p l i h = rw add-one (remove_suc p l i h)
+pub turned_left : (p m : ℕ) (l : List Stretch) → p ≤ m → length l ≡ suc m → set (take p l ++ (drop 1 (drop p l) ++ take 1 (drop p l))) m none ≡ remove_at p l
+turned_left p m [] h e = absurd (omega arith)
+turned_left zero m (x ∷ xs) h e = (λ i. set (xs ++ x ∷ []) ((let k : m ≡ length xs = omega arith in k) i) none) ∙ set_last xs x none
+turned_left (suc p) zero (x ∷ xs) h e = absurd (omega arith)
+turned_left (suc p) (suc m) (x ∷ xs) h e = ap (λ (l : List Stretch). x ∷ l) (turned_left p m xs (le_of_suc-le-suc h) (omega arith))
 
--- the places before p stay
-pub remove_front : (p : ℕ) (l : List Stretch) → l ≡ over l (take p (remove_at p l))
-remove_front zero l = sym (over_nil l)
-remove_front (suc p) [] = refl
-remove_front (suc p) (x ∷ xs) = ap (λ (l : List Stretch). x ∷ l) (remove_front p xs)
+-- the rest of 32 places, which is all of them from p on
+rest_all : (p : ℕ) (a : List Stretch) → length a ≡ 32 → p < 32 → mid_of p (32 - p) a ≡ drop p a
+rest_all p a long h = take_all (32 - p) (drop p a) (omega (arith, length-drop p a, long))
 
-pub remove_length : (p : ℕ) (l : List Stretch) → length (remove_at p l) ≡ length l
-remove_length p [] = refl
-remove_length zero (x ∷ xs) = length-append xs (none ∷ []) ∙ add-one (length xs)
-remove_length (suc p) (x ∷ xs) = ap suc (remove_length p xs)
+put_rest : (p : ℕ) (a r : List Stretch) → length a ≡ 32 → p < 32 → put_mid p (32 - p) a r ≡ take p a ++ r
+put_rest p a r long h = ap (λ (l : List Stretch). take p a ++ (r ++ l)) (let e : post_of p (32 - p) a ≡ [] = drop_of_length-le (drop p a) {i = 32 - p} (omega (arith, length-drop p a, long, h)) in e) ∙ ap (λ (l : List Stretch). take p a ++ l) (append-nil r)
 
--- ---- r is 32 places that are written anew, place by place from p on: before place i they are those of l, and from there on still those of a
-abbrev pub Written : (a l : List Stretch) (p i : ℕ) (r : List Stretch) → Type 0
-Written a l p i r = (p ≤ i) × (length a ≡ 32) × (r ≡ over a (take i l))
+pub closed_law : (p : ℕ) (a : List Stretch) {r : List Stretch} → length a ≡ 32 → p < 32 → r ≡ drop 1 (mid_of p (32 - p) a) ++ take 1 (mid_of p (32 - p) a) → set (put_mid p (32 - p) a r) 31 none ≡ remove_at p a
+closed_law p a {r} long h e =
+    ap (λ (l : List Stretch). set l 31 none) (put_rest p a r long h ∙ ap (λ (l : List Stretch). take p a ++ l) (e ∙ (λ i. drop 1 (rest_all p a long h i) ++ take 1 (rest_all p a long h i))))
+    ∙ turned_left p 31 a (omega (arith, h)) (omega (arith, long))
 
-pub write_next : (a l : List Stretch) {p : ℕ} (i : ℕ) {r : List Stretch} {x : Stretch} → length l ≡ length a → i < 32 → x ≡ get_or l i none → Written a l p i r → Written a l p (i + 1) (set r i x)
-write_next a l {p} i e h ex w =
-    let k : p ≤ i = w.0 in
-    let n : length l ≡ 32 = e ∙ w.1 in
-    (omega (arith, k), w.1, (λ j. set (w.2 j) i (ex j)) ∙ over_next a l i none (omega (arith, h, n)))
+pub remove_none : (p : ℕ) (l : List Stretch) → length l ≤ p → l ≡ remove_at p l
+remove_none p [] h = refl
+remove_none zero (x ∷ xs) h = absurd (not-suc-le-zero h)
+remove_none (suc p) (x ∷ xs) h = ap (λ (l : List Stretch). x ∷ l) (remove_none p xs (le_of_suc-le-suc h))
 
-pub write_all : (a l : List Stretch) {p : ℕ} (i : ℕ) {r : List Stretch} → length l ≡ length a → 32 ≤ i → Written a l p i r → r ≡ l
-write_all a l i e h w = let n : length a ≡ 32 = w.1 in w.2 ∙ over_laid a l i e (omega (arith, h, n))
+-- ---- x is put in: what is from there on is turned by one, and x is put in the place of the last
+insert_zero : (x : Stretch) (l : List Stretch) → take (length l) (x ∷ l) ≡ insert_at zero x l
+insert_zero x [] = refl
+insert_zero x (y ∷ ys) = ap (λ (l : List Stretch). x ∷ l) (insert_zero y ys)
 
--- ---- x is put in
-pub insert_length : (p : ℕ) (x : Stretch) (l : List Stretch) → length (insert_at p x l) ≡ length l
-insert_length p x [] = refl
-insert_length zero x (y ∷ ys) = ap suc (insert_length zero y ys)
-insert_length (suc p) x (y ∷ ys) = ap suc (insert_length p x ys)
+set_first : (y x : Stretch) (l t : List Stretch) → set (drop (length l) (y ∷ l) ++ t) 0 x ≡ x ∷ t
+set_first y x [] t = refl
+set_first y x (z ∷ zs) t = set_first z x zs t
 
-insert_zero : (x : Stretch) (l : List Stretch) (i : ℕ) → suc i < length l → get_or (insert_at zero x l) (suc i) none ≡ get_or l i none
-insert_zero x [] i h = absurd (not-suc-le-zero h)
-insert_zero x (y ∷ []) i h = absurd (not-suc-le-zero (le_of_suc-le-suc h))
-insert_zero x (y ∷ z ∷ zs) zero h = refl
-insert_zero x (y ∷ z ∷ zs) (suc i) h = insert_zero y (z ∷ zs) i (le_of_suc-le-suc h)
+pub turned_right : (p k : ℕ) (x : Stretch) (l : List Stretch) → length l ≡ p + suc k → set (take p l ++ (drop k (drop p l) ++ take k (drop p l))) p x ≡ insert_at p x l
+turned_right p k x [] e = absurd (omega arith)
+turned_right zero k x (y ∷ ys) e =
+    let n : k ≡ length ys = omega arith in
+    (λ i. set (drop (n i) (y ∷ ys) ++ take (n i) (y ∷ ys)) 0 x) ∙ set_first y x ys (take (length ys) (y ∷ ys)) ∙ ap (λ (l : List Stretch). x ∷ l) (insert_zero y ys)
+turned_right (suc p) k x (y ∷ ys) e = ap (λ (l : List Stretch). y ∷ l) (turned_right p k x ys (omega arith))
 
--- the places before p stay
-pub insert_front : (p : ℕ) (x : Stretch) (l : List Stretch) → l ≡ over l (take p (insert_at p x l))
-insert_front zero x l = sym (over_nil l)
-insert_front (suc p) x [] = refl
-insert_front (suc p) x (y ∷ ys) = ap (λ (l : List Stretch). y ∷ l) (insert_front p x ys)
+pub opened_law : (p : ℕ) (x : Stretch) (a : List Stretch) {r : List Stretch} → length a ≡ 32 → p < 32
+    → r ≡ drop (length (mid_of p (32 - p) a) - 1) (mid_of p (32 - p) a) ++ take (length (mid_of p (32 - p) a) - 1) (mid_of p (32 - p) a) → set (put_mid p (32 - p) a r) p x ≡ insert_at p x a
+opened_law p x a {r} long h e =
+    let k : length (mid_of p (32 - p) a) - 1 ≡ 31 - p = omega (arith, ap length (rest_all p a long h), length-drop p a, long) in
+    ap (λ (l : List Stretch). set l p x) (put_rest p a r long h ∙ ap (λ (l : List Stretch). take p a ++ l) (e ∙ (λ i. drop (k i) (rest_all p a long h i) ++ take (k i) (rest_all p a long h i))))
+    ∙ turned_right p (31 - p) x a (omega (arith, h, long))
 
-pub insert_here : (p : ℕ) (x : Stretch) (l : List Stretch) → p < length l → get_or (insert_at p x l) p none ≡ x
-insert_here p x [] h = absurd (not-suc-le-zero h)
-insert_here zero x (y ∷ ys) h = refl
-insert_here (suc p) x (y ∷ ys) h = insert_here p x ys (le_of_suc-le-suc h)
+pub insert_none : (p : ℕ) (x : Stretch) (l : List Stretch) → length l ≤ p → l ≡ insert_at p x l
+insert_none p x [] h = refl
+insert_none zero x (y ∷ ys) h = absurd (not-suc-le-zero h)
+insert_none (suc p) x (y ∷ ys) h = ap (λ (l : List Stretch). y ∷ l) (insert_none p x ys (le_of_suc-le-suc h))
 
-insert_suc : (p : ℕ) (x : Stretch) (l : List Stretch) (i : ℕ) → p ≤ i → suc i < length l → get_or (insert_at p x l) (suc i) none ≡ get_or l i none
-insert_suc p x [] i h k = absurd (not-suc-le-zero k)
-insert_suc zero x (y ∷ ys) i h k = insert_zero x (y ∷ ys) i k
-insert_suc (suc p) x (y ∷ ys) zero h k = absurd (not-suc-le-zero h)
-insert_suc (suc p) x (y ∷ ys) (suc i) h k = insert_suc p x ys i (le_of_suc-le-suc h) (le_of_suc-le-suc k)
+-- ---- one table is read, or written
+-- what has a place is laid over
+pub over_cut : (n : ℕ) (xs ys : List Stretch) → n ≡ min (length xs) (length ys) → take n ys ++ drop n xs ≡ over xs ys
+over_cut n [] ys e = ap (λ (k : ℕ). take k ys ++ drop k []) (let h : n ≡ 0 = omega (arith, e) in h)
+over_cut n (x ∷ xs) [] e = ap (λ (k : ℕ). take k [] ++ drop k (x ∷ xs)) (let h : n ≡ 0 = omega (arith, e) in h)
+over_cut zero (x ∷ xs) (y ∷ ys) e = absurd (omega (arith, e))
+over_cut (suc n) (x ∷ xs) (y ∷ ys) e = ap (λ (l : List Stretch). y ∷ l) (over_cut n xs ys (omega (arith, e)))
 
-pub insert_behind : (p : ℕ) (x : Stretch) (l : List Stretch) (i : ℕ) → p ≤ i → i + 1 < length l → get_or (insert_at p x l) (i + 1) none ≡ get_or l i none
-insert_behind p x l i h k = rw add-one (insert_suc p x l i h (let m : suc i < length l = omega (arith, k) in m))
-
--- ---- a loop that looks at one place after another
-place_on : (p : Stretch → Bool) (l : List Stretch) (i : ℕ) (x : Stretch) (b : Bool) → i < length l → x ≡ get_or l i none → b ≡ p x → b ≡ false → place_of p (drop i l) ≡ suc (place_of p (drop (i + 1) l))
-place_on p l i x b h ex eb e = ap (place_of p) (rest_cons l i none h) ∙ ap (λ (c : Bool). when c then 0 else suc (place_of p (drop (i + 1) l))) (ap p (sym ex) ∙ sym eb ∙ e)
-
-place_here : (p : Stretch → Bool) (l : List Stretch) (i : ℕ) (x : Stretch) (b : Bool) → i < length l → x ≡ get_or l i none → b ≡ p x → b ≡ true → place_of p (drop i l) ≡ 0
-place_here p l i x b h ex eb e = ap (place_of p) (rest_cons l i none h) ∙ ap (λ (c : Bool). when c then 0 else suc (place_of p (drop (i + 1) l))) (ap p (sym ex) ∙ sym eb ∙ e)
-
-place_end : (p : Stretch → Bool) (l : List Stretch) (i : ℕ) → length l ≤ i → place_of p (drop i l) ≡ 0
-place_end p l i h = ap (place_of p) (drop_of_length-le l h)
+-- what is behind the 32 places, of which a table may have fewer
+pub behind_cut : (n : ℕ) (l : List Stretch) → n ≡ min (length l) 32 → every is_none (drop n l) ≡ every is_none (drop 32 l)
+behind_cut n l e =
+    by_bool (ltb (length l) 32)
+    (λ s. let g = ltb-true (length l) 32 s in ap (every is_none) (drop_of_length-le l {i = n} (omega (arith, e, g)) ∙ sym (drop_of_length-le l {i = 32} (omega (arith, g)))))
+    (λ s. let g = ltb-false (length l) 32 s in ap (λ (k : ℕ). every is_none (drop k l)) (let h : n ≡ 32 = omega (arith, e, g) in h))
 
 -- what is seen of a table, laid over it, is the table
 pub over_own : (k : ℕ) (l : List Stretch) → over l (over (replicate k none) l) ≡ l
 over_own k [] = refl
 over_own zero (x ∷ xs) = refl
 over_own (suc k) (x ∷ xs) = ap (λ (l : List Stretch). x ∷ l) (over_own k xs)
-
--- ---- the first-fit search, turn by turn: nothing before place i passes the test, so the rest of the search from i is the whole
-abbrev pub Passed : (Stretch → Bool) → List Stretch → ℕ → Type 0
-Passed p l i = place_of p l ≡ i + place_of p (drop i l)
-
-pub begin : (p : Stretch → Bool) (l : List Stretch) → Passed p l 0
-begin p l = omega arith
-
-pub pass : (p : Stretch → Bool) (l : List Stretch) (i : ℕ) (x : Stretch) (b : Bool) → i < length l → x ≡ get_or l i none → b ≡ p x → b ≡ false → Passed p l i → Passed p l (i + 1)
-pass p l i x b h ex eb e q = let f : place_of p (drop i l) ≡ suc (place_of p (drop (i + 1) l)) = place_on p l i x b h ex eb e in omega (arith, q, f)
-
-pub found : (p : Stretch → Bool) (l : List Stretch) (i : ℕ) (x : Stretch) (b : Bool) → i < length l → x ≡ get_or l i none → b ≡ p x → b ≡ true → Passed p l i → i ≡ place_of p l
-found p l i x b h ex eb e q = let f : place_of p (drop i l) ≡ 0 = place_here p l i x b h ex eb e in omega (arith, q, f)
-
-pub passed_all : (p : Stretch → Bool) (l : List Stretch) (i : ℕ) → length l ≤ i → Passed p l i → i ≡ place_of p l
-passed_all p l i h q = let f : place_of p (drop i l) ≡ 0 = place_end p l i h in omega (arith, q, f)

@@ -1,19 +1,20 @@
 -- The steps whose parts are put together by hand: each law has an equation for each call's result.
 -- Assumes nothing.
-use Rattle.std.proofs.Common.{◌≡◌, ℕ, zero, suc, ◌+◌, ◌-◌, ◌<◌, ◌≤◌, Bool, true, false, ◌&&◌, eqb, ltb, leb, List, [], ◌∷◌, get_or, take, drop, set, sym, refl, ap, ◌∙◌, zero-le, arith, ltb-true, le-ltb, lt-ltb, ne_eqb, leb-true}
+use Rattle.std.proofs.Common.{◌≡◌, ℕ, ◌+◌, ◌-◌, ◌<◌, ◌≤◌, Bool, true, false, ◌&&◌, ltb, leb, List, [], ◌∷◌, get_or, take, drop, sym, refl, ap, ◌∙◌, arith, ltb-true, le-ltb, lt-ltb, ne_eqb, leb-true}
 use mir.Val.{bool_byte}
-use Rattle.lists.specs.Lists.{when◌then◌else◌, bit, every}
+use Rattle.lists.specs.Lists.{bit, every}
 use Rattle.lists.proofs.Tests.{no, each, and_first, byte_bit}
 use Rattle.lists.proofs.ListLaws.{by_bool}
 use Rattle.workspace.specs.declared.Stretch.{Stretch}
 use Rattle.workspace.specs.declared.Used.{Used}
 use Rattle.workspace.specs.declared.Look.{Look}
 use Rattle.workspace.specs.declared.Done.{Done}
-use Rattle.workspace.specs.Rules.{stretch, none, is_none, end}
-use Rattle.workspace.specs.declared.Test.TheVariants.{StartsBehind}
-use Rattle.workspace.specs.Places.{place_of, passes_of, remove_at, insert_at}
+use Rattle.workspace.specs.declared.Refusal.{Refusal}
+use Rattle.workspace.specs.declared.Refusal.TheVariants.{BadState, BadSize, BlocksFull, NoSpace, BadBlock}
+use Rattle.workspace.specs.Rules.{stretch, none, is_none}
+use Rattle.workspace.specs.Places.{place_of, is_behind, remove_at, insert_at}
 use Rattle.workspace.specs.Check.{tiled}
-use Rattle.workspace.specs.Steps.{is_counted, keeps_seen, refused_as, done_as, request_refusal, cut_at, grant_seen, request_seen, block_at, touches_low, touches_high, whole_at, give_at, give_back, count_back, free_seen, release_seen}
+use Rattle.workspace.specs.Steps.{number_of, is_counted, keeps_seen, refused_as, done_as, request_refusal, cut_at, grant_seen, request_seen, block_at, touches_low, touches_high, give_at, give_back, count_back, free_seen, release_seen}
 
 -- ── the check ──
 
@@ -36,13 +37,15 @@ pub counted : (s : Look) (u : Used) → keeps_seen s u ≡ true → (u.blocks �
 unfolding keeps_seen
 counted s u e = in_range_lem s u (and_first (is_counted s u) (every is_none (drop u.blocks s.blocks) && every is_none (drop u.free s.free) && tiled 64 false 0 (take u.blocks s.blocks) (take u.free s.free)) e)
 
--- ── a test as a number ──
-
-pub byte_most : (b : Bool) (n : ℕ) → 0 < n → bool_byte b ≤ n
-byte_most true n h = h
-byte_most false n h = zero-le
-
 -- ── a request ──
+
+-- a refusal has a number above 0
+pub numbered : (r : Refusal) → number_of r ≡ 0 → ⊥
+numbered BadState e = omega (arith, e)
+numbered BadSize e = omega (arith, e)
+numbered BlocksFull e = omega (arith, e)
+numbered NoSpace e = omega (arith, e)
+numbered BadBlock e = omega (arith, e)
 
 -- where the refusal is 0, all tests have passed
 pub granted_may : (s : Look) (u : Used) (n : ℕ) {kept : Bool} {k : ℕ} → kept ≡ keeps_seen s u → k ≡ request_refusal kept u s.place n → k ≡ 0 → (u.blocks ≤ 31) × (0 < u.free)
@@ -58,15 +61,15 @@ granted_may s u n {kept = true} ek er o =
     (λ b. no (let q : 14 ≡ 0 = rw (z, b) at e in omega (arith, q))))
     (λ z. no (let q : 13 ≡ 0 = rw z at e in omega (arith, q)))
 
-pub grant_law : (s : Look) (u : Used) (n : ℕ) {f : Stretch} {k : ℕ} {bs fs : List Stretch} {r : Done}
-    → f ≡ get_or s.free s.place none → k ≡ place_of (passes_of StartsBehind f.start) (take u.blocks s.blocks) → bs ≡ insert_at k (stretch f.start n) s.blocks
-    → fs ≡ cut_at s.place n s.free → r ≡ done_as bs fs f.start (u.blocks + 1) (u.free - bool_byte (leb f.length n)) → r ≡ grant_seen s u n
+pub grant_law : (s : Look) (u : Used) (n : ℕ) {f : Stretch} {k : ℕ} {bs fs : List Stretch} {d : ℕ} {r : Done}
+    → f ≡ get_or s.free s.place none → k ≡ place_of (is_behind f.start) (take u.blocks s.blocks) → bs ≡ insert_at k (stretch f.start n) s.blocks
+    → fs ≡ cut_at s.place n s.free → d ≡ bool_byte (leb f.length n) → r ≡ done_as bs fs f.start (u.blocks + 1) (u.free - d) → r ≡ grant_seen s u n
 unfolding grant_seen
-grant_law s u n {f = f} ef ek eb e er =
+grant_law s u n {f = f} ef ek eb e ed er =
     let bb = eb ∙ (λ i. insert_at (ek i) (stretch f.start n) s.blocks) in
     er
-    ∙ (λ i. done_as (bb i) (e i) f.start (u.blocks + 1) (u.free - byte_bit (leb f.length n) i))
-    ∙ (λ i. done_as (insert_at (place_of (passes_of StartsBehind (ef i).start) (take u.blocks s.blocks)) (stretch (ef i).start n) s.blocks) (cut_at s.place n s.free) (ef i).start (u.blocks + 1) (u.free - bit (leb (ef i).length n)))
+    ∙ (λ i. done_as (bb i) (e i) f.start (u.blocks + 1) (u.free - (ed ∙ byte_bit (leb f.length n)) i))
+    ∙ (λ i. done_as (insert_at (place_of (is_behind (ef i).start) (take u.blocks s.blocks)) (stretch (ef i).start n) s.blocks) (cut_at s.place n s.free) (ef i).start (u.blocks + 1) (u.free - bit (leb (ef i).length n)))
 
 pub request_granted : (s : Look) (u : Used) (n : ℕ) {kept : Bool} {k : ℕ} {r : Done} → kept ≡ keeps_seen s u → k ≡ request_refusal kept u s.place n → k ≡ 0 → r ≡ grant_seen s u n → r ≡ request_seen s u n
 unfolding request_seen
@@ -80,31 +83,14 @@ request_refused s u n ek e z er =
 
 -- ── a release ──
 
-pub low_law : (b : Stretch) (k : ℕ) (l : List Stretch) {j : ℕ} {x : Stretch} → j ≡ k - 1 → x ≡ get_or l j none → ltb 0 k && eqb (end x) b.start ≡ touches_low b k l
-low_law b k l ej ex = (λ i. ltb 0 k && eqb (end (ex i)) b.start) ∙ (λ i. ltb 0 k && eqb (end (get_or l (ej i) none)) b.start)
-
-pub give_low : (high : Bool) (b : Stretch) (k : ℕ) (l : List Stretch) {w : Stretch} {j : ℕ} {rest r : List Stretch} {low : Bool}
-    → w ≡ whole_at low high b k l → rest ≡ (when high then remove_at k l else l) → j ≡ k - 1 → r ≡ set rest j w → low ≡ true → r ≡ give_at low high b k l
-give_low high b k l ew er ej e el = e ∙ (λ i. set (er i) (ej i) (ew i)) ∙ rw el refl
-
-pub give_lone : (high : Bool) (b : Stretch) (k : ℕ) (l : List Stretch) {w : Stretch} {rest r : List Stretch} {low : Bool}
-    → w ≡ whole_at low high b k l → rest ≡ (when high then remove_at k l else l) → r ≡ insert_at k w rest → low ≡ false → r ≡ give_at low high b k l
-give_lone high b k l ew er e el = e ∙ (λ i. insert_at k (ew i) (er i)) ∙ rw el refl
-
--- a place is found among those used, or behind them
-place_most : (p : Stretch → Bool) (n : ℕ) (l : List Stretch) → place_of p (take n l) ≤ n
-place_most p zero l = zero-le
-place_most p (suc n) [] = zero-le
-place_most p (suc n) (x ∷ xs) = by_bool (p x) (λ e. rw e zero-le) (λ e. let ih : place_of p (take n xs) ≤ n = place_most p n xs in rw e (omega (arith, ih)))
-
-pub free_law : (s : Look) (u : Used) (p : ℕ) {b : Stretch} {k : ℕ} {low high : Bool} {bs fs : List Stretch} {r : Done}
-    → b ≡ get_or s.blocks p none → k ≡ place_of (passes_of StartsBehind b.start) (take u.free s.free) → low ≡ touches_low b k s.free → high ≡ touches_high b k s.free
-    → bs ≡ remove_at p s.blocks → fs ≡ give_at low high b k s.free → r ≡ done_as bs fs b.length (u.blocks - 1) (u.free + 1 - bool_byte low - bool_byte high) → r ≡ free_seen s u p
+pub free_law : (s : Look) (u : Used) (p : ℕ) {b : Stretch} {k : ℕ} {low high : Bool} {bs fs : List Stretch} {d₁ d₂ : ℕ} {r : Done}
+    → b ≡ get_or s.blocks p none → k ≡ place_of (is_behind b.start) (take u.free s.free) → low ≡ touches_low b k s.free → high ≡ touches_high b k s.free
+    → bs ≡ remove_at p s.blocks → fs ≡ give_at low high b k s.free → d₁ ≡ bool_byte low → d₂ ≡ bool_byte high → r ≡ done_as bs fs b.length (u.blocks - 1) (u.free + 1 - d₁ - d₂) → r ≡ free_seen s u p
 unfolding free_seen give_back count_back
-free_law s u p {b = b} {k = k} {low = low} {high = high} eb ek el eh e₁ e₂ er =
-    let kk = ek ∙ (λ i. place_of (passes_of StartsBehind (eb i).start) (take u.free s.free)) in
+free_law s u p {b = b} {k = k} {low = low} {high = high} eb ek el eh e₁ e₂ ed eg er =
+    let kk = ek ∙ (λ i. place_of (is_behind (eb i).start) (take u.free s.free)) in
     er
-    ∙ (λ i. done_as (e₁ i) ((e₂ ∙ (λ j. give_at (el j) (eh j) b k s.free)) i) b.length (u.blocks - 1) (u.free + 1 - (byte_bit low ∙ ap bit el) i - (byte_bit high ∙ ap bit eh) i))
+    ∙ (λ i. done_as (e₁ i) ((e₂ ∙ (λ j. give_at (el j) (eh j) b k s.free)) i) b.length (u.blocks - 1) (u.free + 1 - (ed ∙ byte_bit low ∙ ap bit el) i - (eg ∙ byte_bit high ∙ ap bit eh) i))
     ∙ (λ i. done_as (remove_at p s.blocks) (give_back (eb i) (kk i) s.free) (eb i).length (u.blocks - 1) (count_back (eb i) (kk i) u.free s.free))
 
 pub release_freed : (s : Look) (u : Used) (a : ℕ) {kept : Bool} {p : ℕ} {r : Done} → kept ≡ keeps_seen s u → kept ≡ true → p ≡ block_at s u a → p < u.blocks → r ≡ free_seen s u p → r ≡ release_seen s u a

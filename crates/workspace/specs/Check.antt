@@ -1,5 +1,5 @@
 -- The check of the rules that the code makes: one pass over both tables. No public contract cites this.
-use Rattle.std.specs.Prelude.{ℕ, zero, suc, ◌+◌, Bool, true, false, not, ◌&&◌, List, [], ◌∷◌, ◌==◌, nat_lt}
+use Rattle.std.specs.Prelude.{ℕ, zero, suc, ◌+◌, Bool, true, false, not, ◌&&◌, List, [], ◌∷◌, ◌==◌, nat_lt, Option, Some, None}
 use Rattle.workspace.specs.declared.Stretch.{Stretch}
 use Rattle.workspace.specs.declared.Reach.{Reach}
 use Rattle.lists.specs.Lists.{when◌then◌else◌}
@@ -38,9 +38,9 @@ tiled (suc k) after a bs fs =
     else (when not after && begins a fs then tiled k true (a + first fs) bs (rest fs)
     else ends a bs fs)
 
--- one stretch further, x in the table of blocks or y in the table of free stretches
-abbrev pub reach_of : Reach → Stretch → Stretch → Reach
+-- one stretch further, x in the table of blocks or y in the table of free stretches; none where neither begins there
+abbrev pub reach_of : Reach → Stretch → Stretch → Option Reach
 reach_of t x y =
-    when begins_at t.at x then record { at = t.at + x.length; i = t.i + 1; j = t.j; after = false; stuck = false }
-    else (when not t.after && begins_at t.at y then record { at = t.at + y.length; i = t.i; j = t.j + 1; after = true; stuck = false }
-    else record { at = t.at; i = t.i; j = t.j; after = t.after; stuck = true })
+    when begins_at t.at x then Some (record { at = t.at + x.length; i = t.i + 1; j = t.j; after = false })
+    else (when not t.after && begins_at t.at y then Some (record { at = t.at + y.length; i = t.i; j = t.j + 1; after = true })
+    else None)

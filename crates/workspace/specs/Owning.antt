@@ -1,8 +1,5 @@
 -- Two tables by value, as an outcome leaves them.
-use Rattle.std.specs.Prelude.{List}
 use Rattle.workspace.specs.declared.Tables.{Tables}
-use Rattle.workspace.specs.declared.Stretch.{Stretch}
-use Rattle.workspace.specs.declared.Answer.{Answer}
 use Rattle.workspace.specs.Operations.{Outcome, fresh_of, blocks_after, free_after, answer_of, unused}
 
 -- both tables and the answer
@@ -12,7 +9,3 @@ owned_after a o = record { blocks = blocks_after a.blocks o; free = free_after a
 -- the same of a fresh area, whose refusal counts no places
 unfoldable pub owned_fresh : Tables → Tables
 owned_fresh a = record { blocks = blocks_after a.blocks (fresh_of a.blocks a.free); free = free_after a.free (fresh_of a.blocks a.free); answer = answer_of unused (fresh_of a.blocks a.free) }
-
--- the parts of two tables by value
-abbrev pub tables_as : List Stretch → List Stretch → Answer → Tables
-tables_as b f r = record { blocks = b; free = f; answer = r }

@@ -1,8 +1,6 @@
 -- What the inner functions over 32 places promise: searches, and places that are set, taken out and put in. No public contract cites this.
 use Rattle.std.specs.Prelude.{ℕ, zero, suc, Bool, List, [], ◌∷◌, ◌++◌, ◌==◌, nat_le, nat_lt}
 use Rattle.workspace.specs.declared.Stretch.{Stretch}
-use Rattle.workspace.specs.declared.Test.{Test}
-use Rattle.workspace.specs.declared.Test.TheVariants.{StartsAt, StartsBehind, HasUnits}
 use Rattle.lists.specs.Lists.{when◌then◌else◌}
 use Rattle.workspace.specs.Rules.{none}
 
@@ -11,11 +9,17 @@ abbrev pub place_of : (Stretch → Bool) → List Stretch → ℕ
 place_of f [] = 0
 place_of f (s ∷ ss) = when f s then 0 else suc (place_of f ss)
 
--- starts at n; starts behind n; has n units
-abbrev pub passes_of : Test → ℕ → Stretch → Bool
-passes_of StartsAt n = λ s. (s.start == n)
-passes_of StartsBehind n = λ s. nat_lt n s.start
-passes_of HasUnits n = λ s. nat_le n s.length
+-- starts at n
+abbrev pub has_start : ℕ → Stretch → Bool
+has_start n s = s.start == n
+
+-- starts behind n
+abbrev pub is_behind : ℕ → Stretch → Bool
+is_behind n s = nat_lt n s.start
+
+-- has n units
+abbrev pub has_units : ℕ → Stretch → Bool
+has_units n s = nat_le n s.length
 
 -- the place p is taken out, those behind it move up, and the last is unused
 abbrev pub remove_at : ℕ → List Stretch → List Stretch

@@ -5,7 +5,7 @@
 #![tactic(auto)]
 
 mod lent; // lent.rt: the lent tables, searched, read and written
-mod places; // places.rt: 32 places by value: searched, set, taken out, put in
+mod places; // places.rt: the places of a table: searched, set, taken out, put in
 mod rules; // rules.rt: the check that two tables keep the rules
 mod steps; // steps.rt: what each operation does to the places
 pub mod owned; // owned.rt: the same operations on two tables by value
@@ -16,12 +16,18 @@ ghost use Rattle.workspace.specs.Operations.{fresh_of, request_of, release_of, b
 use lent::{look_at, stored};
 use steps::{made, released, requested};
 
-// `length` units from `start` on; an unused place of a table is 0 and 0.
-#[derive(Clone, Copy)]
+// `length` units from `start` on.
+#[derive(Clone, Copy, PartialEq, Eq)]
 pub struct Stretch {
     pub start: u32,
     pub length: u32,
 }
+
+// An unused place of a table.
+pub const UNUSED: Stretch = Stretch {
+    start: 0,
+    length: 0,
+};
 
 // The number of places used in the table of blocks and in the table of free stretches.
 #[derive(Clone, Copy)]
@@ -72,22 +78,23 @@ struct Done {
     answer: Answer,
 }
 
-// What a search looks for: a stretch that starts at a number, behind it, or that has so many units.
+// Why an operation is refused, by its number in an answer.
 #[derive(Clone, Copy)]
-enum Test {
-    StartsAt,
-    StartsBehind,
-    HasUnits,
+enum Refusal {
+    BadState = 2,
+    BadSize = 13,
+    BlocksFull = 14,
+    NoSpace = 15,
+    BadBlock = 16,
 }
 
 // How far the check has come: the unit reached, the places passed in each table, and whether the last stretch was free.
-#[derive(Clone, Copy)]
+#[derive(Clone, Copy, Default)]
 struct Reach {
     at: u64,
     i: usize,
     j: usize,
     after: bool,
-    stuck: bool,
 }
 
 // Makes a fresh area of the two tables, whatever they hold.

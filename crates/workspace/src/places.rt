@@ -1,20 +1,16 @@
-// Tables of 32 places by value: searched, set, taken out and put in.
-ghost use Rattle.std.specs.Prelude.{◌≡◌, ◌≤◌, take, drop, slice_index_or, slice_set};
-ghost use Rattle.lists.specs.Lists.{every};
+// The places of a table: searched, set, taken out and put in.
+ghost use Rattle.std.specs.Prelude.{◌≡◌, slice_index_or, slice_set};
+ghost use Rattle.std.specs.List.{list_all, position};
 ghost use Rattle.workspace.specs.Rules.{none, is_none};
-ghost use Rattle.workspace.specs.Places.{place_of, passes_of, remove_at, insert_at};
+ghost use Rattle.workspace.specs.Places.{has_start, is_behind, has_units, remove_at, insert_at};
 
-use crate::{Stretch, Test};
+use crate::{Stretch, UNUSED};
 
-// What a search looks for.
-pub fn passes(test: Test, n: u32, x: Stretch) -> bool
-    ensures { result ≡ passes_of test n x }
+// What stands at place i; an unused place where there is none.
+pub fn nth(places: &[Stretch], i: usize) -> Stretch
+    ensures { result ≡ slice_index_or places.now i none }
 {
-    match test {
-        Test::StartsAt => x.start == n,
-        Test::StartsBehind => n < x.start,
-        Test::HasUnits => n <= x.length,
-    }
+    places.get(i).copied().unwrap_or(UNUSED)
 }
 
 // The places with x at i; the same where there is no place i.
@@ -24,69 +20,43 @@ pub fn with_at(a: [Stretch; 32], i: usize, x: Stretch) -> [Stretch; 32]
     let mut r = a;
     if i < 32 {
         r[i] = x;
-        r
-    } else {
-        r
     }
+    r
 }
 
-// What stands at place i; an unused place where there is none.
-pub fn nth(a: [Stretch; 32], i: usize) -> Stretch
-    ensures { result ≡ slice_index_or a i none }
+// The place of the stretch that starts at a number.
+pub fn starting_at(places: &[Stretch], start: u32) -> Option<usize>
+    ensures { result ≡ position (has_start start) places.now }
 {
-    if i < 32 {
-        a[i]
-    } else {
-        Stretch {
-            start: 0,
-            length: 0,
-        }
-    }
+    places.iter().position(|x| x.start == start)
 }
 
-// What stands at place i of the n places used; an unused place behind them.
-pub fn used_at(a: [Stretch; 32], n: usize, i: usize) -> Stretch
-    ensures { result ≡ slice_index_or (take n a) i none }
+// The place of the first stretch that starts behind a number.
+pub fn first_behind(places: &[Stretch], start: u32) -> Option<usize>
+    ensures { result ≡ position (is_behind start) places.now }
 {
-    if i < n {
-        nth(a, i)
-    } else {
-        Stretch {
-            start: 0,
-            length: 0,
-        }
-    }
+    places.iter().position(|x| start < x.start)
 }
 
-// The place of the first of the n places used that passes the test; n where there is none.
-pub fn place_of(a: [Stretch; 32], n: usize, test: Test, s: u32) -> usize
-    requires { n ≤ 32 }
-    ensures { result ≡ place_of (passes_of test s) (take n a) }
+// The place of the first stretch that has at least `size` units.
+pub fn first_fit(places: &[Stretch], size: u32) -> Option<usize>
+    ensures { result ≡ position (has_units size) places.now }
 {
-    let mut i = 0;
-    while i < n {
-        if passes(test, s, nth(a, i)) {
-            return i;
-        }
-        i += 1;
-    }
-    i
+    places.iter().position(|x| size <= x.length)
 }
 
-// All places from n on are unused.
-pub fn all_none(a: [Stretch; 32], n: usize) -> bool
-    ensures { result ≡ every is_none (drop n a) }
+// A place is unused.
+pub fn is_unused(x: &Stretch) -> bool
+    ensures { result ≡ is_none x.now }
 {
-    let mut i = n;
-    while i < 32 {
-        let x = nth(a, i);
-        if (x.start == 0) & (x.length == 0) {
-            i += 1;
-        } else {
-            return false;
-        }
-    }
-    true
+    *x == UNUSED
+}
+
+// All places are unused.
+pub fn all_none(places: &[Stretch]) -> bool
+    ensures { result ≡ list_all is_none places.now }
+{
+    places.iter().all(is_unused)
 }
 
 // The places without the one at p: those behind it move up, and the last is unused.
@@ -94,11 +64,9 @@ pub fn closed(a: [Stretch; 32], p: usize) -> [Stretch; 32]
     ensures { result ≡ remove_at p a }
 {
     let mut r = a;
-    let mut i = p;
-    while i < 32 {
-        let x = nth(a, i + 1);
-        r[i] = x;
-        i += 1;
+    if p < 32 {
+        r[p..].rotate_left(1);
+        r[31] = UNUSED;
     }
     r
 }
@@ -108,13 +76,9 @@ pub fn opened(a: [Stretch; 32], p: usize, x: Stretch) -> [Stretch; 32]
     ensures { result ≡ insert_at p x a }
 {
     let mut r = a;
-    let mut y = x;
-    let mut i = p;
-    while i < 32 {
-        let next = nth(a, i);
-        r[i] = y;
-        y = next;
-        i += 1;
+    if p < 32 {
+        r[p..].rotate_right(1);
+        r[p] = x;
     }
     r
 }

@@ -2,25 +2,11 @@
 ghost use Rattle.std.specs.Prelude.{◌≡◌, ◌-◌, ◌<◌, ◌≤◌};
 ghost use Rattle.lists.specs.Lists.{when◌then◌else◌};
 ghost use Rattle.workspace.specs.Places.{remove_at};
-ghost use Rattle.workspace.specs.Steps.{refused_as, done_as, fresh_seen, request_refusal, cut_at, grant_seen, request_seen, touches_low, touches_high, whole_at, give_at, free_seen, release_seen};
+ghost use Rattle.workspace.specs.Steps.{number_of, number_or_0, refused_as, done_as, fresh_seen, request_refusal, cut_at, grant_seen, request_seen, touches_low, touches_high, whole_at, give_at, free_seen, release_seen};
 
-use crate::places::{closed, nth, opened, place_of, with_at};
+use crate::places::{closed, first_behind, nth, opened, starting_at, with_at};
 use crate::rules::keeps;
-use crate::{Answer, Done, Look, Stretch, Table, Test, Used};
-
-// x or y.
-pub fn pick_u32(b: bool, x: u32, y: u32) -> u32
-    ensures { result ≡ (when b then x else y) }
-{
-    if b { x } else { y }
-}
-
-// One place before, down to the first.
-pub fn down(n: usize) -> usize
-    ensures { result ≡ n - 1 }
-{
-    if 0 < n { n - 1 } else { 0 }
-}
+use crate::{Answer, Done, Look, Refusal, Stretch, Table, UNUSED, Used};
 
 // The parts of what is done: the places of both tables, the answer, and the number of places used.
 pub fn done_as(bs: [Stretch; 32], fs: [Stretch; 32], value: u32, m: usize, n: usize) -> Done
@@ -48,8 +34,8 @@ pub fn done_as(bs: [Stretch; 32], fs: [Stretch; 32], value: u32, m: usize, n: us
 }
 
 // A refusal changes nothing.
-pub fn refused(seen: Look, used: Used, refusal: u8) -> Done
-    ensures { result ≡ refused_as seen used refusal }
+pub fn refused(seen: Look, used: Used, why: Refusal) -> Done
+    ensures { result ≡ refused_as seen used (number_of why) }
 {
     let bs = seen.blocks;
     let fs = seen.free;
@@ -62,7 +48,7 @@ pub fn refused(seen: Look, used: Used, refusal: u8) -> Done
         clear: false,
     };
     let answer = Answer {
-        refusal,
+        refusal: why as u8,
         value: 0,
         used,
     };
@@ -78,52 +64,47 @@ pub fn made(seen: Look) -> Done
     ensures { result ≡ fresh_seen seen }
 {
     if seen.long {
-        let none = Stretch {
-            start: 0,
-            length: 0,
-        };
-        let blocks = [none; 32];
-        let all = Stretch {
+        let blocks = [UNUSED; 32];
+        let mut free = blocks;
+        free[0] = Stretch {
             start: 0,
             length: 65536,
         };
-        let free = with_at(blocks, 0, all);
         done_as(blocks, free, 0, 0, 1)
     } else {
         let unused = Used { blocks: 0, free: 0 };
-        refused(seen, unused, 2)
+        refused(seen, unused, Refusal::BadState)
     }
 }
 
-// The refusal of a request, for which a free stretch is found at `place`; 0 if there is none.
-pub fn request_refusal(kept: bool, m: usize, n: usize, place: usize, size: u32) -> u8
-    ensures { result ≡ request_refusal kept (record { blocks = m; free = n }) place size }
+// The refusal of a request, for which a free stretch is found at `place`.
+pub fn request_refusal(kept: bool, m: usize, n: usize, place: usize, size: u32) -> Option<Refusal>
+    ensures { number_or_0 result ≡ request_refusal kept (record { blocks = m; free = n }) place size }
 {
     if !kept {
-        return 2;
+        return Some(Refusal::BadState);
     }
     let sized = (1 <= size) & (size <= 65535);
     if !sized {
-        return 13;
+        return Some(Refusal::BadSize);
     }
     if 31 <= m {
-        return 14;
+        return Some(Refusal::BlocksFull);
     }
     if n <= place {
-        return 15;
+        return Some(Refusal::NoSpace);
     }
-    0
+    None
 }
 
 // The free stretches once `size` units are taken off the front of the one at place p, or all of it.
 pub fn cut_at(l: [Stretch; 32], p: usize, size: u32) -> [Stretch; 32]
     ensures { result ≡ cut_at p size l }
 {
-    let s = nth(l, p);
+    let s = nth(&l, p);
     if size < s.length {
-        let start = std::num::wrapping_add_u32(s.start, size);
         let rest = Stretch {
-            start,
+            start: s.start.wrapping_add(size),
             length: s.length - size,
         };
         with_at(l, p, rest)
@@ -140,15 +121,15 @@ pub fn granted(seen: Look, used: Used, size: u32) -> Done
 {
     let bs = seen.blocks;
     let fs = seen.free;
-    let s = nth(fs, seen.place);
-    let k = place_of(bs, used.blocks, Test::StartsBehind, s.start);
+    let s = nth(&fs, seen.place);
+    let k = first_behind(&bs[..used.blocks], s.start).unwrap_or(used.blocks);
     let block = Stretch {
         start: s.start,
         length: size,
     };
     let blocks = opened(bs, k, block);
     let free = cut_at(fs, seen.place, size);
-    let left = used.free - (s.length <= size) as usize;
+    let left = used.free - usize::from(s.length <= size);
     done_as(blocks, free, s.start, used.blocks + 1, left)
 }
 
@@ -156,11 +137,9 @@ pub fn requested(seen: Look, used: Used, size: u32) -> Done
     ensures { result ≡ request_seen seen used size }
 {
     let kept = keeps(seen, used);
-    let refusal = request_refusal(kept, used.blocks, used.free, seen.place, size);
-    if refusal == 0 {
-        granted(seen, used, size)
-    } else {
-        refused(seen, used, refusal)
+    match request_refusal(kept, used.blocks, used.free, seen.place, size) {
+        Some(why) => refused(seen, used, why),
+        None => granted(seen, used, size),
     }
 }
 
@@ -168,31 +147,30 @@ pub fn requested(seen: Look, used: Used, size: u32) -> Done
 pub fn touches_low(b: Stretch, k: usize, l: [Stretch; 32]) -> bool
     ensures { result ≡ touches_low b k l }
 {
-    let j = down(k);
-    let x = nth(l, j);
-    (0 < k) & (x.start as u64 + x.length as u64 == b.start as u64)
+    let j = k.saturating_sub(1);
+    let x = nth(&l, j);
+    (0 < k) & (u64::from(x.start) + u64::from(x.length) == u64::from(b.start))
 }
 
 // The free stretch at place k touches b.
 pub fn touches_high(b: Stretch, k: usize, l: [Stretch; 32]) -> bool
     ensures { result ≡ touches_high b k l }
 {
-    let x = nth(l, k);
-    b.start as u64 + b.length as u64 == x.start as u64
+    let x = nth(&l, k);
+    u64::from(b.start) + u64::from(b.length) == u64::from(x.start)
 }
 
 // b, which goes to the place k, with the neighbours that touch it.
 pub fn whole_of(low: bool, high: bool, b: Stretch, k: usize, l: [Stretch; 32]) -> Stretch
     ensures { result ≡ whole_at low high b k l }
 {
-    let j = down(k);
-    let x = nth(l, j);
-    let y = nth(l, k);
-    let start = pick_u32(low, x.start, b.start);
-    let before = pick_u32(low, x.length, 0);
-    let behind = pick_u32(high, y.length, 0);
-    let front = std::num::wrapping_add_u32(before, b.length);
-    let length = std::num::wrapping_add_u32(front, behind);
+    let j = k.saturating_sub(1);
+    let x = nth(&l, j);
+    let y = nth(&l, k);
+    let start = if low { x.start } else { b.start };
+    let before = if low { x.length } else { 0 };
+    let behind = if high { y.length } else { 0 };
+    let length = before.wrapping_add(b.length).wrapping_add(behind);
     Stretch { start, length }
 }
 
@@ -210,7 +188,7 @@ pub fn give_back(low: bool, high: bool, b: Stretch, k: usize, l: [Stretch; 32]) 
     let whole = whole_of(low, high, b, k, l);
     let rest = rest_of(high, k, l);
     if low {
-        let j = down(k);
+        let j = k.saturating_sub(1);
         with_at(rest, j, whole)
     } else {
         opened(rest, k, whole)
@@ -225,28 +203,25 @@ pub fn freed(seen: Look, used: Used, p: usize) -> Done
 {
     let bs = seen.blocks;
     let fs = seen.free;
-    let b = nth(bs, p);
-    let k = place_of(fs, used.free, Test::StartsBehind, b.start);
+    let b = nth(&bs, p);
+    let k = first_behind(&fs[..used.free], b.start).unwrap_or(used.free);
     let low = touches_low(b, k, fs);
     let high = touches_high(b, k, fs);
     let blocks = closed(bs, p);
     let free = give_back(low, high, b, k, fs);
-    let left = used.free + 1 - low as usize - high as usize;
+    let left = used.free + 1 - usize::from(low) - usize::from(high);
     done_as(blocks, free, b.length, used.blocks - 1, left)
 }
 
 pub fn released(seen: Look, used: Used, start: u32) -> Done
     ensures { result ≡ release_seen seen used start }
 {
-    if keeps(seen, used) {
-        let bs = seen.blocks;
-        let p = place_of(bs, used.blocks, Test::StartsAt, start);
-        if p < used.blocks {
-            freed(seen, used, p)
-        } else {
-            refused(seen, used, 16)
-        }
-    } else {
-        refused(seen, used, 2)
+    if !keeps(seen, used) {
+        return refused(seen, used, Refusal::BadState);
+    }
+    let bs = seen.blocks;
+    match starting_at(&bs[..used.blocks], start) {
+        Some(p) => freed(seen, used, p),
+        None => refused(seen, used, Refusal::BadBlock),
     }
 }

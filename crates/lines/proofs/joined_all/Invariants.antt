@@ -1,13 +1,7 @@
-use Prim.Native.Nat.{◌-◌, ◌≤◌}
-use mathlib.Core.Path.{◌≡◌}
-use mathlib.Core.List.{◌++◌}
-use lib.ListN.{drop, take}
+use Rattle.std.proofs.Common.{◌≡◌, ◌+◌, ◌≤◌, ◌++◌, drop, take}
 use Rattle.lists.specs.Line.{line, pad}
 use Rattle.lines.proofs.joined_all.Given as goal
 
 abbrev pub invariant-loop-i : goal.invariant-loop-i
 invariant-loop-i l =
-    (l.i ≤ 31) × (l.j ≤ 31) × (l.r ≡ pad (take l.j l.r)) × (pad (take l.initial.j l.initial.r ++ line l.b) ≡ pad (take l.j l.r ++ line (drop l.i l.b)))
-
-abbrev pub decreases-loop-i : goal.decreases-loop-i
-decreases-loop-i l = 31 - l.i
+    (l.i ≤ 31) × (l.r ≡ pad (take (l.n + l.i) l.r)) × (pad (line l.fn.a ++ line l.fn.b) ≡ pad (take (l.n + l.i) l.r ++ line (drop l.i l.fn.b)))

@@ -1,7 +1,7 @@
 use native.Mathlib.Omega.{arith}
 use borrow.Author.Rules.{rules}
 use Prim.Native.Nat.{ℕ, ◌+◌}
-use mathlib.Core.Path.{refl, ap}
+use mathlib.Core.Path.{◌≡◌, refl, ap}
 use mathlib.Core.Bool.{Bool, ◌||◌}
 use lib.Dec.{ltb}
 use lib.ListN.{drop, get_or}
@@ -24,7 +24,8 @@ loop-i-preserved c =
     let f : ℕ → Bool = λ x. ltb a.k (mark_of a.keys x) in
     let x = get_or a.a s.i 0 in
     let rest = line (drop (s.i + 1) a.a) in
-    let test = ap (λ (x : ℕ). s.passed || ltb a.k x) c.key_of.ensures in
+    let key : c.unwrap_or.result ≡ mark_of a.keys x = search rules in
+    let test = ap (λ (k : ℕ). s.passed || ltb a.k k) key in
     elim c.if-passed.branch [
       | then-passed w ↦ rw (w.r-is, w.carry-is) (fill_keep s.invariant (search rules) (search rules) c.if-x-eq0.false (insert_here f s.carry x rest s.passed _ test w.if-passed.true))
       | else-passed w ↦ rw (w.r-is, w.carry-is) (fill_keep s.invariant (search rules) (search rules) c.if-x-eq0.false (insert_on f s.carry x rest s.passed _ test w.if-passed.false))

@@ -1,4 +1,3 @@
-use Prim.Native.Nat.{◌-◌}
 use mathlib.Core.Bool.{◌||◌}
 use lib.Dec.{ltb}
 use Rattle.lists.specs.Line.{line}
@@ -10,7 +9,4 @@ use Rattle.lines.proofs.put_by.Given as goal
 -- `carry` is to go in before the first larger key of the rest, or at once where one has been passed.
 abbrev pub invariant-loop-i : goal.invariant-loop-i
 invariant-loop-i l =
-    Filling (insert_by l.keys l.k l.t (line l.a)) (insert (λ x. l.passed || ltb l.k (mark_of l.keys x)) l.carry) l.a l.r l.i l.i
-
-abbrev pub decreases-loop-i : goal.decreases-loop-i
-decreases-loop-i l = 31 - l.i
+    Filling (insert_by l.keys l.k l.t (line l.fn.a)) (insert (λ x. l.passed || ltb l.k (mark_of l.keys x)) l.carry) l.fn.a l.r l.i l.i

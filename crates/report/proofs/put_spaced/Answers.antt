@@ -4,4 +4,4 @@ use Rattle.report.proofs.put_spaced.Goals as goal
 
 pub returns : goal.returns
 unfolding spaced
-returns c = then_put c.put_byte-k.ensures c.put_number.ensures
+returns c = then_put c.put_byte-k.ensures (rw c.from.ensures at c.put_number.ensures)

@@ -1,27 +1,16 @@
-use Rattle.std.proofs.Common.{◌≡◌, length, sym, refl, ◌∙◌, arith, rules}
-use Rattle.lists.proofs.ListLaws.{mapped_long}
-use Rattle.rules.specs.State.{blank}
+use Rattle.std.proofs.Common.{◌∙◌, drop, rules}
+use borrow.Author.Tests.{tests}
+use Rattle.std.proofs.lemmas.Iterator.{YieldsList-from_slice}
+use Rattle.std.proofs.lemmas.Iterator.Adapters.{YieldsList-from_skip}
+use Rattle.std.proofs.lemmas.Iterator.Consumers.{YieldsList-at}
+use Rattle.std.proofs.lemmas.Iterator.Search.{all_from_yields_List}
 use Rattle.rules.specs.Whole.{unused}
-use Rattle.lists.proofs.Turns.{every_pass, every_fail, every_done}
+use Rattle.soundness.proofs.Turns.{every_list}
 use Rattle.soundness.proofs.all_unused.Goals as goal
-
-pub loop-i-init : goal.loop-i-init
-loop-i-init c = (search (rules, mapped_long), refl)
-
-pub loop-i-preserved : goal.loop-i-preserved
-loop-i-preserved c =
-    let l = c.loop-i in let s = c.args.s in
-    let k : length s.tasks ≡ 31 = l.invariant.0 in
-    (k, l.invariant.1 ∙ every_pass unused s.tasks l.i blank (omega arith) (sym c.is_unused.ensures ∙ c.if-is_unused.true))
-
-pub returns-else-is_unused : goal.returns-else-is_unused
-returns-else-is_unused c =
-    let l = c.loop-i in let s = c.args.s in
-    let k : length s.tasks ≡ 31 = l.invariant.0 in
-    sym (l.invariant.1 ∙ every_fail unused s.tasks l.i blank (omega arith) (sym c.is_unused.ensures ∙ c.if-is_unused.false))
 
 pub returns : goal.returns
 returns c =
-    let l = c.loop-i in let s = c.args.s in
-    let k : length s.tasks ≡ 31 = l.invariant.0 in
-    sym (l.invariant.1 ∙ every_done unused s.tasks l.i blank (omega arith))
+    all_from_yields_List unused _ _ c.all.result c.all.ensures.ran
+    (YieldsList-from_skip c.args.s.created (YieldsList-at c.skip.ensures.source (YieldsList-from_slice c.args.s.tasks cc)) (c.skip.ensures.count ∙ c.from.ensures))
+    (λ x b q k. search (rules, tests))
+    ∙ every_list unused (drop c.args.s.created c.args.s.tasks)

@@ -1,72 +1,98 @@
-use Rattle.std.proofs.Common.{◌≡◌, ℕ, ◌-◌, ◌<◌, ◌≤◌, Bool, [], get_or, sym, refl, ap, ◌∙◌, arith, rules}
-use mathlib.Core.Bool.{and-true}
-use Rattle.lists.specs.Lists.{every, down_from}
-use Rattle.lists.proofs.Tests.{between}
-use Rattle.lists.proofs.ListLaws.{mapped_long, down_on, down_end}
+use Rattle.std.proofs.Common.{◌≡◌, ℕ, suc, ◌-◌, ◌≤◌, Bool, true, false, ◌&&◌, List, [], ◌∷◌, ◌++◌, Some, length, take, get_or, sym, refl, ap, ◌∙◌, arith, length-append, length-take-le, rules}
+use Rattle.std.specs.Iterator.Adapters.{rev_source}
+use Rattle.std.specs.Slice.Iter.{iter_rest}
+use Rattle.lists.proofs.Backwards.{last_left}
+use Rattle.lists.proofs.ListLaws.{mapped_long}
 use Rattle.rules.specs.State.{blank, task_of}
 use Rattle.rules.specs.Whole.{view_core}
 use Rattle.rules.specs.declared.Core.{Core}
-use Rattle.table.proofs.LeafLaws.{task_in}
-use Rattle.soundness.specs.Check.{Line, Ready, Callers, Held, Delays, belongs, good_in, is_changed, marked}
+use Rattle.rules.specs.declared.Task.{Task}
+use Rattle.table.proofs.LeafLaws.{task_in, shown_at}
+use Rattle.soundness.specs.Check.{Ready, Callers, Held, Delays, belongs, good_in, is_changed, words_of, told_of}
 use Rattle.soundness.specs.Marks.{no_marks, next_mark}
-use Rattle.soundness.proofs.TaskLaws.{called_one, called_none, good_is}
-use Rattle.soundness.proofs.Turns.{and_turn, mark_on}
-use Rattle.soundness.proofs.told_of.Invariants.{due}
+use Rattle.soundness.specs.declared.Told.{Told}
+use Rattle.soundness.proofs.TaskLaws.{good_is}
+use Rattle.soundness.proofs.Turns.{mark_on}
+use Rattle.soundness.proofs.told_of.Invariants.{due, goods}
 use Rattle.soundness.proofs.told_of.Goals as goal
-use Rattle.soundness.proofs.told_of.Goals.{then-is_between, else-is_between}
 
-pub loop-t-init : goal.loop-t-init
-loop-t-init c = (c.requires, omega arith, search (rules, mapped_long), refl, refl, refl, refl, refl, refl)
-
--- one line's turn: its word with task t below, if that belongs there
-turn : (s : Core) (l : Line) (t m n : ℕ) (b : Bool) → 0 < t → t ≤ s.created → b ≡ belongs l (get_or s.tasks (t - 1) blank) → n ≡ next_mark m b → due s l m t ≡ due s l n (t - 1)
-turn s l t m n b z k eb en =
-    mark_on (λ u. belongs l (task_of (view_core s) u)) m n t b z (eb ∙ ap (belongs l) (task_in s.tasks s.created t (λ q. omega arith) k)) en
-
-pub loop-t-preserved : goal.loop-t-preserved
-loop-t-preserved c =
+pub loop-x-init : goal.loop-x-init
+loop-x-init c =
     let s = c.args.s in
-    let v = c.loop-t.invariant in
-    let t = c.loop-t.t in
-    let u = c.partner_of-u.result in
-    let z : 0 < t = c.loop-t-test.true in
-    let k : t ≤ s.created = v.1 in
-    let test = sym c.is_between.ensures in
-    -- what stands beside task t is the task that it has called
-    let called : c.if-is_between.g ≡ task_of (view_core s) u =
-    elim c.if-is_between.branch [ then-is_between w ↦ w.g-is ∙ called_one s u (test ∙ w.if-is_between.true) | else-is_between w ↦ w.g-is ∙ c.blank_task-g.ensures ∙ called_none s u (test ∙ w.if-is_between.false) ] in
-    -- what the test of task t answered, in the rules' words
-    let answered : c.is_good-good.result ≡ good_in (view_core s) t =
-    good_is s t u (get_or s.tasks (t - 1) blank) c.if-is_between.g c.is_good-good.result
-    (task_in s.tasks s.created t (λ q. omega arith) k) c.partner_of-u.ensures called c.is_good-good.ensures in
-    let goods = ap (every (good_in (view_core s))) (down_on t z) in (
-      v.0,
+    let few : s.created ≤ 31 = c.requires in
+    let long : length s.tasks ≡ 31 = search (rules, mapped_long) in
+    let left : iter_rest (rev_source c.into_iter-x-iterator.result) ≡ take s.created s.tasks =
+    ap (λ z. iter_rest (rev_source z)) c.into_iter-x-iterator.ensures.into_iter_gives ∙ ap iter_rest c.rev-x-items.ensures.source ∙ c.iter.ensures.rest ∙ ap (λ (n : ℕ). take n s.tasks) c.from.ensures in
+    let n : length (iter_rest (rev_source c.into_iter-x-iterator.result)) ≡ s.created = ap (λ (l : List Task). length l) left ∙ length-take-le s.created s.tasks (omega arith) in (
       omega arith,
-      v.2,
-      v.3 ∙ and_turn c.loop-t.good _ _ _ _ answered goods,
-      v.4 ∙ turn s Ready t _ _ _ z k c.is_ready.ensures c.next-ready.ensures,
-      v.5 ∙ turn s Callers t _ _ _ z k c.is_queued.ensures c.next-callers.ensures,
-      v.6 ∙ turn s Held t _ _ _ z k c.is_held.ensures c.next-held.ensures,
-      v.7 ∙ turn s Delays t _ _ _ z k c.has_time.ensures c.next-delays.ensures,
-      v.8 ∙ mark_on (λ u. is_changed (task_of (view_core s) u)) _ _ t _ z (ap is_changed (task_in s.tasks s.created t (λ q. omega arith) k)) c.next-changed.ensures,
+      long,
+      left ∙ ap (λ (k : ℕ). take k s.tasks) (sym n),
+      ap (goods s) (sym n),
+      ap (due s (belongs Ready) no_marks) (sym n),
+      ap (due s (belongs Callers) no_marks) (sym n),
+      ap (due s (belongs Held) no_marks) (sym n),
+      ap (due s (belongs Delays) no_marks) (sym n),
+      ap (due s is_changed no_marks) (sym n),
     )
+
+-- the next task from the end is t + 1, where t are left
+next_left : (s : Core) (left rest : List Task) (x : Task) → length left ≤ s.created → s.created ≤ 31 → length s.tasks ≡ 31 → left ≡ take (length left) s.tasks → left ≡ rest ++ (x ∷ [])
+    → (length left ≡ suc (length rest)) × (rest ≡ take (length rest) s.tasks) × (x ≡ task_of (view_core s) (suc (length rest)))
+next_left s left rest x few most long front e =
+    let n : length left ≡ suc (length rest) = omega (arith, ap (λ (l : List Task). length l) e, length-append rest (x ∷ [])) in
+    let r = last_left blank x rest s.tasks (sym e ∙ front ∙ ap (λ (k : ℕ). take k s.tasks) n) in
+    let k : length rest ≡ suc (length rest) - 1 = omega arith in
+    (n, r.0, r.1 ∙ ap (λ (i : ℕ). get_or s.tasks i blank) k ∙ task_in s.tasks s.created (suc (length rest)) (λ q. omega arith) (omega arith))
+
+pub returns-then-not-is_good : goal.returns-then-not-is_good
+returns-then-not-is_good c =
+    let s = c.args.s in
+    let v = c.loop-x.invariant in
+    let few : s.created ≤ 31 = c.requires in
+    let x = c.in-Some.field-0.now in
+    let t = length (iter_rest (rev_source c.next.new.self)) in
+    let next = next_left s (iter_rest (rev_source c.loop-x.x-iterator)) (iter_rest (rev_source c.next.new.self)) x v.0 few v.1 v.2 c.in-Some.ensures.steps in
+    let called = shown_at s c.partner_of-u.result _ _ v.1 c.index_of-at.ensures.0 c.shown-called.ensures in
+    let bad : false ≡ good_in (view_core s) (suc t) = sym c.if-not-is_good.true ∙ good_is s (suc t) c.partner_of-u.result x c.shown-called.result c.is_good.result next.2 c.partner_of-u.ensures called c.is_good.ensures in
+    let none : goods s s.created ≡ false = v.3 ∙ ap (goods s) next.0 ∙ (λ i. sym bad i && goods s t) in
+    rw none
+
+pub loop-x-preserved : goal.loop-x-preserved
+loop-x-preserved c =
+    let s = c.args.s in
+    let l = c.loop-x in
+    let v = l.invariant in
+    let few : s.created ≤ 31 = c.requires in
+    let x = c.in-Some.field-0.now in
+    let t = length (iter_rest (rev_source c.next.new.self)) in
+    let next = next_left s (iter_rest (rev_source l.x-iterator)) (iter_rest (rev_source c.next.new.self)) x v.0 few v.1 v.2 c.in-Some.ensures.steps in
+    let called = shown_at s c.partner_of-u.result _ _ v.1 c.index_of-at.ensures.0 c.shown-called.ensures in
+    let good : true ≡ good_in (view_core s) (suc t) = sym c.if-not-is_good.false ∙ good_is s (suc t) c.partner_of-u.result x c.shown-called.result c.is_good.result next.2 c.partner_of-u.ensures called c.is_good.ensures in
+    -- one word's turn: task t + 1 below, if it passes the test
+    let turn : (f : Task → Bool) (m n : ℕ) (b : Bool) → b ≡ f x → n ≡ next_mark m b → due s f m (length (iter_rest (rev_source l.x-iterator))) ≡ due s f n t =
+    λ f m n b eb en. ap (due s f m) next.0 ∙ mark_on (λ u. f (task_of (view_core s) u)) m n t b (eb ∙ ap f next.2) en in (
+      omega (arith, v.0, next.0),
+      v.1,
+      next.1,
+      v.3 ∙ ap (goods s) next.0 ∙ (λ i. sym good i && goods s t),
+      v.4 ∙ turn (belongs Ready) l.ready _ _ c.is_ready.ensures c.next-ready.ensures,
+      v.5 ∙ turn (belongs Callers) l.callers _ _ c.is_queued.ensures c.next-callers.ensures,
+      v.6 ∙ turn (belongs Held) l.held _ _ c.is_held.ensures c.next-held.ensures,
+      v.7 ∙ turn (belongs Delays) l.delays _ _ c.has_time.ensures c.next-delays.ensures,
+      v.8 ∙ turn is_changed l.changed _ _ refl c.next-changed.ensures,
+    )
+
+-- nothing is left
+told_is : (s : Core) (told : Told) → goods s s.created ≡ true → told ≡ words_of s → Some told ≡ told_of s
+told_is s told e et = rw e (ap (λ (x : Told). Some x) et)
 
 pub returns : goal.returns
 returns c =
     let s = c.args.s in
-    let v = c.loop-t.invariant in
-    let end : down_from c.loop-t.t ≡ [] = down_end c.loop-t.t (omega arith) in
-    let g = sym (rw end at v.3 ∙ and-true c.loop-t.good) in
-    let word : (d : Line) (m : ℕ) → due s d no_marks s.created ≡ due s d m c.loop-t.t → m ≡ due s d no_marks s.created
-    = λ d m e. sym (e ∙ ap (marked (λ u. belongs d (task_of (view_core s) u)) m) end) in
-    let changed = sym (v.8 ∙ ap (marked (λ u. is_changed (task_of (view_core s) u)) c.loop-t.changed) end) in
-    λ i. record { good = g i; ready = word Ready _ v.4 i; callers = word Callers _ v.5 i; held = word Held _ v.6 i; delays = word Delays _ v.7 i; changed = changed i }
-
-pub overflow_sub-at : goal.overflow_sub-at
-overflow_sub-at c = (between c.partner_of-u.result c.args.s.created (sym c.is_between.ensures ∙ c.if-is_between.true)).0
-
-pub offset_bounds-s-at : goal.offset_bounds-s-at
-offset_bounds-s-at c = omega (arith, between c.partner_of-u.result c.args.s.created (sym c.is_between.ensures ∙ c.if-is_between.true), c.loop-t.invariant.0)
-
-pub bounds-s-at : goal.bounds-s-at
-bounds-s-at c = omega (arith, between c.partner_of-u.result c.args.s.created (sym c.is_between.ensures ∙ c.if-is_between.true), c.loop-t.invariant.0)
+    let l = c.loop-x in
+    let v = l.invariant in
+    let none : length (iter_rest (rev_source l.x-iterator)) ≡ 0 = c.in-None.ensures.steps.0 in
+    let word : (f : Task → Bool) (m : ℕ) → due s f no_marks s.created ≡ due s f m (length (iter_rest (rev_source l.x-iterator))) → m ≡ due s f no_marks s.created
+    = λ f m e. sym (e ∙ ap (due s f m) none) in
+    told_is s _ (v.3 ∙ ap (goods s) none)
+    (λ i. record { ready = word (belongs Ready) _ v.4 i; callers = word (belongs Callers) _ v.5 i; held = word (belongs Held) _ v.6 i; delays = word (belongs Delays) _ v.7 i; changed = word is_changed _ v.8 i })

@@ -1,25 +1,31 @@
-use Rattle.std.proofs.Common.{◌≡◌, ℕ, ◌≤◌, ◌&&◌, length}
+use Rattle.std.proofs.Common.{◌≡◌, ℕ, ◌≤◌, Bool, List, length, take}
+use Rattle.std.specs.Iterator.Adapters.{rev_source}
+use Rattle.std.specs.Slice.Iter.{iter_rest}
 use Rattle.lists.specs.Lists.{every, down_from}
 use Rattle.rules.specs.State.{task_of}
 use Rattle.rules.specs.Whole.{view_core}
 use Rattle.rules.specs.declared.Core.{Core}
-use Rattle.soundness.specs.Check.{Line, Ready, Callers, Held, Delays, belongs, good_in, is_changed, marked}
+use Rattle.rules.specs.declared.Task.{Task}
+use Rattle.soundness.specs.Check.{Ready, Callers, Held, Delays, belongs, good_in, is_changed, marked}
 use Rattle.soundness.specs.Marks.{no_marks}
 use Rattle.soundness.proofs.told_of.Given as goal
 
--- The invariant: of the tasks above t it is known whether they are good and who belongs where; what is left of each answer is
--- the answer for the tasks t, t - 1, .., 1.
--- the word m goes on with who of the tasks t, t - 1, .., 1 belongs into line l
-abbrev pub due : Core → Line → ℕ → ℕ → ℕ
-due s l m t = marked (λ u. belongs l (task_of (view_core s) u)) m (down_from t)
+-- the word m goes on with which of the tasks t, t - 1, .., 1 pass the test
+abbrev pub due : Core → (Task → Bool) → ℕ → ℕ → ℕ
+due s f m t = marked (λ u. f (task_of (view_core s) u)) m (down_from t)
 
-abbrev pub invariant-loop-t : goal.invariant-loop-t
-invariant-loop-t l =
-    (l.s.created ≤ 31) × (l.t ≤ l.s.created) × (length l.s.tasks ≡ 31)
-    × (every (good_in (view_core l.s)) (down_from l.s.created) ≡ (l.good && every (good_in (view_core l.s)) (down_from l.t)))
-    × (due l.s Ready no_marks l.s.created ≡ due l.s Ready l.ready l.t) × (due l.s Callers no_marks l.s.created ≡ due l.s Callers l.callers l.t)
-    × (due l.s Held no_marks l.s.created ≡ due l.s Held l.held l.t) × (due l.s Delays no_marks l.s.created ≡ due l.s Delays l.delays l.t)
-    × (marked (λ u. is_changed (task_of (view_core l.s) u)) no_marks (down_from l.s.created) ≡ marked (λ u. is_changed (task_of (view_core l.s) u)) l.changed (down_from l.t))
+-- all of the tasks t, t - 1, .., 1 are good
+abbrev pub goods : Core → ℕ → Bool
+goods s t = every (good_in (view_core s)) (down_from t)
 
-abbrev pub decreases-loop-t : goal.decreases-loop-t
-decreases-loop-t l = l.t
+-- The invariant: the tasks that are left are the first t of the table. Those above are good, and it is known who of them belongs where; what
+-- is left of each answer is the answer for those left.
+abbrev pub invariant-loop-x : goal.invariant-loop-x
+invariant-loop-x l =
+    let s = l.fn.s in
+    let left : List Task = iter_rest (rev_source l.x-iterator) in
+    let t = length left in
+    (t ≤ s.created) × (length s.tasks ≡ 31) × (left ≡ take t s.tasks) × (goods s s.created ≡ goods s t)
+    × (due s (belongs Ready) no_marks s.created ≡ due s (belongs Ready) l.ready t) × (due s (belongs Callers) no_marks s.created ≡ due s (belongs Callers) l.callers t)
+    × (due s (belongs Held) no_marks s.created ≡ due s (belongs Held) l.held t) × (due s (belongs Delays) no_marks s.created ≡ due s (belongs Delays) l.delays t)
+    × (due s is_changed no_marks s.created ≡ due s is_changed l.changed t)

@@ -1,4 +1,4 @@
-use Rattle.std.proofs.Common.{◌≡◌, true, false, List, ℕ, ℤ, sym, refl, ap, ◌∙◌, w32, to_z, of_z, rules}
+use Rattle.std.proofs.Common.{◌≡◌, true, false, List, ℕ, ℤ, Result, sym, refl, ap, ◌∙◌, w32, to_z, of_z, rules}
 use Rattle.lists.specs.Line.{line}
 use Rattle.lists.proofs.ListLaws.{clash}
 use Rattle.rules.specs.Callers.{asks}
@@ -6,6 +6,7 @@ use Rattle.rules.specs.Step.{take_call, room_after}
 use Rattle.rules.proofs.Apart.{same_step}
 use Rattle.rules.specs.Whole.{view_core}
 use Rattle.rules.specs.declared.Core.{Core}
+use Rattle.rules.specs.declared.Refusal.{Refusal}
 use Rattle.calls.specs.declared.Call as C
 use Rattle.calls.specs.declared.Call.TheVariants.{Delay, Call, Select, End, Finish, Tick, Advance}
 use Rattle.steps.specs.Taken.{Sees, SeesFor, seen, taken_of, ended_by}
@@ -16,8 +17,8 @@ use Rattle.steps.proofs.take_call.Goals as goal
 
 -- a call that looks at no callers
 module _ (s : Core) (mine : List ℕ) (c : C.Call) (z : asks c ≡ false) where
-  blind_value : {r : Taken} → r ≡ taken_of s (take_call (view_core s) c) → r ≡ taken_of s (take_call (seen s mine) c)
-  blind_value = by_core s (take_call (seen s mine) c) (take_call (view_core s) c) (sym (same_step (view_core s) (line mine) c (λ e. clash e z)))
+  blind_value : {r : Result Taken Refusal} → r ≡ taken_of (take_call (view_core s) c) → r ≡ taken_of (take_call (seen s mine) c)
+  blind_value = by_core (take_call (seen s mine) c) (take_call (view_core s) c) (sym (same_step (view_core s) (line mine) c (λ e. clash e z)))
 
   blind_room : (x y : List ℕ) → x ≡ room_after y (ended_by (take_call (view_core s) c)) → x ≡ room_after y (ended_by (take_call (seen s mine) c))
   blind_room x y = by_core_ended (take_call (seen s mine) c) (take_call (view_core s) c) x y (sym (same_step (view_core s) (line mine) c (λ e. clash e z)))
@@ -31,7 +32,7 @@ returns-in-Delay-clause-value c =
     let a = c.args in
     let d = c.in-Delay.d in
     let z : to_z w32 (of_z w32 d) ≡ d = search rules in
-    rw c.in-Delay.is (blind_value a.s a.mine (Delay d) refl (c.delay.ensures ∙ ap (λ (d : ℤ). taken_of a.s (take_call (view_core a.s) (Delay d))) z))
+    rw c.in-Delay.is (blind_value a.s a.mine (Delay d) refl (c.delay.ensures ∙ ap (λ (d : ℤ). taken_of (take_call (view_core a.s) (Delay d))) z))
 
 pub returns-in-Call-clause-value : goal.returns-in-Call-clause-value
 returns-in-Call-clause-value c =

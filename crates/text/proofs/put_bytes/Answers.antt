@@ -7,23 +7,23 @@ use Rattle.lists.proofs.Turns.{rest_cons}
 use Rattle.text.proofs.Puts.{toward, putting_start, putting_on, putting_done}
 use Rattle.text.proofs.put_bytes.Goals as goal
 
-pub loop-i-init : goal.loop-i-init
-loop-i-init c =
+pub loop-b-init : goal.loop-b-init
+loop-b-init c =
     let a = c.args in
-    (omega arith, putting_start a.out.now a.at a.text.now c.least-place.ensures)
+    putting_start a.out.now a.at a.text.now c.min-place.ensures
 
-pub loop-i-preserved : goal.loop-i-preserved
-loop-i-preserved c =
+pub loop-b-preserved : goal.loop-b-preserved
+loop-b-preserved c =
     let a = c.args in
-    let l = c.loop-i in
-    let rest : drop l.i a.text.now ≡ get_or a.text.now l.i 0 ∷ drop (l.i + 1) a.text.now = rest_cons a.text.now l.i 0 (omega arith) in
-    (omega arith, putting_on {a = get_or a.text.now l.i 0 ∷ []} (toward rest l.invariant.1) c.put_byte-place.ensures)
+    let l = c.loop-b in
+    let rest : drop l.b-index a.text.now ≡ get_or a.text.now l.b-index 0 ∷ drop (l.b-index + 1) a.text.now = rest_cons a.text.now l.b-index 0 (omega arith) in
+    putting_on {a = get_or a.text.now l.b-index 0 ∷ []} (toward rest l.invariant) c.put_byte-place.ensures
 
 pub shape_of-out : goal.shape_of-out
-shape_of-out c = c.loop-i.invariant.1.long
+shape_of-out c = c.loop-b.invariant.long
 
 pub returns : goal.returns
 returns c =
     let a = c.args in
-    let l = c.loop-i in
-    putting_done (toward (drop_of_length-le a.text.now {i = l.i} (omega arith)) l.invariant.1)
+    let l = c.loop-b in
+    putting_done (toward (drop_of_length-le a.text.now {i = l.b-index} (omega arith)) l.invariant)

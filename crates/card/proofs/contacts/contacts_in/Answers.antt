@@ -1,12 +1,13 @@
-use mathlib.Core.List.{[], ◌∷◌}
+use Rattle.std.proofs.Common.{ℕ, arith, rules}
+use borrow.Author.Tests.{tests}
+use Rattle.lists.proofs.FromFn.{from_fn_each}
+use Rattle.debounce.specs.Card.{no_contact}
+use Rattle.card.specs.Contacts.{contact_at}
+use Rattle.card.proofs.ContactsLaws.{contacts_are}
 use Rattle.card.proofs.contacts.contacts_in.Goals as goal
 
 pub returns : goal.returns
 returns c =
-    let c₇ = c.before in
-    let c₆ = c₇.before in
-    let c₅ = c₆.before in
-    let c₄ = c₅.before in
-    let c₃ = c₄.before in
-    let c₂ = c₃.before in
-    λ i. c₂.contact_at.ensures i ∷ c₂.contact_at-2.ensures i ∷ c₃.contact_at-3.ensures i ∷ c₄.contact_at-4.ensures i ∷ c₅.contact_at-5.ensures i ∷ c₆.contact_at-6.ensures i ∷ c₇.contact_at-7.ensures i ∷ c.contact_at-8.ensures i ∷ []
+    let b = c.args.b.now in
+    contacts_are b 8 0 c.from_fn.result c.from_fn.ensures.items.long
+    (λ k h. from_fn_each _ _ (contact_at b) c.from_fn.result (λ i y q z. search (rules, tests)) 8 0 c.from_fn.ensures.items.each k no_contact (omega arith) (omega arith))

@@ -3,4 +3,4 @@ use Rattle.codec.proofs.rows.lost_second.Goals as goal
 
 pub returns : goal.returns
 unfolding lost_second
-returns c = λ i. record { core = (c.lost_state-s.ensures i).core; rows = c.no_rows-rows.ensures i }
+returns c = λ i. record { core = (c.lost_state.ensures i).core; rows = c.no_rows-rows.ensures i }

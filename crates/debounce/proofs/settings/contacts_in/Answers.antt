@@ -1,14 +1,13 @@
-use Rattle.std.proofs.Common.{[], ◌∷◌}
-use Rattle.debounce.specs.Settings.{settings_in}
+use Rattle.std.proofs.Common.{ℕ, arith, rules}
+use borrow.Author.Tests.{tests}
+use Rattle.lists.proofs.FromFn.{from_fn_each}
+use Rattle.debounce.specs.Card.{opened}
+use Rattle.debounce.specs.Settings.{setting_at}
+use Rattle.debounce.proofs.CodeLaws.{contacts_each}
 use Rattle.debounce.proofs.settings.contacts_in.Goals as goal
 
 pub returns : goal.returns
-unfolding settings_in
 returns c =
-    let c₇ = c.before in
-    let c₆ = c₇.before in
-    let c₅ = c₆.before in
-    let c₄ = c₅.before in
-    let c₃ = c₄.before in
-    let c₂ = c₃.before in
-    λ i. c₂.contact_at.ensures i ∷ c₂.contact_at-2.ensures i ∷ c₃.contact_at-3.ensures i ∷ c₄.contact_at-4.ensures i ∷ c₅.contact_at-5.ensures i ∷ c₆.contact_at-6.ensures i ∷ c₇.contact_at-7.ensures i ∷ c.contact_at-8.ensures i ∷ []
+    let b = c.args.b.now in
+    contacts_each b c.from_fn.result c.from_fn.ensures.items.long
+    (λ k d h. from_fn_each _ _ (λ (i : ℕ). opened (setting_at b i)) c.from_fn.result (λ i y q z. search (rules, tests)) 8 0 c.from_fn.ensures.items.each k d (omega arith) (omega arith))

@@ -18,16 +18,16 @@ returns-in-Delay-clause-grown c =
 
 pub returns-in-End-clause-grown : goal.returns-in-End-clause-grown
 unfolding text_of
-returns-in-End-clause-grown c = rw c.in-End.is c.with_word.ensures
+returns-in-End-clause-grown c = rw c.in-End.is c.with_text.ensures
 
 pub returns-in-Finish-clause-grown : goal.returns-in-Finish-clause-grown
 unfolding text_of
-returns-in-Finish-clause-grown c = rw c.in-Finish.is c.with_word-in-Finish.ensures
+returns-in-Finish-clause-grown c = rw c.in-Finish.is c.with_text-in-Finish.ensures
 
 pub returns-in-Tick-clause-grown : goal.returns-in-Tick-clause-grown
 unfolding text_of
-returns-in-Tick-clause-grown c = rw c.in-Tick.is c.with_word-in-Tick.ensures
+returns-in-Tick-clause-grown c = rw c.in-Tick.is c.with_text-in-Tick.ensures
 
 pub returns-in-Advance-clause-grown : goal.returns-in-Advance-clause-grown
 unfolding text_of
-returns-in-Advance-clause-grown c = rw c.in-Advance.is (then_grown c.with_word-in-Advance.ensures c.with_spaced.ensures)
+returns-in-Advance-clause-grown c = rw c.in-Advance.is (then_grown c.with_text-in-Advance.ensures (rw c.from.ensures at c.with_spaced.ensures))

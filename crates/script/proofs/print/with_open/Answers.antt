@@ -4,9 +4,7 @@ use Rattle.script.proofs.print.with_open.Goals as goal
 
 pub returns-then-set-eq0 : goal.returns-then-set-eq0
 unfolding open_text
-returns-then-set-eq0 c =
-    let k = c.before in
-    rw (eq-eqb k.args.set 0 k.if-set-eq0.true) c.with_word.ensures
+returns-then-set-eq0 c = rw (eq-eqb c.args.set 0 c.if-set-eq0.true) c.with_text.ensures
 
 pub returns : goal.returns
 unfolding open_text

@@ -11,30 +11,30 @@ use mathlib.Core.List.{List, ◌++◌}
 use Prim.Native.Nat.{ℕ}
 use Rattle.script.proofs.reader.words_of.Goals as goal
 
-pub loop-i-init : goal.loop-i-init
-loop-i-init c =
+pub loop-b-init : goal.loop-b-init
+loop-b-init c =
     let l = c.args.line.now in
-    (omega arith, (search rules, sym (ap (λ (t : List ℕ). cut (t ++ words_from false l)) c.empty-words.ensures)))
+    record { long = search rules; so_far = sym (ap (λ (t : List ℕ). cut (t ++ words_from false l)) c.empty-words.ensures) }
 
 pub returns-then-b-eq35 : goal.returns-then-b-eq35
 unfolding words_of
 returns-then-b-eq35 c =
-    let l = c.loop-i in
+    let l = c.loop-b in
     let w = c.args.line.now in
-    growing_done l.words _ _ l.invariant.1.0 (comment w l.inside l.i (omega arith) c.if-b-eq35.true) l.invariant.1.1
+    growing_done l.words _ _ l.invariant.long (comment w l.inside l.b-index (omega arith) c.if-b-eq35.true) l.invariant.so_far
 
-pub loop-i-preserved : goal.loop-i-preserved
-loop-i-preserved c =
-    let l = c.loop-i in
+pub loop-b-preserved : goal.loop-b-preserved
+loop-b-preserved c =
+    let l = c.loop-b in
     let w = c.args.line.now in
     let part = c.with_part-words in
-    let goes_on : get_or w l.i 0 ≡ 35 → ⊥ = λ e. omega arith in
+    let goes_on : get_or w l.b-index 0 ≡ 35 → ⊥ = λ e. omega arith in
     rw c.is_blank-inside.ensures
-    (omega arith, (part.ensures.long, growing_on _ part.ensures (next_part w l.inside l.i (omega arith) goes_on) l.invariant.1.1))
+    record { long = part.ensures.long; so_far = growing_on _ part.ensures (next_part w l.inside l.b-index (omega arith) goes_on) l.invariant.so_far }
 
 pub returns : goal.returns
 unfolding words_of
 returns c =
-    let l = c.loop-i in
+    let l = c.loop-b in
     let w = c.args.line.now in
-    growing_done l.words _ _ l.invariant.1.0 (no_part w l.inside l.i (omega arith)) l.invariant.1.1
+    growing_done l.words _ _ l.invariant.long (no_part w l.inside l.b-index (omega arith)) l.invariant.so_far

@@ -12,14 +12,14 @@ use Rattle.session.proofs.turns.refused.Goals as goal
 pub returns-then-last-many : goal.returns-then-last-many
 returns-then-last-many g c =
     let a = c.args in
-    let said = says _ _ (asks_more g.E.Engine.ruled a.s (number_of a.error) a.many a.last a.room.now c.if-last-many.true) (put_none c.least.ensures) (omega arith) in
+    let said = says _ _ (asks_more g.E.Engine.ruled a.s (number_of a.error) a.many a.last a.room.now c.if-last-many.true) (put_none c.min.ensures) (omega arith) in
     record { value = said.0; out_after = said.1.0; room_len_bound = said.1.1 }
 
 -- there are no bytes
 pub returns-then-eq : goal.returns-then-eq
 returns-then-eq g c =
     let a = c.args in
-    let said = says _ _ (ends g.E.Engine.ruled a.s (number_of a.error) a.many a.last a.room.now c.if-last-many.false (sym (is_over a.error) ∙ sym c.eq.ensures ∙ c.if-eq.true)) (put_none c.least-then-eq.ensures) (omega arith) in
+    let said = says _ _ (ends g.E.Engine.ruled a.s (number_of a.error) a.many a.last a.room.now c.if-last-many.false (sym (is_over a.error) ∙ sym c.eq.ensures ∙ c.if-eq.true)) (put_none c.min-then-eq.ensures) (omega arith) in
     record { value = said.0; out_after = said.1.0; room_len_bound = said.1.1 }
 
 pub returns : goal.returns

@@ -2,10 +2,8 @@ use Rattle.std.proofs.Common.{◌∙◌}
 use Rattle.soundness.proofs.MarkLaws.{put_changed, put_same}
 use Rattle.soundness.proofs.marks.put.Goals as goal
 
-pub returns-then-there-here : goal.returns-then-there-here
-returns-then-there-here c =
-    let a = c.args in
-    c.without.ensures ∙ put_changed a.word a.t a.here c.has-there.result c.has-there.ensures c.if-there-here.true
+pub returns-then-has-here : goal.returns-then-has-here
+returns-then-has-here c = c.without.ensures ∙ put_changed c.args.word c.args.t c.args.here c.has.result c.has.ensures c.if-has-here.true
 
-pub returns-else-there-here : goal.returns-else-there-here
-returns-else-there-here c = let a = c.args in put_same a.word a.t a.here c.has-there.result c.has-there.ensures c.if-there-here.false
+pub returns-else-has-here : goal.returns-else-has-here
+returns-else-has-here c = put_same c.args.word c.args.t c.args.here c.has.result c.has.ensures c.if-has-here.false

@@ -6,6 +6,3 @@ pub returns-then-is_blank_from : goal.returns-then-is_blank_from
 returns-then-is_blank_from c =
     let a = c.args in
     sym (blank_row a.targets a.g a.word a.l (sym c.is_blank_from.ensures ∙ c.if-is_blank_from.true))
-
-pub returns : goal.returns
-returns c = c.met_in.ensures

@@ -1,18 +1,17 @@
-use Rattle.std.proofs.Common.{◌≡◌, length, sym, refl, ◌∙◌, arith}
-use Rattle.soundness.proofs.Turns.{blank_on, blank_end}
+use Rattle.std.proofs.Common.{◌≡◌, drop, fold, rules}
+use borrow.Author.Tests.{tests}
+use lib.Bits.{bit_or}
+use Rattle.std.proofs.lemmas.Iterator.{YieldsList-from_slice}
+use Rattle.std.proofs.lemmas.Iterator.Adapters.{YieldsList-from_skip}
+use Rattle.std.proofs.lemmas.Iterator.Consumers.{YieldsList-at, fold_from_yields_List}
+use Rattle.lists.proofs.Zeros.{none_in}
 use Rattle.soundness.proofs.stand.is_blank_from.Goals as goal
-
-pub loop-j-preserved : goal.loop-j-preserved
-loop-j-preserved c =
-    let a = c.args.a.now in
-    let k : length a ≡ 31 = c.loop-j.invariant.0 in
-    (k, c.loop-j.invariant.1 ∙ blank_on a c.loop-j.j c.loop-j.seen (omega arith))
 
 pub returns : goal.returns
 returns c =
-    let a = c.args.a.now in
-    let k : length a ≡ 31 = c.loop-j.invariant.0 in
-    sym (c.loop-j.invariant.1 ∙ blank_end a c.loop-j.j c.loop-j.seen (omega arith))
-
-pub loop-j-init : goal.loop-j-init
-loop-j-init c = (c.requires, refl)
+    let l = drop c.args.i c.args.a.now in
+    let e : c.fold.result ≡ fold bit_or 0 l =
+    fold_from_yields_List _ bit_or 0 c.fold.result c.fold.ensures.ran
+    (YieldsList-from_skip c.args.i (YieldsList-at c.skip.ensures.source (YieldsList-from_slice c.args.a.now cc)) c.skip.ensures.count)
+    (λ a x b q k. search (rules, tests)) in
+    rw e (none_in l)

@@ -1,23 +1,32 @@
 use Rattle.std.proofs.Common.{sym, refl, ap, ◌∙◌, arith, rules}
 use Rattle.lists.proofs.Turns.{rest_blank, rest_entry, rest_end}
 use Rattle.soundness.specs.TreeCheck.{all_climbed}
-use Rattle.soundness.proofs.TreeTurns.{climbs_on}
+use Rattle.soundness.proofs.TreeTurns.{climbs_on, climbs_none}
 use Rattle.soundness.proofs.tree.all_climb.Goals as goal
 
-pub loop-i-init : goal.loop-i-init
-loop-i-init c = (omega arith, search rules, refl)
+pub loop-t-init : goal.loop-t-init
+loop-t-init c = (search rules, refl)
 
 pub returns-then-t-eq0 : goal.returns-then-t-eq0
 returns-then-t-eq0 c =
     let a = c.args in
-    sym (c.loop-i.invariant.2 ∙ ap (all_climbed a.holders c.loop-i.good c.loop-i.rest) (rest_blank a.held c.loop-i.i (omega arith) c.if-t-eq0.true))
+    let l = c.loop-t in
+    sym (l.invariant.1 ∙ ap (all_climbed a.holders l.rest) (rest_blank a.held l.t-index (omega (arith, l.invariant.0)) c.if-t-eq0.true))
 
-pub loop-i-preserved : goal.loop-i-preserved
-loop-i-preserved c =
+pub returns-in_default : goal.returns-in_default
+returns-in_default c =
     let a = c.args in
-    (omega arith, c.loop-i.invariant.1, c.loop-i.invariant.2 ∙ climbs_on a.holders c.loop-i.good c.loop-i.rest _ _ _ c.climb-k.result (rest_entry a.held c.loop-i.i (omega arith) c.if-t-eq0.false) c.climb-k.ensures)
+    let l = c.loop-t in
+    sym (l.invariant.1 ∙ climbs_none a.holders l.rest _ _ _ c.climb.result (rest_entry a.held l.t-index (omega (arith, l.invariant.0)) c.if-t-eq0.false) c.climb.ensures c.in_default.is)
+
+pub loop-t-preserved : goal.loop-t-preserved
+loop-t-preserved c =
+    let a = c.args in
+    let l = c.loop-t in
+    (l.invariant.0, l.invariant.1 ∙ climbs_on a.holders l.rest _ _ _ c.climb.result c.in-Some.left (rest_entry a.held l.t-index (omega (arith, l.invariant.0)) c.if-t-eq0.false) c.climb.ensures c.in-Some.is)
 
 pub returns : goal.returns
 returns c =
     let a = c.args in
-    sym (c.loop-i.invariant.2 ∙ ap (all_climbed a.holders c.loop-i.good c.loop-i.rest) (rest_end a.held c.loop-i.i (omega arith)))
+    let l = c.loop-t in
+    sym (l.invariant.1 ∙ ap (all_climbed a.holders l.rest) (rest_end a.held l.t-index (omega (arith, l.invariant.0))))

@@ -1,4 +1,4 @@
-use Rattle.std.proofs.Common.{◌≡◌, ℕ, ◌-◌, ◌≤◌, true, length, drop}
+use Rattle.std.proofs.Common.{◌≡◌, ℕ, length, drop}
 use Rattle.lists.specs.Line.{line}
 use Rattle.lists.specs.Marks.{no_marks, marked}
 use Rattle.rules.specs.State.{place_of, partner_of}
@@ -12,11 +12,8 @@ use Rattle.soundness.proofs.tree.seen_of.Given as goal
 abbrev pub holder : Core → ℕ → ℕ
 holder s c = partner_of (place_of (view_core s) c)
 
-abbrev pub invariant-loop-i : goal.invariant-loop-i
-invariant-loop-i l =
-    (l.i ≤ 31) × (length l.s.tasks ≡ 31) × (length l.s.held ≡ 31)
-    × (passed (view_core l.s) no_marks l.word true (line l.s.held) ≡ passed (view_core l.s) l.tops l.apart l.good (line (drop l.i l.s.held)))
-    × (holders_of l.s ≡ marked (holder l.s) (line (drop l.i l.s.held)) l.holders) × (length l.tops ≡ 32) × (length l.holders ≡ 32)
-
-abbrev pub decreases-loop-i : goal.decreases-loop-i
-decreases-loop-i l = 31 - l.i
+abbrev pub invariant-loop-c : goal.invariant-loop-c
+invariant-loop-c l =
+    (length l.fn.s.tasks ≡ 31) × (length l.fn.s.held ≡ 31)
+    × (passed (view_core l.fn.s) no_marks l.word (line l.fn.s.held) ≡ passed (view_core l.fn.s) l.tops l.apart (line (drop l.c-index l.fn.s.held)))
+    × (holders_of l.fn.s ≡ marked (holder l.fn.s) (line (drop l.c-index l.fn.s.held)) l.holders) × (length l.tops ≡ 32) × (length l.holders ≡ 32)

@@ -21,4 +21,4 @@ returns c =
     let o = take_call v (Advance a.n) in
     let q = passing v a.n c.moments_of-moments.result in
     let e = advance_core v a.n h.callers h.sound ∙ ap (λ (e : ℕ). core_of (passing v a.n e)) (sym m) in
-    record { value = by_core a.s o q e c.passed.ensures.value; room = by_core_ended o q _ _ e c.passed.ensures.room }
+    record { value = by_core o q e c.passed.ensures.value; room = by_core_ended o q _ _ e c.passed.ensures.room }

@@ -1,4 +1,4 @@
-use Rattle.std.proofs.Common.{length, sym, subst, rules}
+use Rattle.std.proofs.Common.{length, refl, sym, subst, rules}
 use Rattle.lists.specs.Line.{line}
 use Rattle.rules.specs.Callers.{with_callers}
 use Rattle.rules.specs.Whole.{view_core}
@@ -21,6 +21,6 @@ pub returns : goal.returns
 returns c =
     let a = c.args in
     let w = c.wake_all-w in
-    let q = passed_answers a.s (view_core a.s) (line a.l) w.result.state a.n w.result.count a.entry c.wrapping_add_u32-reading.result _ _
-    (within_line a.s a.n a.l c.requires.0 c.requires.2) c.wrapping_add_u32-reading.ensures.value w.ensures c.answered.ensures in
+    let q = passed_answers (view_core a.s) (line a.l) w.result.state a.n w.result.count a.entry _ _ _
+    (within_line a.s a.n a.l c.requires.0 c.requires.2) refl w.ensures c.answered.ensures in
     record { value = q.0; room = q.1 }

@@ -13,4 +13,4 @@ returns c =
     let o = take_call v Tick in
     let q = passing v 1 0 in
     let e = tick_core v h.callers h.sound in
-    record { value = by_core c.args.s o q e c.passed.ensures.value; room = by_core_ended o q _ _ e c.passed.ensures.room }
+    record { value = by_core o q e c.passed.ensures.value; room = by_core_ended o q _ _ e c.passed.ensures.room }

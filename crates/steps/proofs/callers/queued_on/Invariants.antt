@@ -6,6 +6,3 @@ use Rattle.steps.proofs.callers.queued_on.Given as goal
 abbrev pub invariant-loop-e : goal.invariant-loop-e
 invariant-loop-e l =
     (1 ≤ l.e) × (l.e ≤ 9) × (length l.mine ≡ 31) × (l.r ≡ pad (line l.r)) × (pad (by_marks l.marks (line l.mine) 8 1) ≡ pad (line l.r ++ by_marks l.marks (line l.mine) (9 - l.e) l.e))
-
-abbrev pub decreases-loop-e : goal.decreases-loop-e
-decreases-loop-e l = 9 - l.e

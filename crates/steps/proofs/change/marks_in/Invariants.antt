@@ -7,6 +7,3 @@ use Rattle.steps.proofs.change.marks_in.Given as goal
 abbrev pub invariant-loop-i : goal.invariant-loop-i
 invariant-loop-i l =
     (l.i ≤ l.n) × (marked one (bytes_in l.field l.n l.room) l.initial.marks ≡ marked one (bytes_in l.field (l.n - l.i) (drop (l.i * 4) l.room)) l.marks)
-
-abbrev pub decreases-loop-i : goal.decreases-loop-i
-decreases-loop-i l = l.n - l.i

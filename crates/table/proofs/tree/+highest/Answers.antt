@@ -1,5 +1,5 @@
 -- What is left of the callers makes of the best so far what all of them make of t's own priority; and all of them are those that t holds.
-use Rattle.std.proofs.Common.{◌≡◌, ◌-◌, ℕ, eqb, length, sym, ap, ◌∙◌, arith, rules}
+use Rattle.std.proofs.Common.{◌≡◌, ◌-◌, ℕ, eqb, length, sym, ap, ◌∙◌, rules}
 use Rattle.lists.specs.Line.{line}
 use Rattle.lists.specs.Marks.{mark_of}
 use Rattle.lists.proofs.LineLaws.{line_picked}
@@ -17,21 +17,21 @@ returns-then-depth-eq0 t c =
 pub returns-then-c-eq0 : goal.returns-then-c-eq0
 returns-then-c-eq0 t c =
     let a = c.args in
-    let l = c.loop-i in
+    let l = c.loop-c in
     let f : ℕ → ℕ = highest_in (line a.held) a.holders a.priorities (a.depth - 1) in
     let long : length a.held ≡ 31 = search rules in
     let r = c.picked-callers in
     let e = ap line r.ensures ∙ line_picked (λ x. eqb (mark_of a.holders x) a.t) a.held long in
-    sym (l.invariant.2 ∙ ap (highest_from f l.best) (rest_blank r.result l.i (omega arith) c.if-c-eq0.true))
+    sym (l.invariant ∙ ap (highest_from f l.best) (rest_blank r.result l.c-index (search rules) c.if-c-eq0.true))
     ∙ ((λ i. highest_from f (c.mark_of-own.ensures i) (e i)) ∙ sym (in_down_one (line a.held) a.holders a.priorities a.depth a.t c.if-depth-eq0.false))
 
 pub returns : goal.returns
 returns t c =
     let a = c.args in
-    let l = c.loop-i in
+    let l = c.loop-c in
     let f : ℕ → ℕ = highest_in (line a.held) a.holders a.priorities (a.depth - 1) in
     let long : length a.held ≡ 31 = search rules in
     let r = c.picked-callers in
     let e = ap line r.ensures ∙ line_picked (λ x. eqb (mark_of a.holders x) a.t) a.held long in
-    sym (l.invariant.2 ∙ ap (highest_from f l.best) (rest_end r.result l.i (omega arith)))
+    sym (l.invariant ∙ ap (highest_from f l.best) (rest_end r.result l.c-index (search rules)))
     ∙ ((λ i. highest_from f (c.mark_of-own.ensures i) (e i)) ∙ sym (in_down_one (line a.held) a.holders a.priorities a.depth a.t c.if-depth-eq0.false))

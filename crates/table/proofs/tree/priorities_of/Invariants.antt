@@ -8,7 +8,4 @@ use Rattle.table.proofs.tree.priorities_of.Given as goal
 
 -- The invariant: the marks of the tasks t, t - 1, .., 1, put upon those so far, are those of all.
 abbrev pub invariant-loop-t : goal.invariant-loop-t
-invariant-loop-t l = (length l.s.tasks ≡ 31) × (length l.known ≡ 32) × (priorities_of l.s ≡ marked (priority_of (view_core l.s)) (down_from l.t) l.known)
-
-abbrev pub decreases-loop-t : goal.decreases-loop-t
-decreases-loop-t l = l.t
+invariant-loop-t l = (length l.s.tasks ≡ 31) × (priorities_of l.s ≡ marked (priority_of (view_core l.s)) (down_from l.t) l.known)

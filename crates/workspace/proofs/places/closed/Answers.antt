@@ -1,19 +1,17 @@
-use Rattle.std.proofs.Common.{◌<◌, sym, ◌∙◌, arith, rules}
-use Rattle.workspace.specs.Places.{remove_at}
-use Rattle.workspace.proofs.PlaceLaws.{mapped_long, write_next, write_all, remove_length, remove_behind, remove_front}
+use Rattle.std.proofs.Common.{◌≡◌, length, arith, rules}
+use Rattle.workspace.proofs.PlaceLaws.{mapped_long, closed_law, remove_none}
 use Rattle.workspace.proofs.places.closed.Goals as goal
 
-pub loop-i-init : goal.loop-i-init
-loop-i-init c = (omega arith, search (rules, mapped_long), remove_front c.args.p c.args.a)
+pub returns-then-p-lt32 : goal.returns-then-p-lt32
+returns-then-p-lt32 c =
+    let a = c.args.a in
+    let p = c.args.p in
+    let long : length a ≡ 32 = search (rules, mapped_long) in
+    let h = c.if-p-lt32.true in
+    closed_law p a long h c.rotate_left.ensures.after
 
-pub loop-i-smaller : goal.loop-i-smaller
-loop-i-smaller c = let h : c.loop-i.i < 32 = search rules in omega (arith, h)
-
-pub loop-i-preserved : goal.loop-i-preserved
-loop-i-preserved c =
-    let l = c.loop-i in
-    let a = c.args in
-    write_next a.a (remove_at a.p a.a) l.i (remove_length a.p a.a) (search rules) (c.nth-x.ensures ∙ sym (remove_behind a.p a.a l.i l.invariant.0)) l.invariant
-
-pub returns : goal.returns
-returns c = let a = c.args in write_all a.a (remove_at a.p a.a) c.loop-i.i (remove_length a.p a.a) (search rules) c.loop-i.invariant
+pub returns-else-p-lt32 : goal.returns-else-p-lt32
+returns-else-p-lt32 c =
+    let long : length c.args.a ≡ 32 = search (rules, mapped_long) in
+    let out = c.if-p-lt32.false in
+    remove_none c.args.p c.args.a (omega (arith, long, out))

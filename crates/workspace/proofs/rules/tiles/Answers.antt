@@ -1,45 +1,44 @@
-use Rattle.std.proofs.Common.{◌≡◌, ℕ, ◌-◌, ◌*◌, ◌<◌, ◌≤◌, false, length, take, sym, refl, ap, ◌∙◌, zero-le, arith, length-take-le, rules}
+use Rattle.std.proofs.Common.{◌≡◌, ℕ, ◌-◌, ◌*◌, ◌<◌, ◌≤◌, false, drop, sym, ap, ◌∙◌, arith, rules}
 use Rattle.workspace.specs.Check.{tiled}
-use Rattle.workspace.proofs.PlaceLaws.{mapped_long}
 use Rattle.workspace.proofs.CheckLaws.{Rest, stop_law, again_law, bounds-law}
 use Rattle.workspace.proofs.rules.tiles.Goals as goal
 
-pub loop-k-init : goal.loop-k-init
-loop-k-init c =
-    let a = c.args in
-    let lb : length a.b ≡ 32 = search (rules, mapped_long) in
-    let lf : length a.f ≡ 32 = search (rules, mapped_long) in
-    let hm : a.m ≤ 32 = c.requires.m_bound in
-    let hn : a.n ≤ 32 = c.requires.n_bound in
-    (zero-le, zero-le, zero-le, zero-le, zero-le, zero-le, length-take-le a.m a.b (omega (arith, lb, hm)), length-take-le a.n a.f (omega (arith, lf, hn)), refl)
+pub loop-init : goal.loop-init
+loop-init c =
+    let e = c.default-t.ensures in
+    record {
+      at = omega arith;
+      i = omega arith;
+      j = omega arith;
+      rest = λ s. tiled 64 (sym e.1.1.1 s) (sym e.0 s) (drop (sym e.1.0 s) c.args.blocks.now) (drop (sym e.1.1.0 s) c.args.free.now);
+    }
 
-pub returns-then-u : goal.returns-then-u
-returns-then-u c =
-    let l = c.loop-k in
-    let a = c.args in
-    let h : l.k < 64 = c.loop-k-test.true in
-    stop_law l.k l.t c.reached-u.result (take a.m a.b) (take a.n a.f) c.used_at-x.result c.used_at-y.result (tiled 64 false 0 (take a.m a.b) (take a.n a.f))
-    h c.used_at-x.ensures c.used_at-y.ensures c.reached-u.ensures l.invariant.8 a.m a.n c.if-u.true l.invariant.6 l.invariant.7 l.invariant.4 l.invariant.5
+pub reached-requires : goal.reached-requires
+reached-requires c = record { at_bound = omega arith; i_bound = omega arith; j_bound = omega arith }
 
-pub loop-k-preserved : goal.loop-k-preserved
-loop-k-preserved c =
-    let l = c.loop-k in
-    let a = c.args in
-    let h : l.k < 64 = c.loop-k-test.true in
-    let hx : c.used_at-x.result.length < 4294967296 = search rules in
-    let hy : c.used_at-y.result.length < 4294967296 = search rules in
-    let w = again_law l.k l.t c.reached-u.result (take a.m a.b) (take a.n a.f) c.used_at-x.result c.used_at-y.result (tiled 64 false 0 (take a.m a.b) (take a.n a.f))
-    h c.used_at-x.ensures c.used_at-y.ensures c.reached-u.ensures l.invariant.8 c.if-u.false in
-    let d = bounds-law l.k l.t c.reached-u.result (take a.m a.b) (take a.n a.f) c.used_at-x.result c.used_at-y.result (tiled 64 false 0 (take a.m a.b) (take a.n a.f))
-    h c.used_at-x.ensures c.used_at-y.ensures c.reached-u.ensures l.invariant.8 hx hy l.invariant.4 l.invariant.5 in
-    let at₀ : l.t.at ≤ l.k * 4294967296 = l.invariant.1 in
-    let i₀ : l.t.i ≤ l.k = l.invariant.2 in
-    let j₀ : l.t.j ≤ l.k = l.invariant.3 in
-    (omega (arith, h), omega (arith, d.at, at₀), omega (arith, d.i, i₀), omega (arith, d.j, j₀), d.bi, d.bj, l.invariant.6, l.invariant.7, w)
+pub returns-in_default : goal.returns-in_default
+returns-in_default c =
+    let l = c.loop in
+    let b = c.args.blocks.now in
+    let f = c.args.free.now in
+    stop_law l.t b f l.counter c.nth.result c.nth-in-loop.result c.reached.result (tiled 64 false 0 b f) c.loop-test.true c.nth.ensures c.nth-in-loop.ensures c.reached.ensures l.invariant.rest c.in_default.is l.invariant.i l.invariant.j
+
+pub loop-preserved : goal.loop-preserved
+loop-preserved c =
+    let l = c.loop in
+    let b = c.args.blocks.now in
+    let f = c.args.free.now in
+    let u = c.in-Some.further in
+    let hx : c.nth.result.length < 4294967296 = search rules in
+    let hy : c.nth-in-loop.result.length < 4294967296 = search rules in
+    let again = again_law l.t b f l.counter c.nth.result c.nth-in-loop.result c.reached.result (tiled 64 false 0 b f) c.loop-test.true c.nth.ensures c.nth-in-loop.ensures c.reached.ensures l.invariant.rest u c.in-Some.is in
+    let d = bounds-law l.t b f l.counter c.nth.result c.nth-in-loop.result c.reached.result (tiled 64 false 0 b f) c.loop-test.true c.nth.ensures c.nth-in-loop.ensures c.reached.ensures l.invariant.rest u c.in-Some.is hx hy l.invariant.i l.invariant.j in
+    let at₀ : l.t.at ≤ l.counter * 4294967296 = l.invariant.at in
+    record { at = omega (arith, d.at, at₀); i = d.i; j = d.j; rest = again }
 
 pub returns : goal.returns
 returns c =
-    let inv = c.loop-k.invariant in
-    let h : 64 ≤ c.loop-k.k = c.loop-k-test.false in
-    let z : 64 - c.loop-k.k ≡ 0 = omega (arith, h) in
-    sym (inv.8 ∙ ap (λ (n : ℕ). Rest n c.loop-k.t (take c.args.m c.args.b) (take c.args.n c.args.f)) z)
+    let l = c.loop in
+    let h : 64 ≤ l.counter = c.loop-test.false in
+    let z : 64 - l.counter ≡ 0 = omega (arith, h) in
+    sym (l.invariant.rest ∙ ap (λ (n : ℕ). Rest n l.t c.args.blocks.now c.args.free.now) z)

@@ -1,19 +1,13 @@
-use Rattle.std.proofs.Common.{◌<◌, leb, rules}
-use Rattle.workspace.proofs.StepLaws.{byte_most, grant_law}
+use Rattle.std.proofs.Common.{◌≡◌, ◌≤◌, length, arith, rules}
+use Rattle.workspace.specs.Places.{is_behind}
+use Rattle.workspace.proofs.PlaceLaws.{mapped_long, found_among}
+use Rattle.workspace.proofs.StepLaws.{grant_law}
 use Rattle.workspace.proofs.steps.granted.Goals as goal
-
-pub overflow_sub-left : goal.overflow_sub-left
-overflow_sub-left c =
-    let s = c.before.before.before.before.before in
-    let a = s.args in
-    let h : 0 < a.used.free = search rules in
-    byte_most (leb s.nth-s.result.length a.size) a.used.free h
 
 pub returns : goal.returns
 returns c =
-    let free = c.before.before.before.before in
-    let blocks = free.before in
-    let k = blocks.before in
-    let s = k.before in
-    let a = s.args in
-    grant_law a.seen a.used a.size s.nth-s.ensures k.place_of-k.ensures blocks.opened-blocks.ensures free.cut_at-free.ensures c.done_as.ensures
+    let a = c.args in
+    let long : length a.seen.blocks ≡ 32 = search (rules, mapped_long) in
+    let few : a.used.blocks ≤ 31 = c.requires.blocks_bound in
+    let k = found_among (is_behind c.nth-s.result.start) a.used.blocks a.seen.blocks (omega (arith, long, few)) c.first_behind.ensures c.unwrap_or-k.ensures in
+    grant_law a.seen a.used a.size c.nth-s.ensures k c.opened-blocks.ensures c.cut_at-free.ensures c.from.ensures c.done_as.ensures

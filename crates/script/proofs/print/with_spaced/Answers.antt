@@ -1,7 +1,0 @@
-use Rattle.text.specs.Text.{spaced}
-use Rattle.script.proofs.Growing.{then_grown}
-use Rattle.script.proofs.print.with_spaced.Goals as goal
-
-pub returns : goal.returns
-unfolding spaced
-returns c = then_grown c.with_byte-k.ensures c.with_number.ensures
