@@ -10,4 +10,4 @@ pub returns-then-end-b : goal.returns-then-end-b
 returns-then-end-b c = c.contact_from.ensures ∙ sym (if-true _ _ _ (le-leb (contact_place c.args.i + contact_size) (length c.args.b.now) c.if-end-b.true))
 
 pub returns : goal.returns
-returns c = sym (if-false _ _ _ (lt-leb (contact_place c.args.i + contact_size) (length c.args.b.now) c.if-end-b.false))
+returns c = c.default.ensures ∙ sym (if-false _ _ _ (lt-leb (contact_place c.args.i + contact_size) (length c.args.b.now) c.if-end-b.false))

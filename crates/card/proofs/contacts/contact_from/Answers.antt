@@ -8,4 +8,4 @@ pub returns-then-closed-le1 : goal.returns-then-closed-le1
 returns-then-closed-le1 c = let a = c.args in sym (five_are a.n a.high a.low a.closed a.against c.if-closed-le1.true)
 
 pub returns : goal.returns
-returns c = sym (if-false _ _ _ (lt-leb c.args.closed 1 c.if-closed-le1.false))
+returns c = c.default.ensures ∙ sym (if-false _ _ _ (lt-leb c.args.closed 1 c.if-closed-le1.false))
