@@ -167,7 +167,7 @@ fn run_log<E: Engine, R: Input + Print + Eprint>(
     let mut log = started(l, out);
     let state = E::empty(l.clock);
     let mut s = Session { state, step: 1 };
-    for turns in 0..u64::MAX {
+    for _turn in 0..u64::MAX {
         if !log.goes {
             break;
         }
