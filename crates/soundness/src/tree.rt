@@ -34,7 +34,7 @@ fn all_climb(held: [u8; 31], holders: [u8; 32], word: u32) -> bool
     ensures { result ≡ all_climbed holders word (line held) }
 {
     let mut rest = word;
-    for t in held {
+    for &t in &held {
         if t == 0 {
             return true;
         }
@@ -62,7 +62,7 @@ fn seen_of(s: Core, word: u32) -> Option<[u8; 32]>
     let mut apart = word;
     let mut tops = [0u8; 32];
     let mut holders = [0u8; 32];
-    for c in s.held {
+    for &c in &s.held {
         if c == 0 {
             return marks::is_none(apart).then_some(holders);
         }
