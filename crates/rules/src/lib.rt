@@ -118,7 +118,7 @@ impl From<Refusal> for u8 {
     }
 }
 
-// What a step answers: a refusal (0 if none), the result with its task, entry and partner, the number of ended waits, and
+// What a step answers: a refusal (0 if none: the statements and C have its number here), the result with its task, entry and partner, the number of ended waits, and
 // the dispatched task afterwards (0 if none).
 #[derive(Clone, Copy)]
 pub struct Answer {

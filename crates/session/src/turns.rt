@@ -53,7 +53,7 @@ fn taken<E: Engine>(
     let after = stepped.state;
     let session = Session {
         state: after,
-        step: std::num::wrapping_add_u64(s.step, 1),
+        step: s.step.wrapping_add(1),
     };
     Turned {
         session,

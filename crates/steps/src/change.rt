@@ -44,6 +44,7 @@ fn accepted_mark(res: u8, partner: u8) -> [u8; 32]
 }
 
 // The marks, and with them a 1 for the byte at `field` of each of the first n items of the room.
+// A count of items and no chunks of the room: `bytes_in` has 0 for a byte behind a room that is too short.
 fn marks_in(room: &[u8], n: u8, field: u8, first: [u8; 32]) -> [u8; 32]
     ensures { result ≡ marked one (bytes_in field n room.now) first }
 {

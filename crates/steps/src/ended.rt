@@ -48,6 +48,7 @@ fn item_of(failed: bool, n: u8, t: u8, k: Task) -> Item
 }
 
 // Writes the items of a line of waiting tasks one behind the other; how many they are.
+// Document 01: the rest of the lent room, from the item's offset, is handed on for writing.
 fn put_items(s: Core, l: [u8; 31], failed: bool, room: &mut [u8]) -> u8
     requires { length (line l) * 4 ≤ length room.old }
     ensures value { result ≡ length (line l) }
