@@ -1,4 +1,5 @@
 // The same over the second engine, whose state has bytes of its own: a core, and behind it a row of callers for each task.
+// No generic functions for both engines: the contracts, which C is promised, stay one for each, and a trait with its two impls is longer than these bodies.
 ghost use Rattle.std.specs.Prelude.{◌++◌, ◌≡◌, length, drop};
 ghost use Rattle.lists.specs.Lists.{bit};
 ghost use Rattle.rules.specs.Questions.{refusal_in, number_in, yes_in};

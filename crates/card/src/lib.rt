@@ -24,7 +24,7 @@ use steps::answers::refused_answer;
 fn flag(yes: bool) -> u8
     ensures { result ≡ bit yes }
 {
-    if yes { 1 } else { 0 }
+    u8::from(yes)
 }
 
 // Makes a supervisor with no tasks.

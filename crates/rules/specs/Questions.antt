@@ -1,7 +1,6 @@
 -- The questions, asked of the struct: the answer, or that the state is not sound.
 -- Assumes nothing.
 use Rattle.std.specs.Prelude.{ℕ, Bool, false, not, ◌&&◌, length, Result, Ok, Err}
-use Rattle.std.specs.Result.{result_unwrap_or}
 use Rattle.lists.specs.Lists.{when◌then◌else◌}
 use Rattle.rules.specs.State.{State, queue, is_task, place_of, is_completed, running}
 use Rattle.rules.specs.Whole.{view, sound_whole}
@@ -26,11 +25,13 @@ refusal_in (Err e) = 2
 
 -- the number that is answered, 0 with a refusal
 abbrev pub number_in : Result ℕ BadState → ℕ
-number_in r = result_unwrap_or r 0
+number_in (Ok n) = n
+number_in (Err e) = 0
 
 -- the yes or no that is answered, no with a refusal
 abbrev pub yes_in : Result Bool BadState → Bool
-yes_in r = result_unwrap_or r false
+yes_in (Ok b) = b
+yes_in (Err e) = false
 
 -- ── of the state v that a struct stands for, where the struct is sound if so said: for either engine ──
 

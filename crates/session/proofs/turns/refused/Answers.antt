@@ -3,6 +3,7 @@ use Rattle.calls.specs.Reading.{number_of}
 use Rattle.report.specs.Lines.{line_text, longest_line}
 use Rattle.rules.specs.declared.Answer.{Answer}
 use Rattle.rules.specs.Questions.{number_in}
+use Rattle.rules.proofs.QuestionLaws.{unwrapped}
 use Rattle.rules.specs.Whole.{refused_answer}
 use Rattle.text.proofs.Puts.{put_none, same_text}
 use Rattle.session.proofs.TurnLaws.{is_over, says, asks_more, ends, says_bad}
@@ -25,7 +26,7 @@ returns-then-eq g c =
 pub returns : goal.returns
 returns g c =
     let a = c.args in
-    let answer = c.refused_answer-answer.ensures ∙ (λ i. refused_answer (c.into.ensures i) ((c.unwrap_or-runs.ensures ∙ ap number_in c.running.ensures) i)) in
+    let answer = c.refused_answer-answer.ensures ∙ (λ i. refused_answer (c.into.ensures i) ((c.unwrap_or-runs.ensures ∙ unwrapped c.running.result ∙ ap number_in c.running.ensures) i)) in
     let line = ap (λ (x : Answer). line_text a.s.step x a.room.now) answer in
     let said = says _ _ (says_bad g.E.Engine.ruled a.s (number_of a.error) a.many a.last a.room.now c.if-last-many.false (sym (is_over a.error) ∙ sym c.eq.ensures ∙ c.if-eq.false))
     (same_text line c.put_line-place.ensures.put) (subst (λ (t : List ℕ). length t ≤ longest_line) line c.put_line-place.ensures.room_len_bound) in
