@@ -7,7 +7,7 @@ ghost use Rattle.rules.specs.Runs.{target};
 ghost use Rattle.steps.specs.Change.{one, task_at, partner_at, bytes_in, joined_of, line_by};
 
 use calls::Call;
-use rules::numbers::{ACCEPTED, WAITS};
+use rules::StepResult;
 
 // Where the task and the partner stand in the four bytes of an item.
 const TASK_AT: u8 = 0;
@@ -37,7 +37,7 @@ fn accepted_mark(res: u8, partner: u8) -> [u8; 32]
     ensures { result ≡ marked one (accepted_in res partner) no_marks }
 {
     let none = [0u8; 32];
-    if res == ACCEPTED {
+    if res == u8::from(StepResult::Accepted) {
         return with_mark(none, partner);
     }
     none
@@ -92,7 +92,7 @@ fn is_call(c: Call) -> bool
 pub fn comes(c: Call, res: u8, ended: u8) -> bool
     ensures { result ≡ comes_by c res ended }
 {
-    is_call(c) & ((res == WAITS) & (ended == 0))
+    is_call(c) & ((res == u8::from(StepResult::Waits)) & (ended == 0))
 }
 
 // The task that a call waits for, 0 if it is no CALL.
