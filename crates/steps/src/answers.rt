@@ -7,6 +7,7 @@ ghost use Rattle.steps.specs.Taken.{answer_by};
 use rules::{Answer, Core, StepResult};
 
 // What a call gave that was taken: the state afterwards, the four numbers of the answer, and the number of ended waits.
+// The result is a number, since definitions compare this struct with the rules' `Item`, which has one.
 #[derive(Clone, Copy)]
 pub struct Taken {
     pub state: Core,
