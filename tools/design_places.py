@@ -62,10 +62,10 @@ def point1(file):
                 yield at, f"enum {name}: one variant with a value, {len(bare)} without"
             continue
         for field, kind in fields(text):
-            if kind == "bool" or (kind == "u8" and field in ("refusal", "result", "tag", "number", "letter")):
+            if field in ("good", "ok", "yes", "stuck", "writes", "due") and kind == "bool" or field in ("refusal", "result", "tag", "number", "letter") and kind == "u8":
                 yield at, f"struct {name}: {field}: {kind} beside a value"
     for at, line in enumerate(file.read_text().split("\n"), 1):
-        if re.match(r"(pub(\(crate\))? )?const (?!ROOM\b|SPARE\b|\w+_SIZE\b)[A-Z_]+: (u8|usize) = \d+;", line):
+        if re.match(r"(pub(\(crate\))? )?const (?!ROOM\b|SPARE\b|\w+_SIZE\b|\w+_AT\b)[A-Z_]+: (u8|usize) = \d+;", line):
             yield at, line.strip()
 
 
@@ -117,7 +117,8 @@ def by_lines(rules):
     return places
 
 
-point3 = by_lines([r"\bfor \w+ in \d+\.\.", r"\bwhile\b", r"\bfor \w+ in \w+\.\.\w+"])
+# a loop that only counts its turns names no index: `for _ in`, `for _turn in`
+point3 = by_lines([r"\bfor [a-z]\w* in (\d+|\w+)\.\.", r"\bwhile\b"])
 
 point4 = by_lines([
     r"std::num::wrapping_",                                # a method of the number

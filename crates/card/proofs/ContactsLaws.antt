@@ -69,6 +69,10 @@ after_short b r c h = by_bool (eqb r 0) (λ e. card_short b c h ∙ sym (if-true
 pub five_are : (n high low closed against : ℕ) → closed ≤ 1 → contact_from n high low closed against ≡ record { n = n; p = two high low; closed = eqb closed 1; against = against }
 five_are n high low closed against h = if-true (leb closed 1) (record { n = n; p = two high low; closed = eqb closed 1; against = against }) no_contact (le-leb closed 1 h)
 
+-- a contact whose fields are all 0 is none
+pub is_none : (c : Contact) → c.n ≡ 0 → c.p ≡ 0 → c.closed ≡ false → c.against ≡ 0 → c ≡ no_contact
+is_none c n p closed against = λ i. record { n = n i; p = p i; closed = closed i; against = against i }
+
 contact_back : (c : Contact) → contact_from c.n (c.p / 256) (c.p % 256) (bit c.closed) c.against ≡ c
 contact_back c = go c.closed refl
   where

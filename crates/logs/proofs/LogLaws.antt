@@ -15,7 +15,9 @@ use Rattle.calls.specs.Record.{four_from}
 use Rattle.stream.specs.Windows.{moved_to, end_in, start_in, unread_in, Grown}
 use Rattle.stream.specs.declared.window.Window.{Window}
 use Rattle.stream.proofs.Growing.{unread_length, unread_behind}
-use Rattle.session.specs.Turn.{Engine, turn_of}
+use Rattle.session.specs.Engines.{Rules}
+use Rattle.session.specs.Turn.{turn_of}
+use Rattle.session.specs.declared.turns.Session.{Session}
 use Rattle.session.proofs.Pieces.{turn_within}
 use Rattle.logs.specs.declared.Log.{Log}
 use Rattle.logs.specs.declared.Rest.{Rest}
@@ -86,7 +88,7 @@ unread_taken w b k h =
         rw (place, none, start)
 
 -- what stands unread behind a turn is what stood behind the bytes that it took: none is lost, and none comes twice
-pub taken_once : {S : Type 0} (g : Engine S) {l r : Log} {place : ℕ} {onward : Bool} {out : List ℕ} (b : List ℕ) (s : S) (last : Bool) (room : List ℕ)
+pub taken_once : {E : Type 0} (g : Rules E) {l r : Log} {place : ℕ} {onward : Bool} {out : List ℕ} (b : List ℕ) (s : Session E) (last : Bool) (room : List ℕ)
     → Moved l (turn_of g s (bytes_in l b) last room).count place onward out r
     → unread_in r.flow.window b ≡ drop (turn_of g s (bytes_in l b) last room).count (unread_in l.flow.window b)
 taken_once g {l} b s last room m =

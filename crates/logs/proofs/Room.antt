@@ -12,5 +12,5 @@ use Rattle.logs.specs.declared.Log.{Log}
 pub record Roomy (out : List ℕ) (l : Log) (turns : ℕ) : Type 0 where
   pub long : spare ≤ length out
   pub line : Free longest_line out l.flow.waits
-  pub behind : turns < 18446744073709551615 → Free spare out l.flow.waits
+  pub behind : 0 < turns → Free spare out l.flow.waits
   pub over : l.goes ≡ false → Free spare out l.flow.waits

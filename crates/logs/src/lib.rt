@@ -5,13 +5,14 @@ ghost use Rattle.std.specs.Prelude.{◌-◌, ◌≤◌, min, ◌≡◌, true};
 ghost use Rattle.text.specs.Text.{Uncut};
 ghost use Rattle.report.specs.Lines.{header, longest_line};
 ghost use Rattle.stream.specs.Outputs.{spare, Free};
-ghost use Rattle.session.specs.Turn.{first, second, turn_of, turned_of, second_turned_of};
+ghost use Rattle.session.specs.Turn.{turn_of, turned_of};
 ghost use Rattle.logs.specs.Logs.{part_of, bytes_in, is_last, begun_of, place_behind, Moved, Supplied, Onward};
 ghost use Rattle.logs.specs.Rests.{dropped_of, Skipped, number_at, head_of, Headed};
 
 use calls::word;
 use report::put_header;
-use session::seconds::{SecondSession, SecondTurned};
+use rules::{Second, Supervisor};
+use session::engines::Engine;
 use session::turns::{Next, Session, Turned, turn};
 use std::env::Env;
 use stream::flow::{Flow, begun, fed, passed};
@@ -133,11 +134,17 @@ fn behind<R: Input + Print + Eprint>(
 }
 
 // One turn of the session, on the bytes of the log that stand in the window. Where there is room for a line, its text is printed whole.
-fn run_turn(l: Log, s: Session, buf: &[u8], room: &mut [u8], out: &mut [u8]) -> Turned
+fn run_turn<E: Engine>(
+    l: Log,
+    s: Session<E>,
+    buf: &[u8],
+    room: &mut [u8],
+    out: &mut [u8],
+) -> Turned<E>
     requires { Free longest_line out.old l.flow.waits }
-    ensures value { result ≡ turned_of (turn_of first s (bytes_in l buf.now) (is_last l buf.now) room.old) out.old l.flow.waits }
-    ensures room_after { room.new ≡ (turn_of first s (bytes_in l buf.now) (is_last l buf.now) room.old).room }
-    ensures uncut { Uncut out.old l.flow.waits (turn_of first s (bytes_in l buf.now) (is_last l buf.now) room.old).text out.new }
+    ensures value { result ≡ turned_of (turn_of E.ruled s (bytes_in l buf.now) (is_last l buf.now) room.old) out.old l.flow.waits }
+    ensures room_after { room.new ≡ (turn_of E.ruled s (bytes_in l buf.now) (is_last l buf.now) room.old).room }
+    ensures uncut { Uncut out.old l.flow.waits (turn_of E.ruled s (bytes_in l buf.now) (is_last l buf.now) room.old).text out.new }
 {
     let p = part(l.flow.window, l.left, buf.len());
     let at = p.at;
@@ -145,63 +152,29 @@ fn run_turn(l: Log, s: Session, buf: &[u8], room: &mut [u8], out: &mut [u8]) -> 
     turn(s, &buf[at..end], p.last, room, out, l.flow.waits)
 }
 
-// The same with the second engine.
-fn run_second_turn(
+// A log to its end, with the engine E. The log and its session are two variables: of a struct of both each turn would copy every field.
+fn run_log<E: Engine, R: Input + Print + Eprint>(
+    rt: &R,
     l: Log,
-    s: SecondSession,
-    buf: &[u8],
-    room: &mut [u8],
+    buf: &mut [u8],
     out: &mut [u8],
-) -> SecondTurned
-    requires { Free longest_line out.old l.flow.waits }
-    ensures value { result ≡ second_turned_of (turn_of second s (bytes_in l buf.now) (is_last l buf.now) room.old) out.old l.flow.waits }
-    ensures room_after { room.new ≡ (turn_of second s (bytes_in l buf.now) (is_last l buf.now) room.old).room }
-    ensures uncut { Uncut out.old l.flow.waits (turn_of second s (bytes_in l buf.now) (is_last l buf.now) room.old).text out.new }
-{
-    let p = part(l.flow.window, l.left, buf.len());
-    let at = p.at;
-    let end = p.end;
-    session::seconds::turn(s, &buf[at..end], p.last, room, out, l.flow.waits)
-}
-
-// A log to its end. The log and its session are two variables: of a struct of both each turn would copy every field.
-fn run_log<R: Input + Print + Eprint>(rt: &R, l: Log, buf: &mut [u8], out: &mut [u8]) -> Log
+) -> Log
     requires goes_value { l.goes ≡ true }
     requires free { Free spare out.old l.flow.waits }
     ensures { Free spare out.new result.flow.waits }
 {
     let mut room = [0u8; 124];
     let mut log = started(l, out);
-    let state = supervisor::empty(l.clock);
+    let state = E::empty(l.clock);
     let mut s = Session { state, step: 1 };
-    let mut turns = u64::MAX;
-    while turns > 0 && log.goes {
+    for _turn in 0..u64::MAX {
+        if !log.goes {
+            break;
+        }
         let t = run_turn(log, s, buf, &mut room, out);
         let next = t.next;
         s = t.session;
         log = behind(rt, log, next, t.count, t.place, buf, out);
-        turns -= 1;
-    }
-    log
-}
-
-// The same with the second engine.
-fn run_second_log<R: Input + Print + Eprint>(rt: &R, l: Log, buf: &mut [u8], out: &mut [u8]) -> Log
-    requires goes_value { l.goes ≡ true }
-    requires free { Free spare out.old l.flow.waits }
-    ensures { Free spare out.new result.flow.waits }
-{
-    let mut room = [0u8; 124];
-    let mut log = started(l, out);
-    let state = second::empty(l.clock);
-    let mut s = SecondSession { state, step: 1 };
-    let mut turns = u64::MAX;
-    while turns > 0 && log.goes {
-        let t = run_second_turn(log, s, buf, &mut room, out);
-        let next = t.next;
-        s = t.session;
-        log = behind(rt, log, next, t.count, t.place, buf, out);
-        turns -= 1;
     }
     log
 }
@@ -219,9 +192,10 @@ fn run_with<R: Input + Print + Eprint>(
     ensures { Free spare out.new result.flow.waits }
 {
     if second {
-        return run_second_log(rt, l, buf, out);
+        run_log::<Second, R>(rt, l, buf, out)
+    } else {
+        run_log::<Supervisor, R>(rt, l, buf, out)
     }
-    run_log(rt, l, buf, out)
 }
 
 // Whether the only word behind the program's name is `second`, of so many words with the name.

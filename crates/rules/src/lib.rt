@@ -83,7 +83,7 @@ pub struct Second {
 }
 
 // Task, result, entry, partner: an ended wait, and the same four numbers of an answer.
-// The result is a number: the C interface writes it as a byte, and the theorems speak of it.
+// The result is a number, which the statements and C have.
 #[derive(Clone, Copy)]
 pub struct Item {
     pub task: u8,
@@ -144,7 +144,7 @@ impl From<Refusal> for u8 {
 }
 
 // What a step answers: a refusal (0 if none), the result with its task, entry and partner, the number of ended waits, and
-// the dispatched task afterwards (0 if none). Refusal and result are numbers: the C interface writes them as bytes, and the theorems speak of them.
+// the dispatched task afterwards (0 if none). Refusal and result are numbers, which the statements and C have.
 #[derive(Clone, Copy)]
 pub struct Answer {
     pub refusal: u8,

@@ -10,7 +10,7 @@ ghost use Rattle.table.specs.Moved.{left_of};
 
 use super::answers::{Taken, answered};
 use super::ended::wake_all;
-use rules::{Core, StepResult};
+use rules::{Core, Refusal, StepResult};
 use table::queues::{Test, picked};
 use table::tasks::{index_of, left_of};
 
@@ -48,22 +48,22 @@ fn moments_of(s: Core, l: [u8; 31]) -> u8
 }
 
 // The clock goes on by n ticks, and those of the line, whose time comes within them, become ready. The answer's entry is as given.
-fn passed(s: Core, l: [u8; 31], n: u32, entry: u8, room: &mut [u8]) -> Taken
+fn passed(s: Core, l: [u8; 31], n: u32, entry: u8, room: &mut [u8]) -> Result<Taken, Refusal>
     requires { Stands s × (124 ≤ length room.old) × (l ≡ pad (due_within (view_core s) n)) }
-    ensures value { Ok result ≡ taken_of (passing (view_core s) n entry) }
+    ensures value { result ≡ taken_of (passing (view_core s) n entry) }
     ensures room { room.new ≡ room_after room.old (ended_by (passing (view_core s) n entry)) }
 {
     let reading = s.clock.wrapping_add(n);
     let w = wake_all(s, l, false, room);
     let mut m = w.state;
     m.clock = reading;
-    answered(m, 0, StepResult::Done, entry, 0, w.count)
+    Ok(answered(m, 0, StepResult::Done, entry, 0, w.count))
 }
 
 // The clock goes on by one.
-pub fn tick(s: Core, room: &mut [u8]) -> Taken
+pub fn tick(s: Core, room: &mut [u8]) -> Result<Taken, Refusal>
     requires { Stands s × (124 ≤ length room.old) }
-    ensures value { Ok result ≡ taken_of (take_call (view_core s) Tick) }
+    ensures value { result ≡ taken_of (take_call (view_core s) Tick) }
     ensures room { room.new ≡ room_after room.old (ended_by (take_call (view_core s) Tick)) }
 {
     let l = due_within(s, 1);
@@ -71,9 +71,9 @@ pub fn tick(s: Core, room: &mut [u8]) -> Taken
 }
 
 // The clock goes on by n. The answer's entry is the number of readings at which a wait ended.
-pub fn advance(s: Core, n: u32, room: &mut [u8]) -> Taken
+pub fn advance(s: Core, n: u32, room: &mut [u8]) -> Result<Taken, Refusal>
     requires { Stands s × (124 ≤ length room.old) }
-    ensures value { Ok result ≡ taken_of (take_call (view_core s) (Advance n)) }
+    ensures value { result ≡ taken_of (take_call (view_core s) (Advance n)) }
     ensures room { room.new ≡ room_after room.old (ended_by (take_call (view_core s) (Advance n))) }
 {
     let l = due_within(s, n);

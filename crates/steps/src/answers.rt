@@ -18,7 +18,7 @@ pub struct Taken {
     pub ended: u8,
 }
 
-// The call is taken: s is the state afterwards.
+// The call is taken: s is the state afterwards. Functions that never refuse answer a Result too: their caller's `Ok` would copy the core once more.
 pub fn answered(s: Core, t: u8, res: StepResult, entry: u8, partner: u8, ended: u8) -> Taken
     ensures { result ≡ record { state = s; task = t; result = result_number res; entry = entry; partner = partner; ended = ended } }
 {

@@ -15,9 +15,9 @@ use table::place::{accepts_at, is_between, is_completed};
 use table::tasks::task_of;
 
 // Task t, which is running, queues on entry e of task g.
-fn enqueued(s: Core, t: u8, g: u8, e: u8, w: Timer) -> Taken
+fn enqueued(s: Core, t: u8, g: u8, e: u8, w: Timer) -> Result<Taken, Refusal>
     requires { Stands s × (t ≤ length (view_core s).tasks) }
-    ensures { Ok result ≡ taken_of (enqueue (view_core s) t g e w) }
+    ensures { result ≡ taken_of (enqueue (view_core s) t g e w) }
 {
     let m = moved(
         s,
@@ -28,25 +28,25 @@ fn enqueued(s: Core, t: u8, g: u8, e: u8, w: Timer) -> Taken
         }),
         w,
     );
-    answered(m, t, StepResult::Waits, 0, 0, 0)
+    Ok(answered(m, t, StepResult::Waits, 0, 0, 0))
 }
 
 // The target is not there to accept: the caller waits, or not, as the mode says.
-fn call_busy(s: Core, t: u8, g: u8, e: u8, m: CallMode) -> Taken
+fn call_busy(s: Core, t: u8, g: u8, e: u8, m: CallMode) -> Result<Taken, Refusal>
     requires { Stands s × (t ≤ length (view_core s).tasks) }
-    ensures { Ok result ≡ taken_of (call_busy (view_core s) t g e m) }
+    ensures { result ≡ taken_of (call_busy (view_core s) t g e m) }
 {
     match m {
         CallMode::Simple => enqueued(s, t, g, e, Timer::Off),
         CallMode::Timed(d) => {
             let n = ticks(d);
             if n == 0 {
-                return answered(s, t, StepResult::CallExpired, e, g, 0);
+                return Ok(answered(s, t, StepResult::CallExpired, e, g, 0));
             }
             let w = Timer::Due(s.clock.wrapping_add(n));
             enqueued(s, t, g, e, w)
         }
-        CallMode::Conditional => answered(s, t, StepResult::NotNow, e, g, 0),
+        CallMode::Conditional => Ok(answered(s, t, StepResult::NotNow, e, g, 0)),
     }
 }
 
@@ -82,5 +82,5 @@ pub fn call(s: Core, g: u8, e: u8, m: CallMode, room: &mut [u8]) -> Result<Taken
         let k = met(n, g, t, e);
         return Ok(answered(k, t, StepResult::Waits, 0, 0, 1));
     }
-    Ok(call_busy(s, t, g, e, m))
+    call_busy(s, t, g, e, m)
 }

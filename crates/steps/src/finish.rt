@@ -15,14 +15,14 @@ use table::moves::moved;
 use table::queues::{Test, picked};
 
 // Task t completes, and all of a line become ready because it does.
-fn completed(s: Core, t: u8, l: [u8; 31], room: &mut [u8]) -> Taken
+fn completed(s: Core, t: u8, l: [u8; 31], room: &mut [u8]) -> Result<Taken, Refusal>
     requires { Stands s × (length (line l) * 4 ≤ length room.old) × EachOnce (view_core s) (line l) × (t ≤ length (view_core s).tasks) }
-    ensures value { Ok result ≡ taken_of (completing (view_core s) t (line l)) }
+    ensures value { result ≡ taken_of (completing (view_core s) t (line l)) }
     ensures room { room.new ≡ room_after room.old (ended_by (completing (view_core s) t (line l))) }
 {
     let w = wake_all(s, l, true, room);
     let m = moved(w.state, t, Place::Completed, Timer::Off);
-    answered(m, t, StepResult::Done, 0, 0, w.count)
+    Ok(answered(m, t, StepResult::Done, 0, 0, w.count))
 }
 
 // The running task completes, and all callers queued on it become ready.
@@ -44,5 +44,5 @@ pub fn finish(s: Core, mine: [u8; 31], room: &mut [u8]) -> Result<Taken, Refusal
         return Err(Refusal::StillServing);
     }
     let l = queued_on(s, mine, t);
-    Ok(completed(s, t, l, room))
+    completed(s, t, l, room)
 }

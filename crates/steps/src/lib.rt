@@ -41,7 +41,7 @@ pub fn take_call(s: Core, mine: [u8; 31], c: Call, room: &mut [u8]) -> Result<Ta
         Call::Select { open, mode } => select::select(s, mine, open, mode),
         Call::End => end::end(s, room),
         Call::Finish => finish::finish(s, mine, room),
-        Call::Tick => Ok(advance::tick(s, room)),
-        Call::Advance(n) => Ok(advance::advance(s, n, room)),
+        Call::Tick => advance::tick(s, room),
+        Call::Advance(n) => advance::advance(s, n, room),
     }
 }

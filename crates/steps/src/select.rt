@@ -15,35 +15,35 @@ use table::place::is_too_wide;
 use table::tasks::task_of;
 
 // Task t, which is running, waits to accept a caller of the open set o.
-fn accepting(s: Core, t: u8, o: u8, w: Timer) -> Taken
+fn accepting(s: Core, t: u8, o: u8, w: Timer) -> Result<Taken, Refusal>
     requires { Stands s × (t ≤ length (view_core s).tasks) }
-    ensures { Ok result ≡ taken_of (awaiting (view_core s) t o w) }
+    ensures { result ≡ taken_of (awaiting (view_core s) t o w) }
 {
     let n = moved(s, t, Place::Accepting(Offer { opens: o }), w);
-    answered(n, t, StepResult::Waits, 0, 0, 0)
+    Ok(answered(n, t, StepResult::Waits, 0, 0, 0))
 }
 
 // No open entry has a caller: the task waits, or not, as the mode says.
-fn select_none(s: Core, t: u8, o: u8, m: SelectMode) -> Taken
+fn select_none(s: Core, t: u8, o: u8, m: SelectMode) -> Result<Taken, Refusal>
     requires { Stands s × (t ≤ length (view_core s).tasks) }
-    ensures { Ok result ≡ taken_of (select_none (view_core s) t o m) }
+    ensures { result ≡ taken_of (select_none (view_core s) t o m) }
 {
     match m {
         SelectMode::Plain => {
             if o == 0 {
-                return answered(s, t, StepResult::ProgramError, 0, 0, 0);
+                return Ok(answered(s, t, StepResult::ProgramError, 0, 0, 0));
             }
             accepting(s, t, o, Timer::Off)
         }
         SelectMode::Delay(d) => {
             let k = ticks(d);
             if k == 0 {
-                return answered(s, t, StepResult::DelayTaken, 0, 0, 0);
+                return Ok(answered(s, t, StepResult::DelayTaken, 0, 0, 0));
             }
             let w = Timer::Due(s.clock.wrapping_add(k));
             accepting(s, t, o, w)
         }
-        SelectMode::Else => answered(s, t, StepResult::ElseTaken, 0, 0, 0),
+        SelectMode::Else => Ok(answered(s, t, StepResult::ElseTaken, 0, 0, 0)),
     }
 }
 
@@ -59,7 +59,7 @@ pub fn select(s: Core, mine: [u8; 31], o: u8, m: SelectMode) -> Result<Taken, Re
     }
     let b = lowest(s, mine, t, o);
     if b.entry == 9 {
-        return Ok(select_none(s, t, o, m));
+        return select_none(s, t, o, m);
     }
     let n = met(s, t, b.task, b.entry);
     Ok(answered(n, t, StepResult::Accepted, b.entry, b.task, 0))

@@ -1,8 +1,5 @@
 use Rattle.logs.proofs.Room.{Roomy}
 use Rattle.logs.proofs.run_log.Given as goal
 
-abbrev pub invariant-loop-turns : goal.invariant-loop-turns
-invariant-loop-turns g l = Roomy l.out l.log l.turns
-
-abbrev pub decreases-loop-turns : goal.decreases-loop-turns
-decreases-loop-turns g l = l.turns
+abbrev pub invariant-loop-turn : goal.invariant-loop-turn
+invariant-loop-turn g l = Roomy l.out l.log l._turn

@@ -1,4 +1,4 @@
-use Rattle.std.proofs.Common.{ℕ, arith, rules}
+use Rattle.std.proofs.Common.{ℕ, ap, ◌∙◌, arith, rules}
 use borrow.Author.Tests.{tests}
 use Rattle.lists.proofs.FromFn.{from_fn_each}
 use Rattle.debounce.specs.Card.{no_contact}
@@ -10,4 +10,4 @@ pub returns : goal.returns
 returns c =
     let b = c.args.b.now in
     contacts_are b 8 0 c.from_fn.result c.from_fn.ensures.items.long
-    (λ k h. from_fn_each _ _ (contact_at b) c.from_fn.result (λ i y q z. search (rules, tests)) 8 0 c.from_fn.ensures.items.each k no_contact (omega arith) (omega arith))
+    (λ k h. from_fn_each _ _ (contact_at b) c.from_fn.result (λ i y q z. search (rules, tests)) 8 0 c.from_fn.ensures.items.each k no_contact (omega arith) (omega arith) ∙ ap (contact_at b) (omega arith))

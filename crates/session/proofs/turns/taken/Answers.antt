@@ -1,5 +1,4 @@
-use Rattle.std.proofs.Common.{◌≡◌, ap}
-use Rattle.text.specs.Text.{number_after}
+use Rattle.std.proofs.Common.{refl, ap}
 use Rattle.session.specs.Turn.{Turn}
 use Rattle.session.proofs.TurnLaws.{took_is, says}
 use Rattle.session.proofs.turns.taken.Goals as goal
