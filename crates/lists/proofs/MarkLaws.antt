@@ -7,7 +7,7 @@ use mathlib.Core.List.{List, [], ◌∷◌, ◌++◌, append_assoc}
 use native.Mathlib.Omega.{arith}
 use lib.Dec.{eqb, ltb}
 use lib.ListN.{length, set, length-set, get_or-replicate, get_or-eq_default}
-use lib.Seq.{get_or-set_same, get_or-set_other, set_out}
+use lib.Seq.{get_or-set_same, get_or-set_other}
 use borrow.Author.Tests.{eq-eqb, ne_eqb, ltb-true, ltb-false}
 use Rattle.lists.specs.Lists.{bit, filter, remove, insert, count}
 use Rattle.lists.specs.Marks.{no_marks, mark_of, marked, insert_by}
@@ -114,13 +114,9 @@ mark_is f l x h k =
 pub insert_by_lem : (f : ℕ → ℕ) (k t : ℕ) (l : List ℕ) → ((x : ℕ) → 32 ≤ x → f x ≡ 0) → insert_by (marked f l no_marks) k t l ≡ insert (λ x. ltb k (f x)) t l
 insert_by_lem f k t l h = insert_same _ _ t l (λ x j. ap (ltb k) (mark_is f l x j (h x)))
 
--- one turn of marking: x has a place among the marks
+-- one turn of marking
 pub mark_on : (f : ℕ → ℕ) (xs : List ℕ) (x : ℕ) (ys m : List ℕ) (v : ℕ) → xs ≡ x ∷ ys → v ≡ f x → marked f xs m ≡ marked f ys (set m x v)
 mark_on f xs x ys m v q e = ap (λ (l : List ℕ). marked f l m) q ∙ ap (λ (k : ℕ). marked f ys (set m x k)) (sym e)
-
--- one turn of marking: x has none
-pub mark_off : (f : ℕ → ℕ) (xs : List ℕ) (x : ℕ) (ys m : List ℕ) → xs ≡ x ∷ ys → length m ≤ x → marked f xs m ≡ marked f ys m
-mark_off f xs x ys m q h = ap (λ (l : List ℕ). marked f l m) q ∙ ap (marked f ys) (set_out m x (f x) h)
 
 -- ── who is not in a list ──
 

@@ -8,6 +8,8 @@ use Rattle.rules.specs.Sound.{in_range}
 use Rattle.rules.specs.declared.Item.{Item}
 use Rattle.rules.specs.declared.Refusal.{Refusal}
 use Rattle.rules.specs.declared.Refusal.TheVariants.{ShortRoom, BadState, BadField, NoTask, NoTarget, NoEntry, NotServing, StillServing, Full}
+use Rattle.rules.specs.declared.StepResult.{StepResult}
+use Rattle.rules.specs.declared.StepResult.TheVariants.{Waits, Elapsed, Served, CallExpired, TaskingError, Accepted, DelayTaken, ElseTaken, NotNow, ProgramError, Done}
 use Rattle.rules.specs.declared.Timer.{Timer}
 use Rattle.rules.specs.declared.Timer.TheVariants.{Off, Due}
 use Rattle.rules.specs.declared.Place.{Place}
@@ -90,6 +92,20 @@ PROGRAM_ERROR = 9
 -- CREATE, END, FINISH, TICK and ADVANCE
 abbrev pub DONE : ℕ
 DONE = 10
+
+-- the numbers of the results that the code names
+abbrev pub result_number : StepResult → ℕ
+result_number Waits = WAITS
+result_number Elapsed = ELAPSED
+result_number Served = SERVED
+result_number CallExpired = CALL_EXPIRED
+result_number TaskingError = TASKING_ERROR
+result_number Accepted = ACCEPTED
+result_number DelayTaken = DELAY_TAKEN
+result_number ElseTaken = ELSE_TAKEN
+result_number NotNow = NOT_NOW
+result_number ProgramError = PROGRAM_ERROR
+result_number Done = DONE
 
 -- ── CREATE ──
 

@@ -1,8 +1,6 @@
 // The state of the supervisor and the answers: types and numbers. All else stands in specs/.
 #![tactic(auto)]
 
-pub mod numbers;
-
 ghost use Rattle.std.specs.Prelude.{◌≡◌};
 
 #[derive(Clone, Copy)]
@@ -85,12 +83,39 @@ pub struct Second {
 }
 
 // Task, result, entry, partner: an ended wait, and the same four numbers of an answer.
+// The result is a number, which the statements and C have.
 #[derive(Clone, Copy)]
 pub struct Item {
     pub task: u8,
     pub result: u8,
     pub entry: u8,
     pub partner: u8,
+}
+
+// The result of a step or of an ended wait, with the numbers that those who asked are told.
+#[derive(Clone, Copy, Debug, PartialEq, Eq)]
+pub enum StepResult {
+    Waits = 0,
+    Elapsed = 1,
+    Served = 2,
+    CallExpired = 3,
+    TaskingError = 4,
+    Accepted = 5,
+    DelayTaken = 6,
+    ElseTaken = 7,
+    NotNow = 8,
+    ProgramError = 9,
+    Done = 10,
+}
+
+impl From<StepResult> for u8 {
+    ghost use Rattle.rules.specs.Step.{result_number};
+
+    ghost from_gives = { λ r n. n ≡ result_number r };
+
+    fn from(res: StepResult) -> u8 {
+        res as u8
+    }
 }
 
 // Why a step is refused, in order of checking, with the numbers that those who asked are told: 10 is retired. SHORT_ROOM is the
@@ -118,8 +143,8 @@ impl From<Refusal> for u8 {
     }
 }
 
-// What a step answers: a refusal (0 if none: the statements and C have its number here), the result with its task, entry and partner, the number of ended waits, and
-// the dispatched task afterwards (0 if none).
+// What a step answers: a refusal (0 if none), the result with its task, entry and partner, the number of ended waits, and
+// the dispatched task afterwards (0 if none). Refusal and result are numbers, which the statements and C have.
 #[derive(Clone, Copy)]
 pub struct Answer {
     pub refusal: u8,

@@ -10,8 +10,7 @@ ghost use Rattle.table.specs.Moved.{left_of};
 
 use super::answers::{Taken, answered};
 use super::ended::wake_all;
-use rules::numbers::DONE;
-use rules::{Core, Refusal};
+use rules::{Core, Refusal, StepResult};
 use table::queues::{Test, picked};
 use table::tasks::{index_of, left_of};
 
@@ -58,7 +57,7 @@ fn passed(s: Core, l: [u8; 31], n: u32, entry: u8, room: &mut [u8]) -> Result<Ta
     let w = wake_all(s, l, false, room);
     let mut m = w.state;
     m.clock = reading;
-    Ok(answered(m, 0, DONE, entry, 0, w.count))
+    Ok(answered(m, 0, StepResult::Done, entry, 0, w.count))
 }
 
 // The clock goes on by one.

@@ -9,8 +9,7 @@ use super::answers::{Taken, answered};
 use super::ended::put;
 use super::runner::runner;
 use calls::{CallMode, ticks};
-use rules::numbers::{ACCEPTED, CALL_EXPIRED, NOT_NOW, TASKING_ERROR, WAITS};
-use rules::{Core, Item, Place, Refusal, Timer, Waiting};
+use rules::{Core, Item, Place, Refusal, StepResult, Timer, Waiting};
 use table::moves::{met, moved};
 use table::place::{accepts_at, is_between, is_completed};
 use table::tasks::task_of;
@@ -29,7 +28,7 @@ fn enqueued(s: Core, t: u8, g: u8, e: u8, w: Timer) -> Result<Taken, Refusal>
         }),
         w,
     );
-    Ok(answered(m, t, WAITS, 0, 0, 0))
+    Ok(answered(m, t, StepResult::Waits, 0, 0, 0))
 }
 
 // The target is not there to accept: the caller waits, or not, as the mode says.
@@ -42,12 +41,12 @@ fn call_busy(s: Core, t: u8, g: u8, e: u8, m: CallMode) -> Result<Taken, Refusal
         CallMode::Timed(d) => {
             let n = ticks(d);
             if n == 0 {
-                return Ok(answered(s, t, CALL_EXPIRED, e, g, 0));
+                return Ok(answered(s, t, StepResult::CallExpired, e, g, 0));
             }
             let w = Timer::Due(s.clock.wrapping_add(n));
             enqueued(s, t, g, e, w)
         }
-        CallMode::Conditional => Ok(answered(s, t, NOT_NOW, e, g, 0)),
+        CallMode::Conditional => Ok(answered(s, t, StepResult::NotNow, e, g, 0)),
     }
 }
 
@@ -67,21 +66,21 @@ pub fn call(s: Core, g: u8, e: u8, m: CallMode, room: &mut [u8]) -> Result<Taken
     }
     let p = x.place;
     if is_completed(p) {
-        return Ok(answered(s, t, TASKING_ERROR, e, g, 0));
+        return Ok(answered(s, t, StepResult::TaskingError, e, g, 0));
     }
     if accepts_at(p, e) {
         put(
             room,
             Item {
                 task: g,
-                result: ACCEPTED,
+                result: StepResult::Accepted.into(),
                 entry: e,
                 partner: t,
             },
         );
         let n = moved(s, g, Place::Ready, Timer::Off);
         let k = met(n, g, t, e);
-        return Ok(answered(k, t, WAITS, 0, 0, 1));
+        return Ok(answered(k, t, StepResult::Waits, 0, 0, 1));
     }
     call_busy(s, t, g, e, m)
 }

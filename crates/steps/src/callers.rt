@@ -74,9 +74,7 @@ fn entries_called(s: Core, mine: [u8; 31], t: u8) -> [u8; 32]
         let at = index_of(c);
         let k = s.tasks[at];
         let e = open_call(t, 255, s.created, c, k);
-        if c < 32 {
-            marks[usize::from(c)] = e;
-        }
+        lines::mark(&mut marks, c, e);
     }
     marks
 }

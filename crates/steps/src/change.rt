@@ -1,5 +1,5 @@
 // What becomes of the callers: who is gone, and who comes, is read off what a call gave and off the lent room. No engine looks at the core for it.
-ghost use Rattle.std.specs.Prelude.{◌≡◌, ◌++◌, slice_set};
+ghost use Rattle.std.specs.Prelude.{◌≡◌, ◌++◌};
 ghost use Rattle.calls.specs.Record.{byte};
 ghost use Rattle.lists.specs.Marks.{no_marks, marked};
 ghost use Rattle.rules.specs.Callers.{asks, accepted_in, is_call, comes_by};
@@ -7,7 +7,7 @@ ghost use Rattle.rules.specs.Runs.{target};
 ghost use Rattle.steps.specs.Change.{one, task_at, partner_at, bytes_in, joined_of, line_by};
 
 use calls::Call;
-use rules::numbers::{ACCEPTED, WAITS};
+use rules::StepResult;
 
 // Where the task and the partner stand in the four bytes of an item.
 const TASK_AT: u8 = 0;
@@ -21,26 +21,15 @@ fn byte_at(room: &[u8], at: usize) -> u8
     room.get(at).copied().unwrap_or(0)
 }
 
-// The marks with a 1 for t; as they were where t has none.
-fn with_mark(marks: [u8; 32], t: u8) -> [u8; 32]
-    ensures { result ≡ slice_set marks t 1 }
-{
-    let mut m = marks;
-    if t < 32 {
-        m[usize::from(t)] = 1;
-    }
-    m
-}
-
 // The partner of one that was accepted, marked.
 fn accepted_mark(res: u8, partner: u8) -> [u8; 32]
     ensures { result ≡ marked one (accepted_in res partner) no_marks }
 {
-    let none = [0u8; 32];
-    if res == ACCEPTED {
-        return with_mark(none, partner);
+    let mut marks = [0u8; 32];
+    if res == u8::from(StepResult::Accepted) {
+        lines::mark(&mut marks, partner, 1);
     }
-    none
+    marks
 }
 
 // The marks, and with them a 1 for the byte at `field` of each of the first n items of the room.
@@ -51,9 +40,7 @@ fn marks_in(room: &[u8], n: u8, field: u8, first: [u8; 32]) -> [u8; 32]
     let mut marks = first;
     for i in 0..n {
         let at = usize::from(i) * 4 + usize::from(field);
-        let t = byte_at(room, at);
-        let next = with_mark(marks, t);
-        marks = next;
+        lines::mark(&mut marks, byte_at(room, at), 1);
     }
     marks
 }
@@ -92,7 +79,7 @@ fn is_call(c: Call) -> bool
 pub fn comes(c: Call, res: u8, ended: u8) -> bool
     ensures { result ≡ comes_by c res ended }
 {
-    is_call(c) & ((res == WAITS) & (ended == 0))
+    is_call(c) & ((res == u8::from(StepResult::Waits)) & (ended == 0))
 }
 
 // The task that a call waits for, 0 if it is no CALL.

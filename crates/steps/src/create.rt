@@ -6,8 +6,7 @@ ghost use Rattle.rules.specs.Whole.{view_core};
 ghost use Rattle.steps.specs.Taken.{Stands, taken_of};
 
 use super::answers::{Taken, answered};
-use rules::numbers::DONE;
-use rules::{Core, Refusal};
+use rules::{Core, Refusal, StepResult};
 use table::place::in_range;
 use table::tasks::{fresh_task, with_task};
 
@@ -29,5 +28,5 @@ pub fn create(s: Core, priority: u8, entries: u8) -> Result<Taken, Refusal>
     let mut n = with_task(s, t, x);
     n.created = t;
     n.ready = ready_now;
-    Ok(answered(n, t, DONE, 0, 0, 0))
+    Ok(answered(n, t, StepResult::Done, 0, 0, 0))
 }

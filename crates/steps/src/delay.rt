@@ -8,8 +8,7 @@ ghost use Rattle.steps.specs.Taken.{Stands, taken_of};
 use super::answers::{Taken, answered};
 use super::runner::runner;
 use calls::ticks;
-use rules::numbers::{ELAPSED, WAITS};
-use rules::{Core, Place, Refusal, Timer};
+use rules::{Core, Place, Refusal, StepResult, Timer};
 use table::moves::moved;
 
 // Above 0, the running task waits until the d-th tick. Otherwise it moves to the tail of its level at once.
@@ -21,9 +20,9 @@ pub fn delay(s: Core, d: i32) -> Result<Taken, Refusal>
     let n = ticks(d);
     if n == 0 {
         let left = moved(s, t, Place::Ready, Timer::Off);
-        return Ok(answered(left, t, ELAPSED, 0, 0, 0));
+        return Ok(answered(left, t, StepResult::Elapsed, 0, 0, 0));
     }
     let w = Timer::Due(s.clock.wrapping_add(n));
     let left = moved(s, t, Place::Delayed, w);
-    Ok(answered(left, t, WAITS, 0, 0, 0))
+    Ok(answered(left, t, StepResult::Waits, 0, 0, 0))
 }

@@ -8,8 +8,7 @@ ghost use Rattle.steps.specs.Taken.{Stands, taken_of, ended_by};
 use super::answers::{Taken, answered};
 use super::ended::put;
 use super::runner::runner;
-use rules::numbers::{DONE, SERVED};
-use rules::{Core, Item, Refusal};
+use rules::{Core, Item, Refusal, StepResult};
 use table::moves::parted;
 use table::place::entry_of;
 use table::queues::{Test, picked};
@@ -34,11 +33,11 @@ pub fn end(s: Core, room: &mut [u8]) -> Result<Taken, Refusal>
         room,
         Item {
             task: k,
-            result: SERVED,
+            result: StepResult::Served.into(),
             entry: entry_of(p),
             partner: t,
         },
     );
     let n = parted(s, t, k);
-    Ok(answered(n, t, DONE, 0, 0, 1))
+    Ok(answered(n, t, StepResult::Done, 0, 0, 1))
 }

@@ -6,8 +6,7 @@ ghost use Rattle.rules.specs.Whole.{view_core};
 ghost use Rattle.steps.specs.Taken.{Stands, item_at, item_of, EachOnce, WokenAs};
 ghost use Rattle.table.specs.Numbers.{shown_of};
 
-use rules::numbers::TASKING_ERROR;
-use rules::{Core, Item, Task};
+use rules::{Core, Item, StepResult, Task};
 use table::moves::woken;
 use table::place::{entry_of, expiry_of, partner_of};
 use table::tasks::{index_of, shown};
@@ -34,7 +33,7 @@ fn item_of(failed: bool, n: u8, t: u8, k: Task) -> Item
     if failed {
         return Item {
             task: t,
-            result: TASKING_ERROR,
+            result: StepResult::TaskingError.into(),
             entry,
             partner,
         };

@@ -9,8 +9,7 @@ use super::answers::{Taken, answered};
 use super::callers::lowest;
 use super::runner::runner;
 use calls::{SelectMode, ticks};
-use rules::numbers::{ACCEPTED, DELAY_TAKEN, ELSE_TAKEN, PROGRAM_ERROR, WAITS};
-use rules::{Core, Offer, Place, Refusal, Timer};
+use rules::{Core, Offer, Place, Refusal, StepResult, Timer};
 use table::moves::{met, moved};
 use table::place::is_too_wide;
 use table::tasks::task_of;
@@ -21,7 +20,7 @@ fn accepting(s: Core, t: u8, o: u8, w: Timer) -> Result<Taken, Refusal>
     ensures { result ≡ taken_of (awaiting (view_core s) t o w) }
 {
     let n = moved(s, t, Place::Accepting(Offer { opens: o }), w);
-    Ok(answered(n, t, WAITS, 0, 0, 0))
+    Ok(answered(n, t, StepResult::Waits, 0, 0, 0))
 }
 
 // No open entry has a caller: the task waits, or not, as the mode says.
@@ -32,19 +31,19 @@ fn select_none(s: Core, t: u8, o: u8, m: SelectMode) -> Result<Taken, Refusal>
     match m {
         SelectMode::Plain => {
             if o == 0 {
-                return Ok(answered(s, t, PROGRAM_ERROR, 0, 0, 0));
+                return Ok(answered(s, t, StepResult::ProgramError, 0, 0, 0));
             }
             accepting(s, t, o, Timer::Off)
         }
         SelectMode::Delay(d) => {
             let k = ticks(d);
             if k == 0 {
-                return Ok(answered(s, t, DELAY_TAKEN, 0, 0, 0));
+                return Ok(answered(s, t, StepResult::DelayTaken, 0, 0, 0));
             }
             let w = Timer::Due(s.clock.wrapping_add(k));
             accepting(s, t, o, w)
         }
-        SelectMode::Else => Ok(answered(s, t, ELSE_TAKEN, 0, 0, 0)),
+        SelectMode::Else => Ok(answered(s, t, StepResult::ElseTaken, 0, 0, 0)),
     }
 }
 
@@ -63,5 +62,5 @@ pub fn select(s: Core, mine: [u8; 31], o: u8, m: SelectMode) -> Result<Taken, Re
         return select_none(s, t, o, m);
     }
     let n = met(s, t, b.task, b.entry);
-    Ok(answered(n, t, ACCEPTED, b.entry, b.task, 0))
+    Ok(answered(n, t, StepResult::Accepted, b.entry, b.task, 0))
 }

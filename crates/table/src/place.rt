@@ -4,8 +4,7 @@ ghost use Rattle.rules.specs.Sound.{in_range};
 ghost use Rattle.rules.specs.State.{is_ready, is_queued, is_held, is_completed, partner_of, entry_of, kept_of, accepts, opens, has_time, ticks_left, higher};
 ghost use Rattle.rules.specs.Step.{expiry};
 
-use rules::numbers::{CALL_EXPIRED, DELAY_TAKEN, ELAPSED};
-use rules::{Place, Timer};
+use rules::{Place, StepResult, Timer};
 
 // One that is delayed until its time comes is not ready.
 pub fn is_ready(p: Place) -> bool
@@ -70,9 +69,9 @@ pub fn expiry_of(p: Place) -> u8
     ensures { result ≡ expiry p }
 {
     match p {
-        Place::Delayed => ELAPSED,
-        Place::Queued(_) => CALL_EXPIRED,
-        Place::Accepting(_) => DELAY_TAKEN,
+        Place::Delayed => StepResult::Elapsed.into(),
+        Place::Queued(_) => StepResult::CallExpired.into(),
+        Place::Accepting(_) => StepResult::DelayTaken.into(),
         _ => 0,
     }
 }

@@ -37,6 +37,7 @@ pub struct Used {
 }
 
 // The refusal number or 0; the start of the block requested or the length of the one released; and the places used from now on.
+// The refusal is a number: the theorems in statements/specs/Workspaces.antt speak of it.
 #[derive(Clone, Copy)]
 pub struct Answer {
     pub refusal: u8,

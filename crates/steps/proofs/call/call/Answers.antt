@@ -62,7 +62,7 @@ returns-then-accepts_at c =
     let woken = woken_met a.s _ _ a.g t a.e c.requires.0 task runs.low runs.high c.moved-n.ensures c.met-k.ensures in
     record {
       value = by_outcome q (answers c.met-k.result (meet (wake v a.g) a.g t a.e) (item t WAITS 0 0) (item a.g ACCEPTED a.e t ∷ []) c.answered-then-accepts_at.ensures woken refl);
-      room = by_ended _ _ q c.put.ensures;
+      room = by_ended _ _ q (rw c.into.ensures at c.put.ensures);
     }
 
 pub call_busy-requires : goal.call_busy-requires

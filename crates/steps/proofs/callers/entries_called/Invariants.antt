@@ -8,5 +8,4 @@ use Rattle.steps.proofs.callers.entries_called.Given as goal
 -- The invariant: the marks of the rest of the line, put upon those so far, are those of the whole line.
 abbrev pub invariant-loop-c : goal.invariant-loop-c
 invariant-loop-c l =
-    (l.c-index ≤ 31) × (length l.s.tasks ≡ 31) × (length l.c-items ≡ 31) × (length l.marks ≡ 32)
-    × (marked (call_of (view_core l.s) l.t 255) (line l.c-items) no_marks ≡ marked (call_of (view_core l.s) l.t 255) (line (drop l.c-index l.c-items)) l.marks)
+    (l.c-index ≤ 31) × (length l.s.tasks ≡ 31) × (marked (call_of (view_core l.s) l.t 255) (line l.c-items) no_marks ≡ marked (call_of (view_core l.s) l.t 255) (line (drop l.c-index l.c-items)) l.marks)

@@ -15,7 +15,7 @@ pub loop-i-preserved : goal.loop-i-preserved
 loop-i-preserved c =
     let l = c.loop-i in
     let a = c.args in
-    (omega arith, l.invariant.1 ∙ bytes_on a.field a.room.now l.marks c.with_mark-next.result a.n l.i c.byte_at-t.result (omega arith) (c.byte_at-t.ensures ∙ (λ j. byte a.room.now (c.from.ensures j * 4 + c.from-in-loop-i.ensures j))) c.with_mark-next.ensures)
+    (omega arith, l.invariant.1 ∙ bytes_on a.field a.room.now l.marks _ a.n l.i c.byte_at.result (omega arith) (c.byte_at.ensures ∙ (λ j. byte a.room.now (c.from.ensures j * 4 + c.from-in-loop-i.ensures j))) c.mark.ensures)
 
 pub returns : goal.returns
 returns c =

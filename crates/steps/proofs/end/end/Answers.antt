@@ -43,5 +43,5 @@ returns c =
     record {
       value = by_outcome q
           (parted_answers s c.parted-n.result t k (item t DONE 0 0) (item k SERVED (entry_of (place_of v k)) t ∷ []) h (runner s t h c.in_ok-t.ensures.0 c.in_ok-t.ensures.1) (held_last v t k held c.if-k-eq0.false) c.answered.ensures c.parted-n.ensures);
-      room = by_ended _ _ q (rw (c.entry_of.ensures, c.task_of-x.ensures) at c.put.ensures);
+      room = by_ended _ _ q (rw (c.into.ensures, c.entry_of.ensures, c.task_of-x.ensures) at c.put.ensures);
     }
