@@ -138,20 +138,25 @@ def signature(text):
 
 
 def point5(files):
-    pairs, facts = {}, {}
+    """Two parameters that three functions of a crate or more have, and no function has one of them alone; a `requires` with one text in three functions or more."""
+    having, facts = {}, {}
     for file in files:
+        crate = file.parts[-3]
         for at, text in functions(file):
-            names = [f"{n}: {' '.join(t.split())}" for n, t in signature(text)]
-            for i in range(len(names) - 1):
-                pairs.setdefault((file.parts[-3], names[i], names[i + 1]), []).append((file, at, name_of(text)))
+            place = (file, at)
+            for word in {f"{n}: {' '.join(t.split())}" for n, t in signature(text)}:
+                having.setdefault((crate, word), set()).add(place)
             for clause in re.findall(r"^    requires (?:\w+ )?\{ (.*) \}$", text, re.M):
-                facts.setdefault((file.parts[-3], clause), []).append((file, at, name_of(text)))
-    for (crate, a, b), found in pairs.items():
-        if len(found) >= 3:
-            yield found[0][0], found[0][1], f"`{a}, {b}` in {len(found)} functions of {crate}"
+                facts.setdefault((crate, clause), []).append(place)
+    words = sorted(having)
+    for i, (crate, one) in enumerate(words):
+        for other_crate, other in words[i + 1 :]:
+            found = having[crate, one]
+            if crate == other_crate and len(found) >= 3 and found == having[other_crate, other] and "rt: &R" not in (one, other):
+                yield *min(found), f"`{one}` and `{other}` in {len(found)} functions of {crate}, and neither alone"
     for (crate, clause), found in facts.items():
         if len(found) >= 3:
-            yield found[0][0], found[0][1], f"requires `{clause}` in {len(found)} functions of {crate}"
+            yield *found[0], f"requires `{clause}` in {len(found)} functions of {crate}"
 
 
 def point6(file):

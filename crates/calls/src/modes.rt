@@ -4,7 +4,7 @@ ghost use Rattle.calls.specs.Record.{call_mode, call_time, select_mode, select_t
 
 use super::{CallMode, SelectMode};
 
-// The number of a mode, and its duration, 0 where it has none.
+// The number of a mode, and its duration, 0 where it has none: what stands in a record's bytes, which C and Ada write too.
 #[derive(Clone, Copy)]
 pub struct Mode {
     pub number: u8,

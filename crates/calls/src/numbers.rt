@@ -1,4 +1,4 @@
-// The numbers of the refusals of the writer and of the reader.
+// The numbers of the refusals of the writer and of the reader. They are constants, since C and Ada have them under these names.
 ghost use Rattle.std.specs.Prelude.{◌≡◌};
 ghost use Rattle.calls.specs.Reading.{number_of};
 

@@ -81,7 +81,7 @@ fn put_rows(room: &mut [u8], rows: [Row; 31])
     }
 }
 
-// Puts a state into lent bytes, if they are long enough.
+// Puts a state into lent bytes, if they are long enough: beside `store`, since the bytes of this engine are laid out otherwise.
 pub fn second_store(x: Second, room: &mut [u8])
     ensures { room.new ≡ stored_second x room.old }
 {

@@ -16,7 +16,7 @@ use rules::{Refusal, Supervisor};
 use settings::{contacts_in, is_good};
 use turns::{no_tasks, started, ticked};
 
-// The refusal of settings.
+// The refusal of settings: a constant, since C and Ada have it under this name.
 pub const BAD_SETTING: u8 = 17;
 
 // A contact: its setting (n samples must agree, p ticks lie between two samples), whether it is reported closed, and how many of its

@@ -14,7 +14,7 @@ struct State {
     tick: u64,
 }
 
-// A space and the report of each contact, the lowest bit first.
+// A space and the report of each contact, the lowest bit first: the contact's number is the place of its bit.
 fn put_reports(bits: u8, out: &mut [u8], at: usize) -> usize {
     let mut place = at;
     for contact in 0..8u32 {

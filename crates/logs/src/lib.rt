@@ -179,7 +179,7 @@ fn run_log<E: Engine, R: Input + Print + Eprint>(
     log
 }
 
-// A log to its end, with the second engine or the first.
+// A log to its end, with the second engine or the first. A word that the program is started with says which, so it is a value here.
 fn run_with<R: Input + Print + Eprint>(
     rt: &R,
     l: Log,

@@ -3,6 +3,7 @@
 
 ghost use Rattle.std.specs.Prelude.{◌≡◌};
 
+// The time of a wait: none, or the clock reading at which it ends. No `Option<u32>`: `Due` says what the number is, in the definitions too.
 #[derive(Clone, Copy)]
 pub enum Timer {
     Off,
@@ -51,7 +52,7 @@ pub struct Task {
     pub timer: Timer,
 }
 
-// All of a state but its callers: what both engines have.
+// All of a state but its callers: what both engines have. The queues are arrays, with blanks behind: a card has no heap.
 #[derive(Clone, Copy)]
 pub struct Core {
     pub clock: u32,

@@ -5,7 +5,7 @@ ghost use Rattle.script.specs.Guess.{bit_of, grown_of, added_of, heard_of, hear,
 
 use calls::{Call, CallMode, SelectMode};
 
-// The bit of an entry's digit in an open set.
+// The bit of an entry's digit in an open set: a table, as the definition `bit_of` is one.
 const BITS: [u8; 16] = [0, 1, 2, 4, 8, 16, 32, 64, 128, 0, 0, 0, 0, 0, 0, 0];
 
 // What a word is by its digits: a byte, an open set, and a number of 32 bits.

@@ -1,4 +1,5 @@
-// The second engine: all calls to a task in one queue, whatever the entry. The calls themselves are those of the first (`steps`).
+// The second engine: all calls to a task in one queue, whatever the entry. The calls themselves are those of the first (`steps`). Its functions stay
+// beside those of `supervisor`, as is said there.
 #![tactic(auto)]
 
 mod rows;

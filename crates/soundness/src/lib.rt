@@ -125,7 +125,7 @@ pub fn rows_sound(core: Core, rows: [Row; 31]) -> bool
     }
 }
 
-// Whether the state of the second engine is sound.
+// Whether the state of the second engine is sound: beside `is_sound`, since the theorems `is_sound_once` and `is_sound_second_once` name both.
 pub fn is_sound_second(x: Second) -> bool
     ensures { result ≡ sound_second x }
 {

@@ -90,7 +90,7 @@ fn with_queue(r: [u8; 31], callers: [u8; 31], marks: [u8; 32], e: u8) -> [u8; 31
     lines::joined_all(r, q)
 }
 
-// All callers queued on task t, entry 1 first, each queue from its head.
+// All callers queued on task t, entry 1 first, each queue from its head. Entries are numbers and no list: the loop goes over them.
 pub fn queued_on(s: Core, mine: [u8; 31], t: u8) -> [u8; 31]
     ensures { result ≡ pad (queued_on (seen s mine) t) }
 {

@@ -53,6 +53,7 @@ pub fn gone_marks(room: &[u8], n: u8, res: u8, partner: u8) -> [u8; 32]
     marks_in(room, n, TASK_AT, accepted)
 }
 
+// Beside `gone_marks`, with another task and another field; what both do is `marks_in`.
 // Those whose queues they have left, marked: task t if it accepted one, and the partners of the first n items of the room.
 pub fn left_marks(room: &[u8], n: u8, res: u8, t: u8) -> [u8; 32]
     ensures { result ≡ marked one (accepted_in res t ++ bytes_in partner_at n room.now) no_marks }

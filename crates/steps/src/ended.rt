@@ -22,7 +22,8 @@ pub fn put(room: &mut [u8], w: Item)
     room[3] = w.partner;
 }
 
-// The item of a wait that ends, by FINISH of the called task or by time. Of n tasks, task t waited, and k stands at its place in the table.
+// The item of a wait that ends, by FINISH of the called task if it failed, else by time: two ends, which a closure would say no shorter. Of n
+// tasks, task t waited, and k stands at its place in the table.
 fn item_of(failed: bool, n: u8, t: u8, k: Task) -> Item
     ensures { result ≡ item_at failed t (shown_of n t k).place }
 {

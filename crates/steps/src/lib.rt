@@ -1,4 +1,5 @@
-// The calls, on the core of a state: what both engines share. What a call needs to know of the callers, a line of those queued on the
+// The calls, on the core of a state: what both engines share. That a core is the core of a sound state is said at each function (`Stands`), and is no
+// invariant of the type: a damaged state is a value of it too. What a call needs to know of the callers, a line of those queued on the
 // running task, is handed in; what becomes of the callers is told by the answer and by the list of ended waits (`change`).
 #![tactic(auto)]
 

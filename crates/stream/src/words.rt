@@ -3,7 +3,7 @@ ghost use Rattle.std.specs.Prelude.{◌≤◌, length};
 
 use std::env::{Env, FillError};
 
-// How many there are, the program's own name among them; they are counted up to `most`.
+// How many there are, the program's own name among them; they are counted up to `most`. A word is asked for by its number, so the loop counts.
 pub fn arg_count<R: Env>(rt: &R, most: usize) -> usize
     ensures { result ≤ most }
 {

@@ -1,4 +1,6 @@
 // The first engine: an empty supervisor, its step, its questions. All callers stand in one line.
+// The second engine (`second`) has functions of the same names. They stay two sets, since the theorems in `statements` speak of each; what both do
+// alike stands in `steps` and `soundness`, and who takes either engine is written over the trait `Engine` (session).
 #![tactic(auto)]
 
 ghost use Rattle.std.specs.Prelude.{length, ◌≡◌};

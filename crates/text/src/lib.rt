@@ -1,6 +1,7 @@
 // Text in lent room: bytes and decimal numbers, each put from a place on, with the place behind it as the answer.
 // Room that is too short cuts the text off: no byte behind the room, and no refusal.
-// Room and place are two parameters and no struct: `byte_once`, `bytes_once` and `number_once` (docs/STATEMENTS.md) speak of a call with both.
+// Room and place are two parameters and no struct: programs keep the place from turn to turn apart from the room (`Flow`, stream), so a struct would be
+// made and taken apart around each call, and each contract would speak of a loan inside it.
 #![tactic(auto)]
 
 ghost use Rattle.std.specs.Prelude.{min, ◌≡◌, ◌≤◌, [], ◌∷◌, drop};

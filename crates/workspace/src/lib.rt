@@ -45,7 +45,7 @@ pub struct Answer {
     pub used: Used,
 }
 
-// Two tables of 32 places by value, and the last answer, which has the places used.
+// Two tables of 32 places by value, and the last answer, which has the places used. They are arrays, since there is no heap.
 #[derive(Clone, Copy)]
 pub struct Tables {
     pub blocks: [Stretch; 32],

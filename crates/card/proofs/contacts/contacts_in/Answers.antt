@@ -1,4 +1,4 @@
-use Rattle.std.proofs.Common.{ℕ, ap, ◌∙◌, arith, rules}
+use Rattle.std.proofs.Common.{ap, ◌∙◌, arith, rules}
 use borrow.Author.Tests.{tests}
 use Rattle.lists.proofs.FromFn.{from_fn_each}
 use Rattle.debounce.specs.Card.{no_contact}
