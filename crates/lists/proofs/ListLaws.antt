@@ -2,13 +2,14 @@
 -- Assumes nothing.
 use Prim.Native.Nat.{ℕ, zero, suc, ◌+◌, ◌-◌, ◌≤◌, ◌<◌}
 use mathlib.Core.Path.{◌≡◌, refl, sym, ◌∙◌, ap}
-use mathlib.Core.Bool.{Bool, true, false, not, true≢false}
+use mathlib.Core.Bool.{Bool, true, false, not, ◌&&◌, true≢false}
 use mathlib.Core.List.{List, [], ◌∷◌, ◌++◌, map}
 use native.Mathlib.Omega.{arith}
 use native.Mathlib.Numerals.{unary_clauses}
 use lib.ListN.{length, replicate, length-map}
 use lib.Dec.{eqb, ltb, leb}
 use borrow.Author.Tests.{eqb-true, eqb-false, eq-eqb, ne_eqb, ltb-true, ltb-false, leb-true, le-leb}
+use Rattle.std.specs.List.{list_all}
 use Rattle.lists.specs.Lists.{when◌then◌else◌, bit, filter, remove, insert, count, every, in_order_by, down_from}
 use Rattle.lists.proofs.Tests.{and_first, and_second, and_both}
 
@@ -83,6 +84,11 @@ count_insert f t u (x ∷ xs) = go (f x) (count_insert f t u xs)
     go false ih = omega (arith, ih)
 
 -- ── every, by the members ──
+
+-- the library's test of all is the same
+pub every_is : {A : Type 0} (p : A → Bool) (l : List A) → list_all p l ≡ every p l
+every_is p [] = refl
+every_is p (x ∷ xs) = ap (λ (b : Bool). p x && b) (every_is p xs)
 
 -- what holds of all holds of each member
 pub every_at : (g : ℕ → Bool) (l : List ℕ) → every g l ≡ true → (x : ℕ) → 0 < count x l → g x ≡ true

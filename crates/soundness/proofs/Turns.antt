@@ -1,21 +1,15 @@
 -- Turns of the loops: down from a number, and over a line.
 -- Assumes nothing.
-use Rattle.std.proofs.Common.{◌≡◌, ℕ, zero, suc, ◌+◌, ◌<◌, ◌≤◌, Bool, false, ◌&&◌, List, [], ◌∷◌, length, get_or, drop, sym, refl, ap, ◌∙◌, add-one, drop_of_length-le, drop-cons, le-leb}
+use Rattle.std.proofs.Common.{◌≡◌, ℕ, zero, suc, ◌+◌, ◌<◌, ◌≤◌, Bool, false, ◌&&◌, List, ◌∷◌, length, get_or, drop, sym, refl, ap, ◌∙◌, add-one, drop_of_length-le, drop-cons, le-leb}
 use borrow.Author.Tests.{lt-leb}
 use Rattle.lists.specs.Line.{blanks}
-use Rattle.std.specs.List.{list_all}
-use Rattle.lists.specs.Lists.{every, down_from}
+use Rattle.lists.specs.Lists.{down_from}
 use Rattle.soundness.specs.Marks.{Marks, has_mark, next_mark, without_mark, is_none}
 use Rattle.soundness.specs.Check.{marked, walked, ascending}
 
 -- the word with the next task below, if it passes the test, goes on with those below it
 pub mark_on : (f : ℕ → Bool) (m n t : ℕ) (b : Bool) → b ≡ f (suc t) → n ≡ next_mark m b → marked f m (down_from (suc t)) ≡ marked f n (down_from t)
 mark_on f m n t b eb en = λ i. marked f (sym (en ∙ ap (next_mark m) eb) i) (down_from t)
-
--- a test of all is the library's
-pub every_list : {A : Type 0} (f : A → Bool) (l : List A) → list_all f l ≡ every f l
-every_list f [] = refl
-every_list f (x ∷ xs) = ap (λ (b : Bool). f x && b) (every_list f xs)
 
 -- ── a line ──
 

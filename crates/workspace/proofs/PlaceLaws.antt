@@ -1,8 +1,8 @@
 -- Laws of tables' places: searched, taken out and put in, read and written.
 -- Assumes nothing.
-use Rattle.std.proofs.Common.{◌≡◌, ℕ, zero, suc, ◌+◌, ◌-◌, ◌<◌, ◌≤◌, min, Bool, ◌&&◌, not, ltb, List, [], ◌∷◌, ◌++◌, Option, Some, None, length, take, drop, set, replicate, sym, refl, ap, ◌∙◌, le_of_suc-le-suc, not-suc-le-zero, arith, drop_of_length-le, take_all, length-drop, length-take-le, append-nil, ltb-true, ltb-false}
+use Rattle.std.proofs.Common.{◌≡◌, ℕ, zero, suc, ◌+◌, ◌-◌, ◌<◌, ◌≤◌, min, Bool, not, ltb, List, [], ◌∷◌, ◌++◌, Option, Some, None, length, take, drop, set, replicate, sym, refl, ap, ◌∙◌, le_of_suc-le-suc, not-suc-le-zero, arith, drop_of_length-le, take_all, length-drop, length-take-le, append-nil, ltb-true, ltb-false}
 use borrow.Rule.Slice.PartMut.{put_mid, mid_of, post_of}
-use Rattle.std.specs.List.{list_all, position, position_or_len}
+use Rattle.std.specs.List.{position, position_or_len}
 use Rattle.std.specs.Option.{unwrap_or}
 use Rattle.std.proofs.lemmas.List.Recursion.{is_position_or_len}
 use Rattle.std.proofs.lemmas.List.Sums.{prefix_len-le-length}
@@ -48,11 +48,6 @@ found_nowhere p l e =
     by_bool (ltb (position_or_len p l) (length l))
     (λ b. let w : ◌≡◌ {A = Option ℕ} (Some (position_or_len p l)) None = rw b at e in absurd (let z : ⊥ = cc in z))
     (λ b. let h : length l ≤ position_or_len p l = ltb-false (position_or_len p l) (length l) b in omega (arith, h, place_is p l))
-
--- all pass
-pub every_is : {A : Type 0} (p : A → Bool) (l : List A) → list_all p l ≡ every p l
-every_is p [] = refl
-every_is p (x ∷ xs) = ap (λ (b : Bool). p x && b) (every_is p xs)
 
 -- ---- a place is taken out: what is behind it is turned by one, and the last is unused
 set_last : (l : List Stretch) (x y : Stretch) → set (l ++ x ∷ []) (length l) y ≡ l ++ y ∷ []

@@ -9,7 +9,8 @@ use Rattle.workspace.specs.Rules.{none, is_none}
 use Rattle.workspace.specs.Operations.{table_after}
 use Rattle.lists.specs.Over.{over}
 use Rattle.workspace.specs.Seen.{table_of, laid}
-use Rattle.workspace.proofs.PlaceLaws.{over_own, over_cut, behind_cut, every_is}
+use Rattle.workspace.proofs.PlaceLaws.{over_own, over_cut, behind_cut}
+use Rattle.lists.proofs.ListLaws.{every_is}
 use Rattle.workspace.proofs.Padded.{pad, pad_nil, none_over}
 
 -- what lies below the 32 places

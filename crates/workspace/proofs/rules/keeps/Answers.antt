@@ -2,7 +2,7 @@ use Rattle.std.proofs.Common.{◌∙◌, ap, false}
 use Rattle.lists.specs.Lists.{every}
 use Rattle.workspace.specs.Rules.{is_none}
 use Rattle.workspace.specs.Check.{tiled}
-use Rattle.workspace.proofs.PlaceLaws.{every_is}
+use Rattle.lists.proofs.ListLaws.{every_is}
 use Rattle.workspace.proofs.StepLaws.{keep_law, break_law}
 use Rattle.workspace.proofs.rules.keeps.Goals as goal
 
