@@ -57,7 +57,7 @@ fn passed(s: Core, l: [u8; 31], n: u32, entry: u8, room: &mut [u8]) -> Result<Ta
     let w = wake_all(s, l, false, room);
     let mut m = w.state;
     m.clock = reading;
-    Ok(answered(m, 0, StepResult::Done, entry, 0, w.count))
+    Ok(answered(m, 0, StepResult::Done as u8, entry, 0, w.count))
 }
 
 // The clock goes on by one.

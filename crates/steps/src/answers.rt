@@ -1,10 +1,9 @@
 // What a call gave.
 ghost use Rattle.std.specs.Prelude.{◌≡◌, nat_lt};
-ghost use Rattle.rules.specs.Step.{result_number};
 ghost use Rattle.rules.specs.Whole.{refused_answer};
 ghost use Rattle.steps.specs.Taken.{answer_by};
 
-use rules::{Answer, Core, StepResult};
+use rules::{Answer, Core};
 
 // What a call gave that was taken: the state afterwards, the four numbers of the answer, and the number of ended waits.
 // The result is a number, since definitions compare this struct with the rules' `Item`, which has one.
@@ -19,13 +18,13 @@ pub struct Taken {
 }
 
 // The call is taken: s is the state afterwards. Functions that never refuse answer a Result too: their caller's `Ok` would copy the core once more.
-pub fn answered(s: Core, t: u8, res: StepResult, entry: u8, partner: u8, ended: u8) -> Taken
-    ensures { result ≡ record { state = s; task = t; result = result_number res; entry = entry; partner = partner; ended = ended } }
+pub fn answered(s: Core, t: u8, res: u8, entry: u8, partner: u8, ended: u8) -> Taken
+    ensures { result ≡ record { state = s; task = t; result = res; entry = entry; partner = partner; ended = ended } }
 {
     Taken {
         state: s,
         task: t,
-        result: res.into(),
+        result: res,
         entry,
         partner,
         ended,

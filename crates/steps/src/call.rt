@@ -28,7 +28,7 @@ fn enqueued(s: Core, t: u8, g: u8, e: u8, w: Timer) -> Result<Taken, Refusal>
         }),
         w,
     );
-    Ok(answered(m, t, StepResult::Waits, 0, 0, 0))
+    Ok(answered(m, t, StepResult::Waits as u8, 0, 0, 0))
 }
 
 // The target is not there to accept: the caller waits, or not, as the mode says.
@@ -41,12 +41,12 @@ fn call_busy(s: Core, t: u8, g: u8, e: u8, m: CallMode) -> Result<Taken, Refusal
         CallMode::Timed(d) => {
             let n = ticks(d);
             if n == 0 {
-                return Ok(answered(s, t, StepResult::CallExpired, e, g, 0));
+                return Ok(answered(s, t, StepResult::CallExpired as u8, e, g, 0));
             }
             let w = Timer::Due(s.clock.wrapping_add(n));
             enqueued(s, t, g, e, w)
         }
-        CallMode::Conditional => Ok(answered(s, t, StepResult::NotNow, e, g, 0)),
+        CallMode::Conditional => Ok(answered(s, t, StepResult::NotNow as u8, e, g, 0)),
     }
 }
 
@@ -66,7 +66,7 @@ pub fn call(s: Core, g: u8, e: u8, m: CallMode, room: &mut [u8]) -> Result<Taken
     }
     let p = x.place;
     if is_completed(p) {
-        return Ok(answered(s, t, StepResult::TaskingError, e, g, 0));
+        return Ok(answered(s, t, StepResult::TaskingError as u8, e, g, 0));
     }
     if accepts_at(p, e) {
         put(
@@ -80,7 +80,7 @@ pub fn call(s: Core, g: u8, e: u8, m: CallMode, room: &mut [u8]) -> Result<Taken
         );
         let n = moved(s, g, Place::Ready, Timer::Off);
         let k = met(n, g, t, e);
-        return Ok(answered(k, t, StepResult::Waits, 0, 0, 1));
+        return Ok(answered(k, t, StepResult::Waits as u8, 0, 0, 1));
     }
     call_busy(s, t, g, e, m)
 }

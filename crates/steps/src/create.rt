@@ -28,5 +28,5 @@ pub fn create(s: Core, priority: u8, entries: u8) -> Result<Taken, Refusal>
     let mut n = with_task(s, t, x);
     n.created = t;
     n.ready = ready_now;
-    Ok(answered(n, t, StepResult::Done, 0, 0, 0))
+    Ok(answered(n, t, StepResult::Done as u8, 0, 0, 0))
 }

@@ -20,9 +20,9 @@ pub fn delay(s: Core, d: i32) -> Result<Taken, Refusal>
     let n = ticks(d);
     if n == 0 {
         let left = moved(s, t, Place::Ready, Timer::Off);
-        return Ok(answered(left, t, StepResult::Elapsed, 0, 0, 0));
+        return Ok(answered(left, t, StepResult::Elapsed as u8, 0, 0, 0));
     }
     let w = Timer::Due(s.clock.wrapping_add(n));
     let left = moved(s, t, Place::Delayed, w);
-    Ok(answered(left, t, StepResult::Waits, 0, 0, 0))
+    Ok(answered(left, t, StepResult::Waits as u8, 0, 0, 0))
 }

@@ -39,5 +39,5 @@ pub fn end(s: Core, room: &mut [u8]) -> Result<Taken, Refusal>
         },
     );
     let n = parted(s, t, k);
-    Ok(answered(n, t, StepResult::Done, 0, 0, 1))
+    Ok(answered(n, t, StepResult::Done as u8, 0, 0, 1))
 }

@@ -22,7 +22,7 @@ fn completed(s: Core, t: u8, l: [u8; 31], room: &mut [u8]) -> Result<Taken, Refu
 {
     let w = wake_all(s, l, true, room);
     let m = moved(w.state, t, Place::Completed, Timer::Off);
-    Ok(answered(m, t, StepResult::Done, 0, 0, w.count))
+    Ok(answered(m, t, StepResult::Done as u8, 0, 0, w.count))
 }
 
 // The running task completes, and all callers queued on it become ready.
@@ -36,7 +36,7 @@ pub fn finish(s: Core, mine: [u8; 31], room: &mut [u8]) -> Result<Taken, Refusal
     // nobody is held, on any task, and nobody is queued: nobody need be looked for
     if (lines::first_of(held) == 0) & (lines::first_of(mine) == 0) {
         let m = moved(s, t, Place::Completed, Timer::Off);
-        return Ok(answered(m, t, StepResult::Done, 0, 0, 0));
+        return Ok(answered(m, t, StepResult::Done as u8, 0, 0, 0));
     }
     let h = picked(s, held, Test::HeldBy { holder: t });
     let k = lines::len(h);

@@ -20,7 +20,7 @@ fn accepting(s: Core, t: u8, o: u8, w: Timer) -> Result<Taken, Refusal>
     ensures { result ≡ taken_of (awaiting (view_core s) t o w) }
 {
     let n = moved(s, t, Place::Accepting(Offer { opens: o }), w);
-    Ok(answered(n, t, StepResult::Waits, 0, 0, 0))
+    Ok(answered(n, t, StepResult::Waits as u8, 0, 0, 0))
 }
 
 // No open entry has a caller: the task waits, or not, as the mode says.
@@ -31,19 +31,19 @@ fn select_none(s: Core, t: u8, o: u8, m: SelectMode) -> Result<Taken, Refusal>
     match m {
         SelectMode::Plain => {
             if o == 0 {
-                return Ok(answered(s, t, StepResult::ProgramError, 0, 0, 0));
+                return Ok(answered(s, t, StepResult::ProgramError as u8, 0, 0, 0));
             }
             accepting(s, t, o, Timer::Off)
         }
         SelectMode::Delay(d) => {
             let k = ticks(d);
             if k == 0 {
-                return Ok(answered(s, t, StepResult::DelayTaken, 0, 0, 0));
+                return Ok(answered(s, t, StepResult::DelayTaken as u8, 0, 0, 0));
             }
             let w = Timer::Due(s.clock.wrapping_add(k));
             accepting(s, t, o, w)
         }
-        SelectMode::Else => Ok(answered(s, t, StepResult::ElseTaken, 0, 0, 0)),
+        SelectMode::Else => Ok(answered(s, t, StepResult::ElseTaken as u8, 0, 0, 0)),
     }
 }
 
@@ -62,5 +62,5 @@ pub fn select(s: Core, mine: [u8; 31], o: u8, m: SelectMode) -> Result<Taken, Re
         return select_none(s, t, o, m);
     }
     let n = met(s, t, b.task, b.entry);
-    Ok(answered(n, t, StepResult::Accepted, b.entry, b.task, 0))
+    Ok(answered(n, t, StepResult::Accepted as u8, b.entry, b.task, 0))
 }
