@@ -1,4 +1,5 @@
-// An engine, as a turn sees it. Both engines are one: what is written over the trait is proved once, for both.
+// An engine, as a turn sees it. Both engines are one: what is written over the trait is proved once, for both. The methods of its impls are
+// always inlined: a call of one would copy the state once more.
 ghost use Rattle.std.specs.Prelude.{◌≡◌, length};
 ghost use Rattle.rules.specs.Step.{room_after};
 ghost use Rattle.rules.specs.Whole.{stepped_of};
@@ -28,17 +29,17 @@ pub trait Engine: Copy {
 impl Engine for Supervisor {
     ghost ruled = { first };
 
-    #[inline]
+    #[inline(always)]
     fn empty(clock: u32) -> Supervisor {
         supervisor::empty(clock)
     }
 
-    #[inline]
+    #[inline(always)]
     fn step(self, c: Call, room: &mut [u8]) -> Stepped<Supervisor> {
         supervisor::step(self, c, room)
     }
 
-    #[inline]
+    #[inline(always)]
     fn running(self) -> Result<u8, BadState> {
         supervisor::running(self)
     }
@@ -47,17 +48,17 @@ impl Engine for Supervisor {
 impl Engine for Second {
     ghost ruled = { second };
 
-    #[inline]
+    #[inline(always)]
     fn empty(clock: u32) -> Second {
         second::empty(clock)
     }
 
-    #[inline]
+    #[inline(always)]
     fn step(self, c: Call, room: &mut [u8]) -> Stepped<Second> {
         second::step(self, c, room)
     }
 
-    #[inline]
+    #[inline(always)]
     fn running(self) -> Result<u8, BadState> {
         second::running(self)
     }
