@@ -120,15 +120,24 @@ def by_lines(rules):
 # a loop that only counts its turns names no index: `for _ in`, `for _turn in`
 point3 = by_lines([r"\bfor [a-z]\w* in (\d+|\w+)\.\.", r"\bwhile\b"])
 
-point4 = by_lines([
+FORMS = [
     r"std::num::wrapping_",                                # a method of the number
-    r"=> (true|false),",                                   # matches!
     r"if (\w+) < (\w+) \{ (\1|\2) \} else \{ (\1|\2) \}",  # min, max
     r"if \w+ \{ 1 \} else \{ 0 \}",                        # u8::from
     r"\[0\] == b'", r"\(\w+ & !\w+\) \| \(",               # == of slices, of bools
-    r"^        (\w+): \w+\.\1,$",                          # struct update, derives
-    r"^            (\w+): \w+\.\1,$",
-])
+]
+
+
+def point4(file):
+    """Forms that the library has, tests that are a `match`, and two fields or more that are copied one by one."""
+    lines = [code(x).rstrip() for x in file.read_text().split("\n")]
+    for at, line in enumerate(lines):
+        around = lines[max(at - 1, 0) : at] + lines[at + 1 : at + 2]
+        arm = re.search(r"=> (true|false),", line) and any(re.search(r"=> (true|false),", x) for x in around)
+        field = re.match(r" +(\w+): (\w+)\.\1,$", line)
+        copied = field and any((m := re.match(r" +(\w+): (\w+)\.\1,$", x)) and m[2] == field[2] for x in around)
+        if arm or copied or any(re.search(form, line) for form in FORMS):
+            yield at + 1, line.strip()
 
 
 def signature(text):

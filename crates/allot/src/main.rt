@@ -23,7 +23,7 @@ use stream::errors::tell_line;
 use stream::line::{Kind, Lines, Piece, behind, first, front};
 use workspace::{Answer, Stretch, Tables, UNUSED, Used};
 
-// The tables, and the lines on their way.
+// The tables, and the lines on their way. The buffers stay apart from them: a struct of all would be copied at each turn.
 #[derive(Clone, Copy)]
 struct State {
     tables: Tables,

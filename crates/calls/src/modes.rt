@@ -23,6 +23,7 @@ impl From<CallMode> for Mode {
     }
 }
 
+// Beside that of a CALL, since the modes have other names.
 impl From<SelectMode> for Mode {
     ghost from_gives = { λ mode m. m ≡ record { number = select_mode mode; time = select_time mode } };
 

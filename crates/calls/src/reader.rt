@@ -81,6 +81,7 @@ fn call_mode(m: u8, d: u32) -> CallMode
     }
 }
 
+// Beside `call_mode`, since the modes have other names.
 fn select_mode(m: u8, d: u32) -> SelectMode
     ensures { result ≡ select_mode_of m d }
 {

@@ -49,7 +49,7 @@ fn contact_at(b: &[u8], i: usize) -> Contact
     if end <= b.len() {
         return contact_from(b[at], b[at + 1], b[at + 2], b[at + 3], b[at + 4]);
     }
-    Contact::default()
+    Contact::default() // too few bytes
 }
 
 // The contacts of lent bytes.

@@ -23,7 +23,7 @@ fn is_field(b: &[u8], i: usize) -> bool
     (usize::from(b[at]) == i + 1) & (b[at + 1] == 0) & (b[at + 2] == 3) & is_setting(b[at + 3], p)
 }
 
-// Whether the bytes are eight fields, and nothing behind. By their index and not by `chunks_exact`: a field's tag is counted, too.
+// Whether the bytes are eight fields, and nothing behind. The loop has the index, since a field's tag is one more.
 pub fn is_good(b: &[u8]) -> bool
     ensures { result ≡ good_settings b.now }
 {
@@ -52,7 +52,7 @@ fn contact_at(b: &[u8], i: usize) -> Contact
     }
 }
 
-// The contacts of good settings, at the start.
+// The contacts of good settings, at the start. `card` has a line like it, over the bytes of a card.
 pub fn contacts_in(b: &[u8]) -> [Contact; 8]
     requires { length b.now ≡ 48 }
     ensures { result ≡ map opened (settings_in b.now) }

@@ -36,14 +36,14 @@ pub struct Log {
 fn shorter(n: usize, left: u64) -> usize
     ensures { result ≡ min n left }
 {
-    if left < n as u64 { left as usize } else { n }
+    left.min(n as u64) as usize
 }
 
 // What is left of a log behind n of its bytes.
 fn less(left: u64, n: usize) -> u64
     ensures { result ≡ left - n }
 {
-    if left < n as u64 { 0 } else { left - n as u64 }
+    left.saturating_sub(n as u64)
 }
 
 // What stands of a log in the window on a buffer of n bytes; `last` where no more bytes of the log come.
@@ -59,7 +59,8 @@ fn part(w: Window, left: u64, n: usize) -> Window
     }
 }
 
-// A log from its start: the header is printed, whole, and behind it there is room for a line.
+// A log from its start: the header is printed, whole, and behind it there is room for a line. That there is room (`Free`), and that the log goes on, is
+// said at each function that needs it: it is no invariant of a log, since the buffer is another value, and a log may have ended.
 fn started(l: Log, out: &mut [u8]) -> Log
     requires { Free spare out.old l.flow.waits }
     ensures value { result ≡ begun_of l out.old }
@@ -210,6 +211,17 @@ fn usage<R: Eprint>(rt: &R) {
     let _ = eprintln!(rt; "usage: stepper or replay, with no word or the word second, < LOG");
 }
 
+// Whether the program's word chooses the second engine; nothing where it is another word, which is told.
+fn chosen<R: Eprint + Env>(rt: &R) -> Option<bool> {
+    let count = words::arg_count(rt, 3);
+    let second = is_second(rt, count);
+    if second | (count < 2) {
+        return Some(second);
+    }
+    usage(rt);
+    None
+}
+
 // The log that standard input is, from an empty supervisor with this clock, with the second engine or the first.
 fn run_input_with<R: Input + Print + Eprint>(rt: &R, clock: u32, second: bool) {
     let mut buf = [0u8; 65536];
@@ -227,13 +239,9 @@ fn run_input_with<R: Input + Print + Eprint>(rt: &R, clock: u32, second: bool) {
 
 // The same, with the engine that the program's word chooses.
 pub fn run_input<R: Input + Print + Eprint + Env>(rt: &R, clock: u32) {
-    let count = words::arg_count(rt, 3);
-    let second = is_second(rt, count);
-    if second | (count < 2) {
+    if let Some(second) = chosen(rt) {
         run_input_with(rt, clock, second);
-        return;
     }
-    usage(rt);
 }
 
 // What is skipped of a log: the window on the input, the bytes that the log still has, and whether more of them may come.
@@ -346,11 +354,7 @@ fn run_logs_with<R: Input + Print + Eprint>(rt: &R, second: bool) {
 
 // The same, with the engine that the program's word chooses.
 pub fn run_logs<R: Input + Print + Eprint + Env>(rt: &R) {
-    let count = words::arg_count(rt, 3);
-    let second = is_second(rt, count);
-    if second | (count < 2) {
+    if let Some(second) = chosen(rt) {
         run_logs_with(rt, second);
-        return;
     }
-    usage(rt);
 }

@@ -1,5 +1,5 @@
 // The lines that stepper prints: the header, and a line for each call. Each goes into lent room from a place on, and the
-// answer is the place behind it; room that is too short cuts it off.
+// answer is the place behind it; room that is too short cuts it off. Room and place are two parameters, for the reason that `text` gives.
 #![tactic(auto)]
 
 ghost use Rattle.std.specs.Prelude.{◌≤◌, length};

@@ -8,10 +8,7 @@ fn start_of(line: &[u8]) -> usize {
 
 // The letter at a place in lower case, or 0.
 fn letter_at(line: &[u8], i: usize) -> u8 {
-    match line.get(i) {
-        Some(b) => b | 32,
-        None => 0,
-    }
+    line.get(i).map_or(0, |b| b | 32)
 }
 
 // The form of a call by its first two letters, and else which calls there are.

@@ -45,6 +45,7 @@ impl Engine for Supervisor {
     }
 }
 
+// Shaped as the impl above, and over the functions of the other engine.
 impl Engine for Second {
     ghost ruled = { second };
 

@@ -1,4 +1,5 @@
-// One turn: the record at the start of the input is read, its call taken, and its line printed.
+// One turn: the record at the start of the input is read, its call taken, and its line printed. Session, room and place are parameters of their own: a
+// struct of them would be copied at each turn.
 ghost use Rattle.std.specs.Prelude.{◌≡◌, ◌≤◌, length};
 ghost use Rattle.calls.specs.Reading.{number_of};
 ghost use Rattle.report.specs.Lines.{longest_line};

@@ -1,5 +1,6 @@
 // The soundness check: whether a state is sound, as the rules say it. The modules are this crate's own: what others see is
-// `is_sound`. One pass over the created tasks tells whether they are good and who belongs into which line; then one over each line.
+// `is_sound`. One pass over the created tasks tells whether they are good and who belongs into which line; then one over each line, and one more over
+// the delay queue, for its order.
 // A function that takes the state and looks up tasks in it copies it whole: so no function that is called for each task takes it, and
 // `is_sound` alone hands it on, so that no two copies are alive at a time.
 #![tactic(auto)]
@@ -98,6 +99,7 @@ fn core_check(s: Core) -> Option<u32>
 }
 
 // Whether the state of the first engine is sound, handed in by its two parts: who has them does not copy the whole.
+// A `match`, here and in `rows_sound`: with `is_some_and` the proof did not get from its contract to what the closure answers.
 pub fn parts_sound(core: Core, callers: [u8; 31]) -> bool
     ensures { result ≡ sound_whole (record { core = core; callers = callers }) }
 {

@@ -7,7 +7,7 @@ ghost use Rattle.rules.specs.State.{higher};
 ghost use Rattle.soundness.specs.TreeCheck.{climbed, all_climbed, seen_of, tree_found};
 
 use crate::marks;
-use lines::mark_of;
+use lines::{mark, mark_of};
 use rules::Core;
 use table::place::{higher_of, kept_of, partner_of};
 use table::tasks::{index_of, shown};
@@ -77,12 +77,8 @@ fn seen_of(s: Core, word: u32) -> Option<[u8; 32]>
         }
         let now = higher_of(top, x.current);
         apart = marks::put(apart, g, y.current != now);
-        if g < 32 {
-            tops[g as usize] = now;
-        }
-        if c < 32 {
-            holders[c as usize] = g;
-        }
+        mark(&mut tops, g, now);
+        mark(&mut holders, c, g);
     }
     marks::is_none(apart).then_some(holders)
 }

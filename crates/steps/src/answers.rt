@@ -17,7 +17,8 @@ pub struct Taken {
     pub ended: u8,
 }
 
-// The call is taken: s is the state afterwards. Functions that never refuse answer a Result too: their caller's `Ok` would copy the core once more.
+// The call is taken: s is the state afterwards. A function of a call that is never refused answers `Ok` of it itself: if its caller did, the core would be
+// copied once more.
 pub fn answered(s: Core, t: u8, res: u8, entry: u8, partner: u8, ended: u8) -> Taken
     ensures { result ≡ record { state = s; task = t; result = res; entry = entry; partner = partner; ended = ended } }
 {
@@ -53,7 +54,7 @@ pub fn refused_answer(n: u8, next: u8) -> Answer
     }
 }
 
-// What a call gave that was taken, as the answer of a step, where `next` is the dispatched task.
+// What a call gave that was taken, as the answer of a step, where `next` is the dispatched task: field by field, since an answer has no core.
 pub fn answer_by(k: Taken, next: u8) -> Answer
     ensures { result ≡ answer_by k next }
 {

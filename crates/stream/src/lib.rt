@@ -1,6 +1,6 @@
 // Standard input as a window on a buffer, cut into lines or not, standard output gathered in a buffer, and what is told on standard error: what the
 // programs share. What reads or writes takes the runtime, by the bounds that it needs of it.
-// Nothing says that the input ends and a proved loop has to: each loop over input counts its turns down from a number that no run uses up.
+// Nothing says that the input ends and a proved loop has to: each loop over input has a number of turns that no run uses up.
 #![tactic(auto)]
 
 pub mod errors;

@@ -36,7 +36,7 @@ pub fn put_bytes(text: &[u8], out: &mut [u8], at: usize) -> usize
     place
 }
 
-// The digits of a number in decimal, at the end of a row; the answer is the place of the first.
+// The digits of a number in decimal, at the end of a row; the answer is the place of the first, so the loop goes over places.
 fn digits(n: u64, row: &mut [u8; 20]) -> usize
     ensures within { result ≤ 20 }
     ensures value { drop result row.new ≡ decimal n }

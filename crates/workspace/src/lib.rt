@@ -62,7 +62,7 @@ struct Table {
 
 // What is seen of the two lent tables: the first 32 places of each, whether there are 31 and 32, whether all places behind them are
 // unused, and the place of the first free stretch that is long enough. With none, it is the number of places: as a place behind those
-// used it is refused by one comparison.
+// used it is refused by one comparison. The places are arrays, since there is no heap.
 #[derive(Clone, Copy)]
 struct Look {
     blocks: [Stretch; 32],

@@ -1,4 +1,4 @@
-// The operations on two tables of 32 places by value, for callers that own their tables.
+// The operations on two tables of 32 places by value, for callers that own their tables: each lends them to the operation of its name.
 ghost use Rattle.std.specs.Prelude.{◌≡◌};
 ghost use Rattle.workspace.specs.Operations.{request_of, release_of};
 ghost use Rattle.workspace.specs.Owning.{owned_fresh, owned_after};

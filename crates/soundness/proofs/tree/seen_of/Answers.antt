@@ -1,5 +1,4 @@
 use Rattle.std.proofs.Common.{◌≡◌, ℕ, ◌+◌, Bool, List, [], length, get_or, drop, set, sym, refl, ap, ◌∙◌, arith, length-set, rules}
-use lib.Seq.{set_out}
 use Rattle.std.specs.Bool.{then_some}
 use Rattle.lists.specs.Line.{line}
 use Rattle.lists.specs.Marks.{no_marks, marked}
@@ -17,7 +16,6 @@ use Rattle.soundness.specs.TreeCheck.{passed, seen_of}
 use Rattle.soundness.proofs.TreeTurns.{pass_on, pass_fail}
 use Rattle.soundness.proofs.tree.seen_of.Invariants.{holder}
 use Rattle.soundness.proofs.tree.seen_of.Goals as goal
-use Rattle.soundness.proofs.tree.seen_of.Goals.{then-g-lt32, else-g-lt32, then-c-lt32, else-c-lt32}
 
 pub loop-c-init : goal.loop-c-init
 loop-c-init c = (search (rules, mapped_long), search (rules, mapped_long), refl, refl, refl, refl)
@@ -57,18 +55,16 @@ loop-c-preserved c =
     let first = get_or s.held l.c-index 0 in
     let g = c.partner_of-g.result in
     let now = c.higher_of-now.result in
-    -- the marks with that of the holder, and with the holder of the caller: numbers above 31 have none
-    let tops : c.if-g-lt32.tops ≡ set l.tops g now =
-    elim c.if-g-lt32.branch [ then-g-lt32 w ↦ w.tops-is | else-g-lt32 w ↦ w.tops-is ∙ sym (set_out l.tops g now (omega (arith, v.4, w.if-g-lt32.false))) ] in
-    let holders : c.if-c-lt32.holders ≡ set l.holders first g =
-    elim c.if-c-lt32.branch [ then-c-lt32 w ↦ w.holders-is | else-c-lt32 w ↦ w.holders-is ∙ sym (set_out l.holders first g (omega (arith, v.5, w.if-c-lt32.false))) ] in
+    -- the marks with that of the holder, and with the holder of the caller
+    let tops : c.mark.new.marks ≡ set l.tops g now = c.mark.ensures in
+    let holders : c.mark-in-loop-c.new.marks ≡ set l.holders first g = c.mark-in-loop-c.ensures in
     let rest = rest_entry s.held l.c-index (omega (arith, v.1)) c.if-c-eq0.false in
     let caller : c.shown-x.result ≡ _ = shown_at s first _ _ v.0 c.index_of-at.ensures.0 c.shown-x.ensures in
     let acceptor = shown_at s g _ _ v.0 c.index_of-to.ensures.0 c.shown-y.ensures in (
       v.0,
       v.1,
       v.2 ∙ pass_on (view_core s) l.tops l.apart _ first _ c.shown-x.result c.shown-y.result g c.top_of-top.result c.kept_of.result
-          rest caller c.partner_of-g.ensures acceptor c.top_of-top.ensures c.kept_of.ensures c.if-kept_of-top.false now c.put-apart.result c.if-g-lt32.tops c.higher_of-now.ensures c.put-apart.ensures tops,
+          rest caller c.partner_of-g.ensures acceptor c.top_of-top.ensures c.kept_of.ensures c.if-kept_of-top.false now c.put-apart.result c.mark.new.marks c.higher_of-now.ensures c.put-apart.ensures tops,
       v.3 ∙ mark_on (holder s) _ _ _ l.holders g rest (c.partner_of-g.ensures ∙ ap (λ (z : Task). partner_of z.place) caller)
           ∙ ap (marked (holder s) (line (drop (l.c-index + 1) s.held))) (sym holders),
       ap (λ (x : List ℕ). length x) tops ∙ length-set {A = ℕ} l.tops g now ∙ v.4,
