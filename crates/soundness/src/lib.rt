@@ -1,6 +1,5 @@
 // The soundness check: whether a state is sound, as the rules say it. The modules are this crate's own: what others see is
-// `is_sound`. One pass over the created tasks tells whether they are good and who belongs into which line; then one over each line, and one more over
-// the delay queue, for its order.
+// `is_sound`. One pass over the created tasks tells whether they are good and who belongs into which line; then one over each line.
 // A function that takes the state and looks up tasks in it copies it whole: so no function that is called for each task takes it, and
 // `is_sound` alone hands it on, so that no two copies are alive at a time.
 #![tactic(auto)]
