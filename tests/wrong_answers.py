@@ -23,6 +23,7 @@ Wrong = namedtuple("Wrong", "edit crate file says old new where law at")
 BEGIN, END = "<!-- wrong answers: made by tests/wrong_answers.py -->", "<!-- end of the wrong answers -->"
 FUNCTION = re.compile(r'^\s*(?:pub(?:\(crate\))? )?(?:extern "C" )?fn (\w+)')
 CLAUSE = re.compile(r"^\s*(?:requires|ensures)\b")
+CONSTANT = re.compile(r"^\s*(?:pub(?:\(crate\))? )?const (\w+):")
 # what stands behind the name of a function where not its body but its contract is changed
 CONTRACT = " (contract)"
 # Public functions that only put parts together: one wrong answer is enough there, and each has two more in the parts that it rests on.
@@ -41,8 +42,12 @@ def crates():
 
 
 def function_of(file, text, at):
-    """The path of the function in which the text stands at that place, in its body or in its contract, or None."""
-    lines = text[: text.index("\n", at)].splitlines()
+    """The path of the function in which the text stands at that place, in its body or in its contract, or None: of a constant, the function that has it last."""
+    end = text.index("\n", at)
+    lines = text[:end].splitlines()
+    constant = CONSTANT.match(lines[-1])
+    if constant and text.find(constant.group(1), end) > 0:
+        return function_of(file, text, text.rindex(constant.group(1)))
     heads = [number for number, line in enumerate(lines) if FUNCTION.match(line)]
     names = [*impl_of(lines[: heads[-1]]), FUNCTION.match(lines[heads[-1]]).group(1)] if heads else []
     since = lines[heads[-1] :] if heads else []
