@@ -3,7 +3,7 @@
 An edit replaces one or more texts of its crate, each by a wrong one. The comment above a text names the wrong answer. Above a definition or a
 contract a line `law: FILE NAME` names the theorem that refuses it; above a text of a function's body a line `at: GOAL` may name the goal of the
 function that does (as `returns` or `loop-i-preserved`), and must where the edit has two wrong answers of one function.
-  texts   each replaced text stands once in its file, in a function or in a definition, and has its comment; no two wrong answers
+  texts   each replaced text stands once in its file, in a function (a constant counts to the one that has it last) or in a definition, and has its comment; no two wrong answers
           of an edit are refused by the same law or at the same goal, but where each of them but one has an edit in which it is alone there; and every public function whose contract determines its answer
           has two wrong answers of its own, or one and two in its parts if PARTS has it (a function that only passes one on to C has those of that one)
   table   the table of DOC between its two marks lists them all (--write puts it there)
