@@ -3,7 +3,7 @@
 An edit replaces one or more texts of its crate, each by a wrong one. The comment above a text names the wrong answer. Above a definition or a
 contract a line `law: FILE NAME` names the theorem that refuses it; above a text of a function's body a line `at: GOAL` may name the goal of the
 function that does (as `returns` or `loop-i-preserved`), and must where the edit has two wrong answers of one function.
-  texts   each replaced text stands once in its file, in a function or in a definition, and has its comment; no two wrong answers
+  texts   each replaced text stands once in its file, in a function (a constant counts to the one that has it last) or in a definition, and has its comment; no two wrong answers
           of an edit are refused by the same law or at the same goal, but where each of them but one has an edit in which it is alone there; and every public function whose contract determines its answer
           has two wrong answers of its own, or one and two in its parts if PARTS has it (a function that only passes one on to C has those of that one)
   table   the table of DOC between its two marks lists them all (--write puts it there)
@@ -23,6 +23,7 @@ Wrong = namedtuple("Wrong", "edit crate file says old new where law at")
 BEGIN, END = "<!-- wrong answers: made by tests/wrong_answers.py -->", "<!-- end of the wrong answers -->"
 FUNCTION = re.compile(r'^\s*(?:pub(?:\(crate\))? )?(?:extern "C" )?fn (\w+)')
 CLAUSE = re.compile(r"^\s*(?:requires|ensures)\b")
+CONSTANT = re.compile(r"^\s*(?:pub(?:\(crate\))? )?const (\w+):")
 # what stands behind the name of a function where not its body but its contract is changed
 CONTRACT = " (contract)"
 # Public functions that only put parts together: one wrong answer is enough there, and each has two more in the parts that it rests on.
@@ -41,8 +42,12 @@ def crates():
 
 
 def function_of(file, text, at):
-    """The path of the function in which the text stands at that place, in its body or in its contract, or None."""
-    lines = text[: text.index("\n", at)].splitlines()
+    """The path of the function in which the text stands at that place, in its body or in its contract, or None: of a constant, the function that has it last."""
+    end = text.index("\n", at)
+    lines = text[:end].splitlines()
+    constant = CONSTANT.match(lines[-1])
+    if constant and text.find(constant.group(1), end) > 0:
+        return function_of(file, text, text.rindex(constant.group(1)))
     heads = [number for number, line in enumerate(lines) if FUNCTION.match(line)]
     names = [*impl_of(lines[: heads[-1]]), FUNCTION.match(lines[heads[-1]]).group(1)] if heads else []
     since = lines[heads[-1] :] if heads else []

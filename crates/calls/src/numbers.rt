@@ -1,6 +1,7 @@
 // The numbers of the refusals of the writer and of the reader. They are constants, since C and Ada have them under these names.
-ghost use Rattle.std.specs.Prelude.{◌≡◌};
+ghost use Rattle.std.specs.Prelude.{◌≡◌, Err};
 ghost use Rattle.calls.specs.Reading.{number_of};
+ghost use Rattle.calls.specs.Writing.{write_refusal_of};
 
 use super::{ReadError, ShortRoom};
 
@@ -22,9 +23,7 @@ impl From<ReadError> for u8 {
 }
 
 impl From<ShortRoom> for u8 {
-    ghost use Rattle.calls.specs.declared.numbers.TheConstants.{SHORT_ROOM};
-
-    ghost from_gives = { λ _ n. n ≡ SHORT_ROOM };
+    ghost from_gives = { λ error n. n ≡ write_refusal_of (Err error) };
 
     fn from(_error: ShortRoom) -> u8 {
         SHORT_ROOM

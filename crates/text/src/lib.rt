@@ -18,7 +18,7 @@ pub fn put_byte(b: u8, out: &mut [u8], at: usize) -> usize
     out.len()
 }
 
-// The smaller of two numbers. Code says `min`: this stands for its theorem `least_once`, which docs/STATEMENTS.md names.
+// The smaller of two numbers.
 pub fn least(a: usize, b: usize) -> usize
     ensures { result ≡ min a b }
 {
@@ -29,7 +29,7 @@ pub fn least(a: usize, b: usize) -> usize
 pub fn put_bytes(text: &[u8], out: &mut [u8], at: usize) -> usize
     ensures { Put out.old at text.now out.new result }
 {
-    let mut place = at.min(out.len());
+    let mut place = least(at, out.len());
     for &b in text {
         place = put_byte(b, out, place);
     }

@@ -10,7 +10,7 @@ use Rattle.text.proofs.put_bytes.Goals as goal
 pub loop-b-init : goal.loop-b-init
 loop-b-init c =
     let a = c.args in
-    putting_start a.out.now a.at a.text.now c.min-place.ensures
+    putting_start a.out.now a.at a.text.now c.least-place.ensures
 
 pub loop-b-preserved : goal.loop-b-preserved
 loop-b-preserved c =
