@@ -9,12 +9,13 @@ use lib.Dec.{ltb}
 use borrow.Author.Tests.{ltb-false}
 use Rattle.std.specs.Prelude.{Ok, Err}
 use Rattle.rules.specs.Second.{gathered, view_second, pack_second, sound_second, step_second}
+use Rattle.rules.specs.State.{running}
 use Rattle.rules.specs.Step.{Outcome, refused, took, take_call, room_after}
 use Rattle.rules.specs.Whole.{view_core, StepOf, done_by, refused_answer, stepped_of}
 use Rattle.rules.specs.declared.Second.{Second}
 use Rattle.rules.proofs.Apart.{running_core}
 use Rattle.rules.proofs.StepSound.{Kept, call_sound}
-use Rattle.steps.specs.Taken.{ended_by}
+use Rattle.steps.specs.Taken.{answer_by, ended_by}
 use Rattle.steps.proofs.AnswerLaws.{was_taken, was_refused}
 use Rattle.steps.proofs.EngineLaws.{answer_is}
 use Rattle.second.specs.Rows.{TypedSecond}
@@ -77,7 +78,7 @@ returns-in-Err c =
     let done : step_second x d (length r) ≡ done_by pack_second x v (refused why) =
     step_sound x d (length r) (sym c.is_short.ensures ∙ c.if-is_short.false) ok ∙ ap (done_by pack_second x v) none in
     let next = c.running-next.ensures ∙ sym (running_core (view_core x.core) (gathered x.rows)) in
-    let answer = c.refused_answer-answer-in-Err.ensures ∙ λ i. refused_answer (c.from-in-Err.ensures i) (next i) in
+    let answer = c.answer_by-answer.ensures ∙ (λ i. answer_by (c.refused_by.ensures i) (next i)) ∙ λ i. refused_answer (c.from-in-Err.ensures i) (running v) in
     record {
       value = (λ i. record { state = x; answer = answer i }) ∙ sym (ap stepped_of done);
       room = t.1 ∙ ap (λ (o : Outcome). room_after r (ended_by o)) none ∙ sym (ap (λ (w : StepOf Second). room_after r w.ended) done);
@@ -112,7 +113,7 @@ returns c =
     let state = second_state x typed ok d was.state was.answer was.list k r _ c.left_marks-left.result c.gone_marks-gone.result c.joined_queue-joined.result c.next_rows-rows_now.result
     was.outcome was.gave room c.gone_marks-gone.ensures c.left_marks-left.ensures c.joined_queue-joined.ensures c.next_rows-rows_now.ensures in
     let kept = subst Kept was.outcome (call_sound v d (sound_here x typed ok)) in
-    let answer = c.answer_by-answer.ensures ∙ answer_is pack_second x v was.state was.answer was.list k c.running-next-2.result kept was.gave c.running-next-2.ensures in
+    let answer = c.answer_by-answer-2.ensures ∙ answer_is pack_second x v was.state was.answer was.list k c.running-next-2.result kept was.gave c.running-next-2.ensures in
     record {
       value = (λ i. record { state = state i; answer = answer i }) ∙ sym (ap stepped_of done);
       room = room ∙ sym (ap (λ (w : StepOf Second). room_after r w.ended) done);
