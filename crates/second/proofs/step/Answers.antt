@@ -1,6 +1,4 @@
-use native.Mathlib.Omega.{arith}
 use borrow.Author.Rules.{rules}
-use Prim.Native.Nat.{◌<◌}
 use mathlib.Core.Path.{◌≡◌, refl, sym, ◌∙◌, ap, subst}
 use mathlib.Core.Bool.{true, false}
 use lib.ListN.{length}
@@ -18,8 +16,7 @@ use Rattle.rules.proofs.StepSound.{Kept, call_sound}
 use Rattle.steps.specs.Taken.{answer_by, ended_by}
 use Rattle.steps.proofs.AnswerLaws.{was_taken, was_refused}
 use Rattle.steps.proofs.EngineLaws.{answer_is}
-use Rattle.second.specs.Rows.{TypedSecond}
-use Rattle.second.proofs.RowLaws.{rows_long}
+use Rattle.second.proofs.RowLaws.{typed_second}
 use Rattle.second.proofs.TopLaws.{sound_here, sees_second, taken_here, second_state, step_short, step_unsound, step_sound, by_state, by_room}
 use Rattle.second.proofs.step.Goals as goal
 
@@ -38,34 +35,14 @@ returns-then-not-rows_sound c =
 pub take_call-requires : goal.take_call-requires
 take_call-requires c =
     let x = c.args.x in
-    let l1 : length x.core.tasks ≡ 31 = search (rules, mapped_long) in
-    let l2 : length x.core.ready ≡ 31 = search (rules, mapped_long) in
-    let l3 : length x.rows ≡ 31 = search (rules, mapped_long) in
-    let l4 : length x.core.held ≡ 31 = search (rules, mapped_long) in
-    let l5 : length x.core.delays ≡ 31 = search (rules, mapped_long) in
-    let k : x.core.clock < 4294967296 = search rules in
-    let typed : TypedSecond x = record {
-      core = record { clock = k; tasks = l1; ready = l2; held = l4; delays = l5 };
-      rows = l3;
-      lines = λ j h. rows_long x.rows _ c.well_formed.0.1.1.1.0.1.1 j (omega (arith, l3));
-    } in
+    let typed = typed_second x _ (search rules) (search (rules, mapped_long)) (search (rules, mapped_long)) (search (rules, mapped_long)) (search (rules, mapped_long)) (search (rules, mapped_long)) c.well_formed.0.1.1.1.0.1.1 in
     let few : ltb (length c.args.room.now) 124 ≡ false = sym c.is_short.ensures ∙ c.if-is_short.false in
     (sees_second x typed (sym c.rows_sound.ensures ∙ c.if-not-rows_sound.false) c.args.c c.row_looked_at-mine.result c.row_looked_at-mine.ensures, ltb-false _ 124 few)
 
 pub returns-in-Err : goal.returns-in-Err
 returns-in-Err c =
     let x = c.args.x in
-    let l1 : length x.core.tasks ≡ 31 = search (rules, mapped_long) in
-    let l2 : length x.core.ready ≡ 31 = search (rules, mapped_long) in
-    let l3 : length x.rows ≡ 31 = search (rules, mapped_long) in
-    let l4 : length x.core.held ≡ 31 = search (rules, mapped_long) in
-    let l5 : length x.core.delays ≡ 31 = search (rules, mapped_long) in
-    let k : x.core.clock < 4294967296 = search rules in
-    let typed : TypedSecond x = record {
-      core = record { clock = k; tasks = l1; ready = l2; held = l4; delays = l5 };
-      rows = l3;
-      lines = λ j h. rows_long x.rows _ c.well_formed.0.1.1.1.0.1.1 j (omega (arith, l3));
-    } in
+    let typed = typed_second x _ (search rules) (search (rules, mapped_long)) (search (rules, mapped_long)) (search (rules, mapped_long)) (search (rules, mapped_long)) (search (rules, mapped_long)) c.well_formed.0.1.1.1.0.1.1 in
     let r = c.args.room.now in
     let d = c.args.c in
     let v = view_second x in
@@ -87,17 +64,7 @@ returns-in-Err c =
 pub returns : goal.returns
 returns c =
     let x = c.args.x in
-    let l1 : length x.core.tasks ≡ 31 = search (rules, mapped_long) in
-    let l2 : length x.core.ready ≡ 31 = search (rules, mapped_long) in
-    let l3 : length x.rows ≡ 31 = search (rules, mapped_long) in
-    let l4 : length x.core.held ≡ 31 = search (rules, mapped_long) in
-    let l5 : length x.core.delays ≡ 31 = search (rules, mapped_long) in
-    let k : x.core.clock < 4294967296 = search rules in
-    let typed : TypedSecond x = record {
-      core = record { clock = k; tasks = l1; ready = l2; held = l4; delays = l5 };
-      rows = l3;
-      lines = λ j h. rows_long x.rows _ c.well_formed.0.1.1.1.0.1.1 j (omega (arith, l3));
-    } in
+    let typed = typed_second x _ (search rules) (search (rules, mapped_long)) (search (rules, mapped_long)) (search (rules, mapped_long)) (search (rules, mapped_long)) (search (rules, mapped_long)) c.well_formed.0.1.1.1.0.1.1 in
     let r = c.args.room.now in
     let d = c.args.c in
     let v = view_second x in
