@@ -24,9 +24,10 @@ use Rattle.rules.specs.Callers.{calling}
 use Rattle.rules.specs.Second.{gathered, rows_right}
 use Rattle.rules.specs.contracts.Row.{the_row}
 use Rattle.rules.specs.declared.Row.{Row}
+use Rattle.rules.specs.declared.Second.{Second}
 use Rattle.rules.proofs.SecondLaws.{row_at, row_is, row_below}
 use Rattle.steps.specs.Change.{line_by}
-use Rattle.second.specs.Rows.{no_row, row_of, next_row, next_rows}
+use Rattle.second.specs.Rows.{no_row, row_of, next_row, next_rows, TypedSecond}
 
 -- ── what the type says of each row ──
 
@@ -35,6 +36,11 @@ rows_long [] us p j h = absurd (omega arith)
 rows_long (r ∷ rs) [] p j h = absurd p
 rows_long (r ∷ rs) (u ∷ us) p zero h = p.0.1.1.0.1.0.1
 rows_long (r ∷ rs) (u ∷ us) p (suc j) h = rows_long rs us p.1 j (omega arith)
+
+-- and of the whole struct
+pub typed_second : (x : Second) (us : List Val) → x.core.clock < 4294967296 → length x.core.tasks ≡ 31 → length x.core.ready ≡ 31 → length x.core.held ≡ 31 → length x.core.delays ≡ 31 → length x.rows ≡ 31
+    → shadow (each (the_row).Denot (the_row).own_val x.rows us) → TypedSecond x
+typed_second x us k t r h d n w = record { core = record { clock = k; tasks = t; ready = r; held = h; delays = d }; rows = n; lines = λ j b. rows_long x.rows us w j (omega (arith, n, b)) }
 
 -- ── the loop ──
 

@@ -96,7 +96,7 @@ module _ (x : Second) (h : TypedSecond x) (ok : sound_second x ≡ true) where
 
   pub second_state : (c : C.Call) (st : State) (b : Item) (y : List Item) (k : Taken) (room after left gone : List ℕ) (g : ℕ) (rs : List Row) → take_call v c ≡ took st b y → k ≡ taken_as (pack_core st) b (length y)
       → after ≡ room_after room y → gone ≡ marked one (accepted_in k.result k.partner ++ bytes_in task_at k.ended after) no_marks → left ≡ marked one (accepted_in k.result k.task ++ bytes_in partner_at k.ended after) no_marks
-      → g ≡ joined_of c k.result k.ended → rs ≡ next_rows left gone g k.task 1 x.rows → ◌≡◌ {A = Second} (record { core = k.state; rows = rs }) (pack_second st)
+      → g ≡ joined_of c k.refusal k.result k.ended → rs ≡ next_rows left gone g k.task 1 x.rows → ◌≡◌ {A = Second} (record { core = k.state; rows = rs }) (pack_second st)
   second_state c st b y k room after left gone g rs o e ae eo el eg er =
       let p = subst (Told c v.callers) o (tells v c sound_here) in
       let q = subst Kept o (call_sound v c sound_here) in
@@ -106,7 +106,7 @@ module _ (x : Second) (h : TypedSecond x) (ok : sound_second x ≡ true) where
       eo ∙ (λ i. marked one (accepted_in (e i).result (e i).partner ++ bytes_in task_at (e i).ended (ae i)) no_marks) ∙ ap (λ (m : List ℕ). marked one (accepted_in b.result b.partner ++ m) no_marks) (tasks_written room y) in
       let L : left ≡ marked one (left_by b y) no_marks =
       el ∙ (λ i. marked one (accepted_in (e i).result (e i).task ++ bytes_in partner_at (e i).ended (ae i)) no_marks) ∙ ap (λ (m : List ℕ). marked one (accepted_in b.result b.task ++ m) no_marks) (partners_written room y) in
-      let J : g ≡ joined_of c b.result (length y) = eg ∙ ap (λ (z : Taken). joined_of c z.result z.ended) e in
+      let J : g ≡ joined_of c 0 b.result (length y) = eg ∙ ap (λ (z : Taken). joined_of c z.refusal z.result z.ended) e in
       λ i. record {
         core = (e i).state;
         rows = (er ∙ (λ j. next_rows (L j) (G j) (J j) (e j).task 1 x.rows) ∙ rows_next v st c b y sound_here q p f n x.rows 31 1 (omega arith) (omega arith) h.rows row_here) i;

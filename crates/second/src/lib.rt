@@ -13,7 +13,7 @@ use calls::Call;
 use rows::{next_rows, row_looked_at, row_of};
 use rules::{BadState, Refusal, Row, Second, Stepped};
 use soundness::{is_sound_second, rows_sound};
-use steps::answers::{answer_by, is_short, refused_answer};
+use steps::answers::{answer_by, is_short, refused_answer, refused_by};
 use steps::change::{gone_marks, joined_queue, left_marks};
 use steps::engine::{empty_core, is_callable, queue_length};
 use steps::take_call;
@@ -38,13 +38,13 @@ pub fn step(x: Second, c: Call, room: &mut [u8]) -> Stepped<Second>
         Ok(k) => k,
         Err(why) => {
             let next = table::dispatch::running(x.core);
-            let answer = refused_answer(u8::from(why), next);
+            let answer = answer_by(refused_by(x.core, u8::from(why)), next);
             return Stepped { state: x, answer };
         }
     };
     let gone = gone_marks(room, k.ended, k.result, k.partner);
     let left = left_marks(room, k.ended, k.result, k.task);
-    let joined = joined_queue(c, k.result, k.ended);
+    let joined = joined_queue(c, k.refusal, k.result, k.ended);
     let rows_now = next_rows(rows, left, gone, joined, k.task);
     let after = k.state;
     let next = table::dispatch::running(after);

@@ -18,7 +18,7 @@ use Rattle.rules.specs.declared.Task.{Task}
 use Rattle.rules.proofs.Invariant.{Sound}
 use Rattle.rules.proofs.Members.{nth_beyond}
 use Rattle.steps.specs.Taken.{taken_as}
-use Rattle.steps.specs.Change.{task_at, partner_at, bytes_in, one, line_by}
+use Rattle.steps.specs.Change.{task_at, partner_at, bytes_in, one, comes_of, line_by}
 use Rattle.steps.specs.declared.answers.Taken.{Taken}
 
 -- ── the loop ──
@@ -73,13 +73,13 @@ by_joins false k t = ap pad (sym (append-nil k))
 
 -- what a call gave that was taken, as the rules say it of the callers: v is the state, s its core, l its line of callers
 pub line_is : (v st : State) (a : Item) (x : List Item) (c : C.Call) (k : Taken) (callers room after m r : List ℕ) (b : Bool) → Sound v → line callers ≡ v.callers → Told c v.callers (took st a x)
-    → k ≡ taken_as (pack_core st) a (length x) → after ≡ room_after room x → m ≡ marked one (accepted_in k.result k.partner ++ bytes_in task_at k.ended after) no_marks → b ≡ comes_by c k.result k.ended
+    → k ≡ taken_as (pack_core st) a (length x) → after ≡ room_after room x → m ≡ marked one (accepted_in k.result k.partner ++ bytes_in task_at k.ended after) no_marks → b ≡ comes_of c k.refusal k.result k.ended
     → r ≡ line_by m b k.task callers → r ≡ pad st.callers
 line_is v st a x c k callers room after m r b h e told ek ea em eb er =
     let m1 : m ≡ marked one (gone_by a x) no_marks =
     em ∙ (λ i. marked one (accepted_in (ek i).result (ek i).partner ++ bytes_in task_at (ek i).ended (ea i)) no_marks)
     ∙ ap (λ (q : List ℕ). marked one (accepted_in a.result a.partner ++ q) no_marks) (tasks_written room x) in
-    let b1 : b ≡ comes_by c a.result (length x) = eb ∙ ap (λ (z : Taken). comes_by c z.result z.ended) ek in
+    let b1 : b ≡ comes_by c a.result (length x) = eb ∙ ap (λ (z : Taken). comes_of c z.refusal z.result z.ended) ek in
     let w : with_mark (marked one (gone_by a x) no_marks) 0 (line callers) ≡ filter (out (gone_by a x)) v.callers = ap (with_mark (marked one (gone_by a x) no_marks) 0) e ∙ gone_out v (gone_by a x) h in
     er ∙ (λ i. line_by (m1 i) (b1 i) (ek i).task callers) ∙ by_joins (comes_by c a.result (length x)) (with_mark (marked one (gone_by a x) no_marks) 0 (line callers)) a.task
     ∙ ap (λ (q : List ℕ). pad (q ++ (when comes_by c a.result (length x) then a.task ∷ [] else []))) w ∙ ap pad (sym told)

@@ -3,6 +3,7 @@
 use Rattle.std.proofs.Common.{◌≡◌, sym, ◌∙◌}
 use Rattle.lists.specs.Once.{Once}
 use Rattle.steps.proofs.take_call.Reads as take-call
+use Rattle.steps.proofs.answers.refused_by.Reads as refused-by
 use Rattle.steps.proofs.answers.answered.Reads as answered
 use Rattle.steps.proofs.answers.is_short.Reads as is-short
 use Rattle.steps.proofs.answers.refused_answer.Reads as refused-answer
@@ -19,6 +20,9 @@ use Rattle.steps.proofs.engine.is_callable.Reads as is-callable
 
 pub take_call_once : (κs : _) (x : _) (r r' : _) (y y' : _) → take-call.Learnt κs x r y → take-call.Learnt κs x r' y' → (r ≡ r') × (y.1.1.1.0.now ≡ y'.1.1.1.0.now)
 take_call_once κs x r r' y y' p q = (p.0 ∙ sym q.0, p.1 ∙ sym q.1)
+
+pub refused_by_once : Once refused-by.Learnt
+refused_by_once κs x r r' y y' p q = p ∙ sym q
 
 pub answered_once : Once answered.Learnt
 answered_once κs x r r' y y' p q = p ∙ sym q

@@ -1,6 +1,6 @@
 -- What becomes of the callers, read off what a call gave and off the lent room: for either engine.
 -- Assumes nothing.
-use Rattle.std.specs.Prelude.{ℕ, zero, suc, Bool, List, [], ◌∷◌, ◌++◌, drop}
+use Rattle.std.specs.Prelude.{ℕ, zero, suc, Bool, ◌&&◌, List, [], ◌∷◌, ◌++◌, drop, ◌==◌}
 use Rattle.calls.specs.Record.{byte}
 use Rattle.calls.specs.declared.Call as C
 use Rattle.lists.specs.Line.{line, pad}
@@ -25,9 +25,13 @@ bytes_in k (suc n) room = byte room k ∷ bytes_in k n (drop 4 room)
 abbrev pub one : ℕ → ℕ
 one t = 1
 
--- the task whose queue the task of a call that was taken comes into, 0 where it comes into none
-abbrev pub joined_of : C.Call → ℕ → ℕ → ℕ
-joined_of c result ended = when comes_by c result ended then target c else 0
+-- the call was taken, and its task waits in a queue now
+abbrev pub comes_of : C.Call → ℕ → ℕ → ℕ → Bool
+comes_of c refusal result ended = refusal == 0 && comes_by c result ended
+
+-- the task whose queue it comes into, 0 where it comes into none
+abbrev pub joined_of : C.Call → ℕ → ℕ → ℕ → ℕ
+joined_of c refusal result ended = when comes_of c refusal result ended then target c else 0
 
 -- a line of callers after a step: those without a mark, and t behind them if it comes
 abbrev pub line_by : List ℕ → Bool → ℕ → List ℕ → List ℕ

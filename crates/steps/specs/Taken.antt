@@ -42,16 +42,16 @@ pub record SeesFor (s : Core) (mine : List ℕ) (c : C.Call) : Type 0 where
 
 -- what a step function answers for a call that is taken: the struct afterwards, the answer's numbers, and how many waits have ended
 abbrev pub taken_as : Core → Item → ℕ → Taken
-taken_as m a n = record { state = m; task = a.task; result = a.result; entry = a.entry; partner = a.partner; ended = n }
+taken_as m a n = record { state = m; refusal = 0; task = a.task; result = a.result; entry = a.entry; partner = a.partner; ended = n }
 
 -- what a step function answers for an outcome of the rules
 abbrev pub taken_of : Outcome → Result Taken Refusal
 taken_of (refused r) = Err r
 taken_of (took st a l) = Ok (taken_as (pack_core st) a (length l))
 
--- what a call gave that was taken, as the answer of a step
+-- what a call gave, as the answer of a step
 abbrev pub answer_by : Taken → ℕ → Answer
-answer_by k n = record { refusal = 0; result = k.result; task = k.task; entry = k.entry; partner = k.partner; ended = k.ended; next = n }
+answer_by k n = record { refusal = k.refusal; result = k.result; task = k.task; entry = k.entry; partner = k.partner; ended = k.ended; next = n }
 
 -- the ended waits of an outcome
 abbrev pub ended_by : Outcome → List Item

@@ -4,7 +4,7 @@ ghost use Rattle.calls.specs.Record.{byte};
 ghost use Rattle.lists.specs.Marks.{no_marks, marked};
 ghost use Rattle.rules.specs.Callers.{asks, accepted_in, is_call, comes_by};
 ghost use Rattle.rules.specs.Runs.{target};
-ghost use Rattle.steps.specs.Change.{one, task_at, partner_at, bytes_in, joined_of, line_by};
+ghost use Rattle.steps.specs.Change.{one, task_at, partner_at, bytes_in, comes_of, joined_of, line_by};
 
 use calls::Call;
 use rules::StepResult;
@@ -77,10 +77,17 @@ fn is_call(c: Call) -> bool
 }
 
 // Whether the task of a call that was taken waits in a queue now: a CALL that waits, and has woken nobody.
-pub fn comes(c: Call, res: u8, ended: u8) -> bool
+fn is_queueing(c: Call, res: u8, ended: u8) -> bool
     ensures { result ≡ comes_by c res ended }
 {
     is_call(c) & ((res == u8::from(StepResult::Waits)) & (ended == 0))
+}
+
+// The same of any call: a refused one answers no result and no list too.
+pub fn comes(c: Call, refusal: u8, res: u8, ended: u8) -> bool
+    ensures { result ≡ comes_of c refusal res ended }
+{
+    (refusal == 0) & is_queueing(c, res, ended)
 }
 
 // The task that a call waits for, 0 if it is no CALL.
@@ -93,11 +100,11 @@ fn target_of(c: Call) -> u8
     }
 }
 
-// The task whose queue the task of a call that was taken comes into, 0 where it comes into none.
-pub fn joined_queue(c: Call, res: u8, ended: u8) -> u8
-    ensures { result ≡ joined_of c res ended }
+// The task whose queue the task of the call comes into, 0 where it comes into none.
+pub fn joined_queue(c: Call, refusal: u8, res: u8, ended: u8) -> u8
+    ensures { result ≡ joined_of c refusal res ended }
 {
-    if comes(c, res, ended) {
+    if comes(c, refusal, res, ended) {
         target_of(c)
     } else {
         0 // it comes into none

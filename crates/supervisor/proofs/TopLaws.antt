@@ -14,14 +14,14 @@ use Rattle.rules.specs.State.{State, created, is_task, place_of, is_completed}
 use Rattle.steps.specs.Engine.{callable_in}
 use Rattle.rules.specs.Step.{took, take_call, room_after}
 use Rattle.rules.specs.declared.Refusal.TheVariants.{ShortRoom, BadState}
-use Rattle.rules.specs.Callers.{accepted_in, comes_by, Told}
+use Rattle.rules.specs.Callers.{accepted_in, Told}
 use Rattle.rules.specs.Whole.{Typed, view, pack, pack_core, sound_whole, decline, done, step_whole}
 use Rattle.rules.specs.declared.Item.{Item}
 use Rattle.rules.specs.declared.Supervisor.{Supervisor}
 use Rattle.rules.proofs.Apart.{tells}
 use Rattle.rules.proofs.WholeLaws.{parts, core_parts, core_packed, sound_view}
 use Rattle.steps.specs.Taken.{Stands, SeesFor, taken_as}
-use Rattle.steps.specs.Change.{one, task_at, bytes_in, line_by}
+use Rattle.steps.specs.Change.{one, task_at, bytes_in, comes_of, line_by}
 use Rattle.steps.proofs.ChangeLaws.{line_is}
 use Rattle.steps.specs.declared.answers.Taken.{Taken}
 use Rattle.calls.specs.declared.Call as C
@@ -50,7 +50,7 @@ module _ (s : Supervisor) (c : C.Call) (n : ℕ) where
 -- where the call was taken, the core and the callers afterwards are those of the next state
 pub state_is : (s : Supervisor) (c : C.Call) (st : State) (a : Item) (x : List Item) (k : Taken) (room after m l : List ℕ) (b : Bool) → Typed s → sound_whole s ≡ true → take_call (view s) c ≡ took st a x
     → k ≡ taken_as (pack_core st) a (length x) → after ≡ room_after room x → m ≡ marked one (accepted_in k.result k.partner ++ bytes_in task_at k.ended after) no_marks
-    → b ≡ comes_by c k.result k.ended → l ≡ line_by m b k.task s.callers → ◌≡◌ {A = Supervisor} (record { core = k.state; callers = l }) (pack st)
+    → b ≡ comes_of c k.refusal k.result k.ended → l ≡ line_by m b k.task s.callers → ◌≡◌ {A = Supervisor} (record { core = k.state; callers = l }) (pack st)
 state_is s c st a x k room after m l b t h o ek ea em eb el =
     let v = sound_view s t h in
     let line = line_is (view s) st a x c k s.callers room after m l b v refl (subst (Told c (view s).callers) o (tells (view s) c v)) ek ea em eb el in

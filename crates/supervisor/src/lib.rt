@@ -12,7 +12,7 @@ ghost use Rattle.rules.specs.Whole.{stepped_of, pack, sound_whole, step_whole};
 use calls::Call;
 use rules::{BadState, Refusal, Stepped, Supervisor};
 use soundness::{is_sound, parts_sound};
-use steps::answers::{answer_by, is_short, refused_answer};
+use steps::answers::{answer_by, is_short, refused_answer, refused_by};
 use steps::change::{comes, gone_marks, next_line};
 use steps::engine::{empty_core, is_callable, queue_length};
 use steps::take_call;
@@ -36,12 +36,12 @@ pub fn step(s: Supervisor, c: Call, room: &mut [u8]) -> Stepped<Supervisor>
         Ok(k) => k,
         Err(why) => {
             let next = table::dispatch::running(s.core);
-            let answer = refused_answer(u8::from(why), next);
+            let answer = answer_by(refused_by(s.core, u8::from(why)), next);
             return Stepped { state: s, answer };
         }
     };
     let gone = gone_marks(room, k.ended, k.result, k.partner);
-    let joins = comes(c, k.result, k.ended);
+    let joins = comes(c, k.refusal, k.result, k.ended);
     let callers_now = next_line(callers, gone, joins, k.task);
     let after = k.state;
     let next = table::dispatch::running(after);

@@ -1,6 +1,4 @@
-use native.Mathlib.Omega.{arith}
 use borrow.Author.Rules.{rules}
-use Prim.Native.Nat.{◌<◌}
 use mathlib.Core.Path.{◌≡◌, refl, sym, ◌∙◌, ap, subst}
 use mathlib.Core.Bool.{true, false}
 use lib.ListN.{length}
@@ -9,16 +7,16 @@ use lib.Dec.{ltb}
 use borrow.Author.Tests.{ltb-false}
 use Rattle.std.specs.Prelude.{Ok, Err}
 use Rattle.rules.specs.Second.{gathered, view_second, pack_second, sound_second, step_second}
+use Rattle.rules.specs.State.{running}
 use Rattle.rules.specs.Step.{Outcome, refused, took, take_call, room_after}
 use Rattle.rules.specs.Whole.{view_core, StepOf, done_by, refused_answer, stepped_of}
 use Rattle.rules.specs.declared.Second.{Second}
 use Rattle.rules.proofs.Apart.{running_core}
 use Rattle.rules.proofs.StepSound.{Kept, call_sound}
-use Rattle.steps.specs.Taken.{ended_by}
+use Rattle.steps.specs.Taken.{answer_by, ended_by}
 use Rattle.steps.proofs.AnswerLaws.{was_taken, was_refused}
 use Rattle.steps.proofs.EngineLaws.{answer_is}
-use Rattle.second.specs.Rows.{TypedSecond}
-use Rattle.second.proofs.RowLaws.{rows_long}
+use Rattle.second.proofs.RowLaws.{typed_second}
 use Rattle.second.proofs.TopLaws.{sound_here, sees_second, taken_here, second_state, step_short, step_unsound, step_sound, by_state, by_room}
 use Rattle.second.proofs.step.Goals as goal
 
@@ -37,34 +35,14 @@ returns-then-not-rows_sound c =
 pub take_call-requires : goal.take_call-requires
 take_call-requires c =
     let x = c.args.x in
-    let l1 : length x.core.tasks ≡ 31 = search (rules, mapped_long) in
-    let l2 : length x.core.ready ≡ 31 = search (rules, mapped_long) in
-    let l3 : length x.rows ≡ 31 = search (rules, mapped_long) in
-    let l4 : length x.core.held ≡ 31 = search (rules, mapped_long) in
-    let l5 : length x.core.delays ≡ 31 = search (rules, mapped_long) in
-    let k : x.core.clock < 4294967296 = search rules in
-    let typed : TypedSecond x = record {
-      core = record { clock = k; tasks = l1; ready = l2; held = l4; delays = l5 };
-      rows = l3;
-      lines = λ j h. rows_long x.rows _ c.well_formed.0.1.1.1.0.1.1 j (omega (arith, l3));
-    } in
+    let typed = typed_second x _ (search rules) (search (rules, mapped_long)) (search (rules, mapped_long)) (search (rules, mapped_long)) (search (rules, mapped_long)) (search (rules, mapped_long)) c.well_formed.0.1.1.1.0.1.1 in
     let few : ltb (length c.args.room.now) 124 ≡ false = sym c.is_short.ensures ∙ c.if-is_short.false in
     (sees_second x typed (sym c.rows_sound.ensures ∙ c.if-not-rows_sound.false) c.args.c c.row_looked_at-mine.result c.row_looked_at-mine.ensures, ltb-false _ 124 few)
 
 pub returns-in-Err : goal.returns-in-Err
 returns-in-Err c =
     let x = c.args.x in
-    let l1 : length x.core.tasks ≡ 31 = search (rules, mapped_long) in
-    let l2 : length x.core.ready ≡ 31 = search (rules, mapped_long) in
-    let l3 : length x.rows ≡ 31 = search (rules, mapped_long) in
-    let l4 : length x.core.held ≡ 31 = search (rules, mapped_long) in
-    let l5 : length x.core.delays ≡ 31 = search (rules, mapped_long) in
-    let k : x.core.clock < 4294967296 = search rules in
-    let typed : TypedSecond x = record {
-      core = record { clock = k; tasks = l1; ready = l2; held = l4; delays = l5 };
-      rows = l3;
-      lines = λ j h. rows_long x.rows _ c.well_formed.0.1.1.1.0.1.1 j (omega (arith, l3));
-    } in
+    let typed = typed_second x _ (search rules) (search (rules, mapped_long)) (search (rules, mapped_long)) (search (rules, mapped_long)) (search (rules, mapped_long)) (search (rules, mapped_long)) c.well_formed.0.1.1.1.0.1.1 in
     let r = c.args.room.now in
     let d = c.args.c in
     let v = view_second x in
@@ -77,7 +55,7 @@ returns-in-Err c =
     let done : step_second x d (length r) ≡ done_by pack_second x v (refused why) =
     step_sound x d (length r) (sym c.is_short.ensures ∙ c.if-is_short.false) ok ∙ ap (done_by pack_second x v) none in
     let next = c.running-next.ensures ∙ sym (running_core (view_core x.core) (gathered x.rows)) in
-    let answer = c.refused_answer-answer-in-Err.ensures ∙ λ i. refused_answer (c.from-in-Err.ensures i) (next i) in
+    let answer = c.answer_by-answer.ensures ∙ (λ i. answer_by (c.refused_by.ensures i) (next i)) ∙ λ i. refused_answer (c.from-in-Err.ensures i) (running v) in
     record {
       value = (λ i. record { state = x; answer = answer i }) ∙ sym (ap stepped_of done);
       room = t.1 ∙ ap (λ (o : Outcome). room_after r (ended_by o)) none ∙ sym (ap (λ (w : StepOf Second). room_after r w.ended) done);
@@ -86,17 +64,7 @@ returns-in-Err c =
 pub returns : goal.returns
 returns c =
     let x = c.args.x in
-    let l1 : length x.core.tasks ≡ 31 = search (rules, mapped_long) in
-    let l2 : length x.core.ready ≡ 31 = search (rules, mapped_long) in
-    let l3 : length x.rows ≡ 31 = search (rules, mapped_long) in
-    let l4 : length x.core.held ≡ 31 = search (rules, mapped_long) in
-    let l5 : length x.core.delays ≡ 31 = search (rules, mapped_long) in
-    let k : x.core.clock < 4294967296 = search rules in
-    let typed : TypedSecond x = record {
-      core = record { clock = k; tasks = l1; ready = l2; held = l4; delays = l5 };
-      rows = l3;
-      lines = λ j h. rows_long x.rows _ c.well_formed.0.1.1.1.0.1.1 j (omega (arith, l3));
-    } in
+    let typed = typed_second x _ (search rules) (search (rules, mapped_long)) (search (rules, mapped_long)) (search (rules, mapped_long)) (search (rules, mapped_long)) (search (rules, mapped_long)) c.well_formed.0.1.1.1.0.1.1 in
     let r = c.args.room.now in
     let d = c.args.c in
     let v = view_second x in
@@ -112,7 +80,7 @@ returns c =
     let state = second_state x typed ok d was.state was.answer was.list k r _ c.left_marks-left.result c.gone_marks-gone.result c.joined_queue-joined.result c.next_rows-rows_now.result
     was.outcome was.gave room c.gone_marks-gone.ensures c.left_marks-left.ensures c.joined_queue-joined.ensures c.next_rows-rows_now.ensures in
     let kept = subst Kept was.outcome (call_sound v d (sound_here x typed ok)) in
-    let answer = c.answer_by-answer.ensures ∙ answer_is pack_second x v was.state was.answer was.list k c.running-next-2.result kept was.gave c.running-next-2.ensures in
+    let answer = c.answer_by-answer-2.ensures ∙ answer_is pack_second x v was.state was.answer was.list k c.running-next-2.result kept was.gave c.running-next-2.ensures in
     record {
       value = (λ i. record { state = state i; answer = answer i }) ∙ sym (ap stepped_of done);
       room = room ∙ sym (ap (λ (w : StepOf Second). room_after r w.ended) done);

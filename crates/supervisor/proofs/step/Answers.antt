@@ -4,6 +4,7 @@ use mathlib.Core.Path.{◌≡◌, sym, ◌∙◌, ap, subst}
 use lib.ListN.{length}
 use mathlib.Core.Bool.{true}
 use borrow.Author.Tests.{ltb-false}
+use Rattle.rules.specs.State.{running}
 use Rattle.rules.specs.Step.{Outcome, refused, took, take_call, room_after}
 use Rattle.rules.specs.declared.Refusal.TheVariants.{ShortRoom, BadState}
 use Rattle.rules.specs.Whole.{Typed, Whole, view, view_core, pack, sound_whole, decline, done, refused_answer, step_whole, stepped_of}
@@ -12,7 +13,7 @@ use Rattle.lists.specs.Line.{line}
 use Rattle.rules.proofs.Apart.{running_core}
 use Rattle.rules.proofs.StepSound.{Kept, call_sound}
 use Rattle.rules.proofs.WholeLaws.{sound_view}
-use Rattle.steps.specs.Taken.{ended_by}
+use Rattle.steps.specs.Taken.{answer_by, ended_by}
 use Rattle.steps.proofs.AnswerLaws.{was_taken, was_refused}
 use Rattle.steps.proofs.EngineLaws.{answer_is}
 use Rattle.supervisor.proofs.TopLaws.{sees_of, state_is, step_short, step_sound, step_unsound}
@@ -61,7 +62,7 @@ returns-in-Err c =
     let whole : step_whole s a.c (length a.room.now) ≡ done s (refused why) =
     step_sound s a.c (length a.room.now) (sym c.is_short.ensures ∙ c.if-is_short.false) (sym c.parts_sound.ensures ∙ c.if-not-parts_sound.false) ∙ ap (done s) none in
     let next = c.running-next.ensures ∙ sym (running_core (view_core s.core) (line s.callers)) in
-    let answer = c.refused_answer-answer-in-Err.ensures ∙ λ i. refused_answer (c.from-in-Err.ensures i) (next i) in
+    let answer = c.answer_by-answer.ensures ∙ (λ i. answer_by (c.refused_by.ensures i) (next i)) ∙ λ i. refused_answer (c.from-in-Err.ensures i) (running v) in
     record {
       value = (λ i. record { state = s; answer = answer i }) ∙ sym (ap stepped_of whole);
       room = c.in-Err.ensures.room ∙ ap (λ (o : Outcome). room_after a.room.now (ended_by o)) none ∙ sym (ap (λ (w : Whole). room_after a.room.now w.ended) whole);
@@ -90,7 +91,7 @@ returns c =
     state_is s a.c was.state was.answer was.list k a.room.now _ c.gone_marks-gone.result c.next_line-callers_now.result c.comes-joins.result typed sound
     was.outcome was.gave room c.gone_marks-gone.ensures c.comes-joins.ensures c.next_line-callers_now.ensures in
     let kept = subst Kept was.outcome (call_sound v a.c (sound_view s typed sound)) in
-    let answer = c.answer_by-answer.ensures ∙ answer_is pack s v was.state was.answer was.list k c.running-next-2.result kept was.gave c.running-next-2.ensures in
+    let answer = c.answer_by-answer-2.ensures ∙ answer_is pack s v was.state was.answer was.list k c.running-next-2.result kept was.gave c.running-next-2.ensures in
     record {
       value = (λ i. record { state = state i; answer = answer i }) ∙ sym (ap stepped_of whole);
       room = room ∙ sym (ap (λ (w : Whole). room_after a.room.now w.ended) whole);
