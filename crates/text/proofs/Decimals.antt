@@ -45,11 +45,10 @@ digit_on n r i d row h g e f =
     rw (f, s, ← decimal_large r g) (append_assoc (decimal (r / 10)) ((48 + r % 10) ∷ []) (drop (i + 1) row))
 
 -- the first digit
-pub digit_first : (n r i d : ℕ) (row : List ℕ) → i < length row → r < 10 → d ≡ 48 + r % 10 → decimal n ≡ decimal r ++ drop (i + 1) row
+pub digit_first : (n r i d : ℕ) (row : List ℕ) → i < length row → r < 10 → d ≡ 48 + r → decimal n ≡ decimal r ++ drop (i + 1) row
     → drop i (set row i d) ≡ decimal n
 digit_first n r i d row h g e f =
-    let k : d ≡ 48 + r = omega arith in
-    let s : drop i (set row i d) ≡ (48 + r) ∷ drop (i + 1) row = rw (← k) (drop-set row i d h) in
+    let s : drop i (set row i d) ≡ (48 + r) ∷ drop (i + 1) row = rw (← e) (drop-set row i d h) in
     rw (f, s, ← decimal_small r g) refl
 
 -- a number without its last digit has one digit less

@@ -43,11 +43,12 @@ fn digits(n: u64, row: &mut [u8; 20]) -> usize
 {
     let mut rest = n;
     for i in (0..row.len()).rev() {
-        row[i] = b'0' + (rest % 10) as u8;
-        rest /= 10;
-        if rest == 0 {
+        if rest < 10 {
+            row[i] = b'0' + rest as u8; // the first digit: most numbers have no other, and are not divided
             return i;
         }
+        row[i] = b'0' + (rest % 10) as u8;
+        rest /= 10;
     }
     unreachable!() // 20 digits hold every number of 64 bits
 }
