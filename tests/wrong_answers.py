@@ -5,7 +5,8 @@ contract a line `law: FILE NAME` names the theorem that refuses it; above a text
 function that does (as `returns` or `loop-i-preserved`), and must where the edit has two wrong answers of one function.
   texts   each replaced text stands once in its file, in a function or in a definition, and has its comment; no two wrong answers
           of an edit are refused by the same law or at the same goal, but where each of them but one has an edit in which it is alone there; and every public function whose contract determines its answer
-          has two wrong answers of its own, or one and two in its parts if PARTS has it (a function that only passes one on to C has those of that one)
+          has two wrong answers of its own, or one and two in its parts if PARTS has it (a function that only passes one on to C has those of that one, and a method that a
+          trait only declares those of its impls)
   table   the table of DOC between its two marks lists them all (--write puts it there)
   logs    in what the prover said of the edits (of the named crates; tests/edit_logs.py has it say so), each changed function was refused by itself, at a fact
           and at the goal that is named, and each changed definition or contract by its law, at a fact; where a function's proof rests on a law that
@@ -138,7 +139,7 @@ def texts():
     for crate in crates():
         if crate in EXPORTING or not (Path("crates") / crate / "src/lib.rt").exists():
             continue
-        for function in ("::".join(f) for f in public_functions(crate)):
+        for function in ("::".join(f) for f in public_functions(crate, bodies=True)):
             own = {(text_of(w), w.says) for w in found if (w.crate, w.where) == (crate, function)}
             name = f"{crate}::{function}"
             least = 1 if name in PARTS else 2
