@@ -1,7 +1,7 @@
 """wrong_answers.py texts | table [--write] DOC | logs [CRATE..]: the wrong answers of crates/*/must-fail/*.edit.
 
-An edit replaces one or more texts of its crate, each by a wrong one. The comment above a text names the wrong answer. Above a definition or a
-contract a line `law: FILE NAME` names the theorem that refuses it; above a text of a function's body a line `at: GOAL` may name the goal of the
+An edit replaces one or more texts of its crate, each by a wrong one. The comment above a text names the wrong answer. Above a definition, a
+contract or what an impl says of ghost members a line `law: FILE NAME` names the theorem that refuses it; above a text of a function's body a line `at: GOAL` may name the goal of the
 function that does (as `returns` or `loop-i-preserved`), and must where the edit has two wrong answers of one function.
   texts   each replaced text stands once in its file, in a function or in a definition, and has its comment; no two wrong answers
           of an edit are refused by the same law or at the same goal, but where each of them but one has an edit in which it is alone there; and every public function whose contract determines its answer
@@ -42,15 +42,18 @@ def crates():
 
 
 def function_of(file, text, at):
-    """The path of the function in which the text stands at that place, in its body or in its contract, or None."""
+    """The path of the function in which the text stands at that place, in its body or in its contract, or of the impl above whose functions it stands, or None."""
     lines = text[: text.index("\n", at)].splitlines()
+    modules = file.removesuffix(".rt").split("/")[1:]
+    path = "::".join(modules if modules not in (["lib"], ["main"]) else [])
     heads = [number for number, line in enumerate(lines) if FUNCTION.match(line)]
+    above = impl_of(lines[heads[-1] :] if heads else lines)
+    if above:
+        return "::".join(filter(None, [path, *above])) + CONTRACT
     names = [*impl_of(lines[: heads[-1]]), FUNCTION.match(lines[heads[-1]]).group(1)] if heads else []
     since = lines[heads[-1] :] if heads else []
     in_contract = any(map(CLAUSE.match, since)) and not any(line.strip() == "{" for line in since)
-    modules = file.removesuffix(".rt").split("/")[1:]
-    path = "::".join((modules if modules not in (["lib"], ["main"]) else []) + names)
-    return path + (CONTRACT if in_contract else "") if names else None
+    return "::".join(filter(None, [path, *names])) + (CONTRACT if in_contract else "") if names else None
 
 
 def proofs_of(crate, where):
