@@ -1,11 +1,12 @@
 """wrong_answers.py texts | table [--write] DOC | logs [CRATE..]: the wrong answers of crates/*/must-fail/*.edit.
 
-An edit replaces one or more texts of its crate, each by a wrong one. The comment above a text names the wrong answer. Above a definition or a
-contract a line `law: FILE NAME` names the theorem that refuses it; above a text of a function's body a line `at: GOAL` may name the goal of the
+An edit replaces one or more texts of its crate, each by a wrong one. The comment above a text names the wrong answer. Above a definition, a
+contract or what an impl says of ghost members a line `law: FILE NAME` names the theorem that refuses it; above a text of a function's body a line `at: GOAL` may name the goal of the
 function that does (as `returns` or `loop-i-preserved`), and must where the edit has two wrong answers of one function.
   texts   each replaced text stands once in its file, in a function (a constant counts to the one that has it last) or in a definition, and has its comment; no two wrong answers
           of an edit are refused by the same law or at the same goal, but where each of them but one has an edit in which it is alone there; and every public function whose contract determines its answer
-          has two wrong answers of its own, or one and two in its parts if PARTS has it (a function that only passes one on to C has those of that one)
+          has two wrong answers of its own, or one and two in its parts if PARTS has it (a function that only passes one on to C has those of that one, and a method that a
+          trait only declares those of its impls)
   table   the table of DOC between its two marks lists them all (--write puts it there)
   logs    in what the prover said of the edits (of the named crates; tests/edit_logs.py has it say so), each changed function was refused by itself, at a fact
           and at the goal that is named, and each changed definition or contract by its law, at a fact; where a function's proof rests on a law that
@@ -42,19 +43,23 @@ def crates():
 
 
 def function_of(file, text, at):
-    """The path of the function in which the text stands at that place, in its body or in its contract, or None: of a constant, the function that has it last."""
+    """The path of the function in which the text stands at that place, in its body or in its contract, or None: of a constant, the function that has it last; outside a
+    function, the impl above whose functions it stands; or None."""
     end = text.index("\n", at)
     lines = text[:end].splitlines()
     constant = CONSTANT.match(lines[-1])
     if constant and text.find(constant.group(1), end) > 0:
         return function_of(file, text, text.rindex(constant.group(1)))
+    modules = file.removesuffix(".rt").split("/")[1:]
+    path = "::".join(modules if modules not in (["lib"], ["main"]) else [])
     heads = [number for number, line in enumerate(lines) if FUNCTION.match(line)]
+    above = impl_of(lines[heads[-1] :] if heads else lines)
+    if above:
+        return "::".join(filter(None, [path, *above])) + CONTRACT
     names = [*impl_of(lines[: heads[-1]]), FUNCTION.match(lines[heads[-1]]).group(1)] if heads else []
     since = lines[heads[-1] :] if heads else []
     in_contract = any(map(CLAUSE.match, since)) and not any(line.strip() == "{" for line in since)
-    modules = file.removesuffix(".rt").split("/")[1:]
-    path = "::".join((modules if modules not in (["lib"], ["main"]) else []) + names)
-    return path + (CONTRACT if in_contract else "") if names else None
+    return "::".join(filter(None, [path, *names])) + (CONTRACT if in_contract else "") if names else None
 
 
 def proofs_of(crate, where):
@@ -143,7 +148,7 @@ def texts():
     for crate in crates():
         if crate in EXPORTING or not (Path("crates") / crate / "src/lib.rt").exists():
             continue
-        for function in ("::".join(f) for f in public_functions(crate)):
+        for function in ("::".join(f) for f in public_functions(crate, bodies=True)):
             own = {(text_of(w), w.says) for w in found if (w.crate, w.where) == (crate, function)}
             name = f"{crate}::{function}"
             least = 1 if name in PARTS else 2
