@@ -7,4 +7,4 @@ pub map-requires : goal.map-requires
 map-requires c =
     let s = c.state_in-s.result in
     let clock : s.core.clock < 4294967296 = search rules in
-    λ n e h r. record { fits = whole_small s (Ok n) c.args.task c.args.entry clock (sym e ∙ c.count.ensures) }
+    λ n e h r. record { fits = whole_small s (Ok n) _ _ clock (sym e ∙ c.count.ensures) }

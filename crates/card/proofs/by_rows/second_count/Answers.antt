@@ -7,4 +7,4 @@ pub map-requires : goal.map-requires
 map-requires c =
     let x = c.second_in-x.result in
     let clock : x.core.clock < 4294967296 = search rules in
-    λ n e h r. record { fits = second_small x (Ok n) c.args.task c.args.entry clock (sym e ∙ c.count.ensures) }
+    λ n e h r. record { fits = second_small x (Ok n) _ _ clock (sym e ∙ c.count.ensures) }
