@@ -1,2 +1,3 @@
 pub mod LogLaws
 pub mod Room
+pub mod Rules
