@@ -1,7 +1,6 @@
 -- Turns of the loops: down from a number, and over a line.
 -- Assumes nothing.
-use Rattle.std.proofs.Common.{◌≡◌, ℕ, zero, suc, ◌+◌, ◌<◌, ◌≤◌, Bool, false, ◌&&◌, List, ◌∷◌, length, get_or, drop, sym, refl, ap, ◌∙◌, add-one, drop_of_length-le, drop-cons, le-leb}
-use borrow.Author.Tests.{lt-leb}
+use Rattle.std.proofs.Common.{◌≡◌, ℕ, zero, suc, ◌+◌, ◌<◌, ◌≤◌, Bool, ◌&&◌, List, ◌∷◌, length, get_or, drop, sym, refl, ap, ◌∙◌, add-one, drop_of_length-le, drop-cons, le-leb}
 use Rattle.lists.specs.Line.{blanks}
 use Rattle.lists.specs.Lists.{down_from}
 use Rattle.soundness.specs.Marks.{Marks, has_mark, next_mark, without_mark, is_none}
@@ -28,10 +27,6 @@ module _ (m : Marks) (l : List ℕ) (i : ℕ) where
   pub walk_end : length l ≤ i → walked m (drop i l) ≡ is_none m
   walk_end h = rw (drop_of_length-le l h)
 
--- keys in order: the next is at least the last, and it is not
-module _ (k : ℕ → ℕ) (a : ℕ) (xs : List ℕ) (c : ℕ) (ys : List ℕ) (n : ℕ) where
-  pub order_on : xs ≡ c ∷ ys → n ≡ k c → a ≤ n → ascending k a xs ≡ ascending k n ys
-  order_on q e h = ap (ascending k a) q ∙ rw (← e, le-leb a n h)
-
-  pub order_fail : xs ≡ c ∷ ys → n ≡ k c → n < a → ascending k a xs ≡ false
-  order_fail q e h = ap (ascending k a) q ∙ rw (← e, lt-leb a n h)
+-- keys in order: the next is at least the last
+pub order_on : (k : ℕ → ℕ) (a : ℕ) (xs : List ℕ) (c : ℕ) (ys : List ℕ) (n : ℕ) → xs ≡ c ∷ ys → n ≡ k c → a ≤ n → ascending k a xs ≡ ascending k n ys
+order_on k a xs c ys n q e h = ap (ascending k a) q ∙ rw (← e, le-leb a n h)
