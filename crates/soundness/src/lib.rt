@@ -11,8 +11,8 @@ ghost use Rattle.rules.specs.Whole.{unused, sound_whole};
 ghost use Rattle.soundness.specs.Check.{holds_in, told_of, checked_of};
 
 use rules::{Core, Row, Second, Supervisor};
-use table::place::{has_time, is_held, is_queued, is_ready, partner_of};
-use table::tasks::{index_of, shown};
+use table::place::{has_time, is_between, is_held, is_queued, is_ready, partner_of};
+use table::tasks::{blank_task, index_of};
 
 mod marks;
 mod rows;
@@ -53,8 +53,10 @@ fn told_of(s: Core) -> Option<Told>
     let mut changed: u32 = 0;
     for &x in s.tasks[..usize::from(s.created)].iter().rev() {
         let u = partner_of(x.place);
-        let at = index_of(u);
-        let called = shown(s.created, u, s.tasks[at]);
+        let mut called = blank_task();
+        if is_between(u, s.created) {
+            called = s.tasks[index_of(u)];
+        }
         if !task::is_good(s.clock, x, called) {
             return None;
         }

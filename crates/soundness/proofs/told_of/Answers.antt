@@ -1,8 +1,12 @@
-use Rattle.std.proofs.Common.{◌≡◌, ℕ, suc, ◌-◌, ◌≤◌, Bool, true, false, ◌&&◌, List, [], ◌∷◌, ◌++◌, Some, length, take, get_or, sym, refl, ap, ◌∙◌, arith, length-append, length-take-le, rules}
+use Rattle.std.proofs.Common.{◌≡◌, ℕ, suc, ◌-◌, ◌≤◌, leb, ltb, Bool, true, false, ◌&&◌, List, [], ◌∷◌, ◌++◌, Some, length, take, get_or, sym, refl, ap, ◌∙◌, arith, length-append, length-take-le, rules}
 use Rattle.std.specs.Iterator.Adapters.{rev_source}
 use Rattle.std.specs.Slice.Iter.{iter_rest}
 use Rattle.lists.proofs.Backwards.{last_left}
-use Rattle.lists.proofs.ListLaws.{mapped_long}
+use mathlib.Core.Bool.{and-true, and-false}
+use borrow.Author.Tests.{le-leb, leb-true}
+use Rattle.lists.proofs.ListLaws.{by_bool, mapped_long}
+use Rattle.table.specs.Numbers.{is_number, index_of}
+use Rattle.soundness.proofs.told_of.Goals.{then-is_between, else-is_between}
 use Rattle.rules.specs.State.{blank, task_of}
 use Rattle.rules.specs.Whole.{view_core}
 use Rattle.rules.specs.declared.Core.{Core}
@@ -44,6 +48,19 @@ next_left s left rest x few most long front e =
     let k : length rest ≡ suc (length rest) - 1 = omega arith in
     (n, r.0, r.1 ∙ ap (λ (i : ℕ). get_or s.tasks i blank) k ∙ task_in s.tasks s.created (suc (length rest)) (λ q. omega arith) (omega arith))
 
+-- of at most 31 tasks, the number of one that was created is the number of a task
+named : (u n : ℕ) → n ≤ 31 → (is_number u && leb u n) ≡ (ltb 0 u && leb u n)
+named u n h = by_bool (leb u n)
+    (λ p. rw (p, le-leb u 31 (omega (arith, leb-true u n p))) (and-true (ltb 0 u && true)))
+    (λ p. rw p (and-false (is_number u) ∙ sym (and-false (ltb 0 u))))
+
+-- what stands beside a task is the task that it has called: looked up where its number is that of a created task, and blank elsewhere
+looked_up : (s : Core) (u at : ℕ) → s.created ≤ 31 → length s.tasks ≡ 31 → at ≡ index_of u → (ltb 0 u && leb u s.created) ≡ true → get_or s.tasks at blank ≡ task_of (view_core s) u
+looked_up s u at few l e b = shown_at s u at (get_or s.tasks at blank) l e (rw (named u s.created few, b) refl)
+
+nobody : (s : Core) (u : ℕ) → s.created ≤ 31 → length s.tasks ≡ 31 → (ltb 0 u && leb u s.created) ≡ false → blank ≡ task_of (view_core s) u
+nobody s u few l b = shown_at s u (index_of u) blank l refl (rw (named u s.created few, b) refl)
+
 pub returns-then-not-is_good : goal.returns-then-not-is_good
 returns-then-not-is_good c =
     let s = c.args.s in
@@ -52,8 +69,13 @@ returns-then-not-is_good c =
     let x = c.in-Some.field-0.now in
     let t = length (iter_rest (rev_source c.next.new.self)) in
     let next = next_left s (iter_rest (rev_source c.loop-x.x-iterator)) (iter_rest (rev_source c.next.new.self)) x v.0 few v.1 v.2 c.in-Some.ensures.steps in
-    let called = shown_at s c.partner_of-u.result _ _ v.1 c.index_of-at.ensures.0 c.shown-called.ensures in
-    let bad : false ≡ good_in (view_core s) (suc t) = sym c.if-not-is_good.true ∙ good_is s (suc t) c.partner_of-u.result x c.shown-called.result c.is_good.result next.2 c.partner_of-u.ensures called c.is_good.ensures in
+    let u = c.partner_of-u.result in
+    let called : c.if-is_between.called ≡ task_of (view_core s) u =
+    elim c.if-is_between.branch [
+      | then-is_between w ↦ w.called-is ∙ looked_up s u _ few v.1 w.index_of.ensures.0 (sym c.is_between.ensures ∙ w.if-is_between.true)
+      | else-is_between w ↦ w.called-is ∙ c.blank_task-called.ensures ∙ nobody s u few v.1 (sym c.is_between.ensures ∙ w.if-is_between.false)
+    ] in
+    let bad : false ≡ good_in (view_core s) (suc t) = sym c.if-not-is_good.true ∙ good_is s (suc t) c.partner_of-u.result x c.if-is_between.called c.is_good.result next.2 c.partner_of-u.ensures called c.is_good.ensures in
     let none : goods s s.created ≡ false = v.3 ∙ ap (goods s) next.0 ∙ (λ i. sym bad i && goods s t) in
     rw none
 
@@ -66,8 +88,13 @@ loop-x-preserved c =
     let x = c.in-Some.field-0.now in
     let t = length (iter_rest (rev_source c.next.new.self)) in
     let next = next_left s (iter_rest (rev_source l.x-iterator)) (iter_rest (rev_source c.next.new.self)) x v.0 few v.1 v.2 c.in-Some.ensures.steps in
-    let called = shown_at s c.partner_of-u.result _ _ v.1 c.index_of-at.ensures.0 c.shown-called.ensures in
-    let good : true ≡ good_in (view_core s) (suc t) = sym c.if-not-is_good.false ∙ good_is s (suc t) c.partner_of-u.result x c.shown-called.result c.is_good.result next.2 c.partner_of-u.ensures called c.is_good.ensures in
+    let u = c.partner_of-u.result in
+    let called : c.if-is_between.called ≡ task_of (view_core s) u =
+    elim c.if-is_between.branch [
+      | then-is_between w ↦ w.called-is ∙ looked_up s u _ few v.1 w.index_of.ensures.0 (sym c.is_between.ensures ∙ w.if-is_between.true)
+      | else-is_between w ↦ w.called-is ∙ c.blank_task-called.ensures ∙ nobody s u few v.1 (sym c.is_between.ensures ∙ w.if-is_between.false)
+    ] in
+    let good : true ≡ good_in (view_core s) (suc t) = sym c.if-not-is_good.false ∙ good_is s (suc t) c.partner_of-u.result x c.if-is_between.called c.is_good.result next.2 c.partner_of-u.ensures called c.is_good.ensures in
     -- one word's turn: task t + 1 below, if it passes the test
     let turn : (f : Task → Bool) (m n : ℕ) (b : Bool) → b ≡ f x → n ≡ next_mark m b → due s f m (length (iter_rest (rev_source l.x-iterator))) ≡ due s f n t =
     λ f m n b eb en. ap (due s f m) next.0 ∙ mark_on (λ u. f (task_of (view_core s) u)) m n t b (eb ∙ ap f next.2) en in (
