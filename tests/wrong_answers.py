@@ -48,8 +48,9 @@ def function_of(file, text, at):
     end = text.index("\n", at)
     lines = text[:end].splitlines()
     constant = CONSTANT.match(lines[-1])
-    if constant and text.find(constant.group(1), end) > 0:
-        return function_of(file, text, text.rindex(constant.group(1)))
+    named = [found.start() for found in re.finditer(rf"\b{constant.group(1)}\b", text) if found.start() > end] if constant else []
+    if named:
+        return function_of(file, text, named[-1])
     modules = file.removesuffix(".rt").split("/")[1:]
     path = "::".join(modules if modules not in (["lib"], ["main"]) else [])
     heads = [number for number, line in enumerate(lines) if FUNCTION.match(line)]

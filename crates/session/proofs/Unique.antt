@@ -41,7 +41,7 @@ pub second_turn_once : (l : _) (c : _) (d : _) (k : _) (d' : _) (κs : _) (x : _
     → (r ≡ r') × ((y.1.1.1.0.now ≡ y'.1.1.1.0.now) × (y.1.1.1.1.0.now ≡ y'.1.1.1.1.0.now))
 second_turn_once l c d k d' κs x r r' y y' p q = engine_turn_once (row second_struct.the_type) l c (record { ruled = second }) d k d' κs x r r' y y' p q
 
--- ---- an engine: with a supervisor by any rules, as above
+-- ---- an engine, whatever its rules are: E and n as above
 
 pub engine_empty_once : (E : _) (l : _) (c : _) (n : _) (d : _) (k : _) (d' : _) (κs : _) (x : _) (r r' : _) (y y' : _)
     → engine_empty.Learnt E l c n d k d' κs x r y → engine_empty.Learnt E l c n d k d' κs x r' y' → r ≡ r'
