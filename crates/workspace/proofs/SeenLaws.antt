@@ -1,9 +1,6 @@
 -- A lent table that is read and written place by place.
 -- Assumes nothing.
-use Rattle.std.proofs.Common.{◌≡◌, ℕ, zero, suc, ◌-◌, min, ◌≤◌, Bool, true, false, List, [], ◌∷◌, ◌++◌, length, take, drop, length-take-le, length-drop, drop_of_length-le, take_all, append-nil, replicate, refl, sym, ap, ◌∙◌, le_of_suc-le-suc, not-suc-le-zero, arith}
-use borrow.Rule.Slice.PartMut.{put_mid, post_of}
-use Rattle.std.proofs.lemmas.List.{length-replicate, drop-replicate}
-use Rattle.std.proofs.Math.Seq.{drop-append_seam}
+use Rattle.std.proofs.Common.{◌≡◌, ℕ, zero, suc, ◌-◌, min, ◌≤◌, Bool, true, false, List, [], ◌∷◌, ◌++◌, length, take, drop, length-take-le, replicate, ap, ◌∙◌, le_of_suc-le-suc, not-suc-le-zero, arith}
 use Rattle.std.specs.List.{list_all}
 use Rattle.workspace.specs.declared.Stretch.{Stretch}
 use Rattle.workspace.specs.declared.Table.{Table}
@@ -20,22 +17,10 @@ use Rattle.workspace.proofs.Padded.{pad, pad_nil, none_over}
 abbrev pub under : Bool → List Stretch → List Stretch
 under clear l = when clear then replicate (length l) none else l
 
-length_under : (clear : Bool) (l : List Stretch) → length (under clear l) ≡ length l
-length_under true l = length-replicate (length l) none
-length_under false l = refl
-
--- behind the n-th place a table has the unused places that were put there
-pub cleared_behind : (l m f : List Stretch) (n : ℕ) → n ≤ length l → m ≡ put_mid n (length l - n) l f → f ≡ replicate (length (take (length l - n) (drop n l))) none → drop n m ≡ drop n (under true l)
-cleared_behind l m f n h e g =
-    let k : length (take n l) ≡ n = length-take-le n l h in
-    let all : post_of n (length l - n) l ≡ [] = drop_of_length-le (drop n l) {i = length l - n} (omega (arith, length-drop n l)) in
-    let here : m ≡ take n l ++ f = e ∙ ap (λ (x : List Stretch). take n l ++ (f ++ x)) all ∙ ap (λ (x : List Stretch). take n l ++ x) (append-nil f) in
-    ap (drop n) here ∙ ap (λ (i : ℕ). drop i (take n l ++ f)) (sym k) ∙ drop-append_seam (take n l) f ∙ g ∙ ap (λ (x : List Stretch). replicate (length x) none) (take_all (length l - n) (drop n l) (omega (arith, length-drop n l))) ∙ ap (λ (i : ℕ). replicate i none) (length-drop n l) ∙ sym (drop-replicate n (length l) none)
-
--- a table is written: the 32 places as far as it has them, and behind them what lies below
-pub laid_cut : (t : Table) (l m : List Stretch) (n : ℕ) {front : List Stretch} → length t.places ≡ 32 → drop n m ≡ drop n (under t.clear l) → n ≡ min (length l) 32 → front ≡ take n t.places → front ++ drop n m ≡ laid t l
+-- a table is written: first what lies below, then the 32 places as far as it has them
+pub laid_cut : (t : Table) (l m : List Stretch) (n : ℕ) {front : List Stretch} → length t.places ≡ 32 → m ≡ under t.clear l → n ≡ min (length m) 32 → front ≡ take n t.places → front ++ drop n m ≡ laid t l
 unfolding laid
-laid_cut t l m n long below e f = (λ i. f i ++ below i) ∙ over_cut n (under t.clear l) t.places (omega (arith, e, long, length_under t.clear l))
+laid_cut t l m n long below e f = (λ i. f i ++ drop n m) ∙ over_cut n m t.places (omega (arith, e, long)) ∙ ap (λ (k : List Stretch). over k t.places) below
 
 -- what is seen of a table, written to it again, is the table
 pub laid_own : (l : List Stretch) → laid (record { places = (table_of l).places; clear = false }) l ≡ l

@@ -22,10 +22,10 @@ pub fn loaded(table: &[Stretch]) -> Table
 pub fn stored(table: &mut [Stretch], t: Table)
     ensures { table.new ≡ laid t table.old }
 {
-    let n = table.len().min(32);
     if t.clear {
-        table[n..].fill(UNUSED); // the places in front are written below
+        table.fill(UNUSED);
     }
+    let n = table.len().min(32);
     table[..n].copy_from_slice(&t.places[..n]);
 }
 
